@@ -1,5 +1,5 @@
 -- Which runs the headline excludes, and two that it doesn't.
-use Rattle.std.proofs.Common.{refl, sym, ap, subst, ◌∙◌, arith, ◌≡◌, ◌<◌, ◌≤◌, ℕ, zero, suc, true, false, true≢false, List, [], ◌∷◌, map, Some}
+use Rattle.std.proofs.Common.{refl, sym, ap, subst, ◌∙◌, arith, ◌≡◌, ◌<◌, ◌≤◌, ℕ, zero, suc, true≢false, List, [], ◌∷◌, ◌++◌, drop, length, append-nil, map, Some}
 use Rattle.std.specs.Prelude.{slice_get}
 use Rattle.std.proofs.lemmas.Bool.{ne_eqb}
 use Rattle.tb_layout.specs.Events.{Input, Packet, Pulse}
@@ -10,13 +10,17 @@ use Rattle.tb_work.specs.declared.item.Item.TheVariants as item
 use Rattle.tb_work.specs.declared.outcome.Outcome.{Outcome}
 use Rattle.tb_work.specs.declared.outcome.Outcome.TheVariants.{Committed, Shutdown, Stopped}
 use Rattle.tb_work.specs.declared.packet.Packet as packet
-use Rattle.tb_core.specs.BadRuns.{IsReplyTo, Excludes, CommitsAStranger, ShutsDownACommitted, StopsACommitted, StopsBehindTheClose, DropsPulses, ChangesPlaces, ForgetsTheState, CommitsNothing, CommitsNothingRunning, CommitsNothingStopped, InventsAPacket, InventsAPulse, Overtakes, GivesAnothersReply, AnswersAnotherwise, LosesAnItem, stopped_at_once, MayStopAtOnce, closed_first, MayPopTheCloseFirst}
+use Rattle.tb_core.specs.BadRuns.{IsReplyTo, Excludes, CommitsAStranger, ShutsDownACommitted, StopsACommitted, StopsBehindTheClose, DropsPulses, ChangesPlaces, ForgetsTheState, LosesTheJournal, CountsPlacesAnew, CommitsNothing, CommitsNothingRunning, CommitsNothingStopped, InventsAPacket, InventsAPulse, Overtakes, GivesAnothersReply, AnswersAnotherwise, LosesAnItem, stopped_at_once, MayStopAtOnce, closed_first, MayPopTheCloseFirst}
 use Rattle.tb_core.specs.EachSubmitter.{moments_in}
-use Rattle.tb_core.specs.EndedRun.{Run, committed_in, ahead_in}
+use Rattle.tb_core.specs.Due.{due}
+use Rattle.tb_core.specs.EndedRun.{Run, committed_in, ahead_in, IsPrefix}
+use Rattle.tb_core.specs.Journal.{inputs}
+use Rattle.tb_machine.specs.Replay.{replay}
 use Rattle.tb_core.specs.Headline.{Headline, IsTrueOf, numbered_of, packets_queued}
 use Rattle.tb_core.proofs.EachSubmitter.{at-prefix, known-ahead, job-ahead, from-least, rises, replied-ahead, pulses_are_the_controls}
 use Rattle.tb_core.proofs.HeadlineLemmas.{all-replied, all-true, jobs-queued}
 use Rattle.tb_core.proofs.Packets.{from-numbered}
+use Rattle.tb_core.proofs.Since.{drop-whole}
 
 -- what a reply says of its packet
 says : (run : Run) → Headline run → (submitter : ℕ) (reply : ReplyValue) → IsReplyTo run submitter reply
@@ -56,6 +60,13 @@ changes_places run is (place, one, other, committed, ahead, apart) =
 
 pub forgets_the_state : Excludes ForgetsTheState
 forgets_the_state run is apart = apart is.state
+
+pub loses_the_journal : Excludes LosesTheJournal
+loses_the_journal run is lost = lost is.continues
+
+pub counts_places_anew : Excludes CountsPlacesAnew
+counts_places_anew run is (submitter, place, reply, answer, its, outcome, early) =
+    let said = says run is submitter reply its (Committed place answer) outcome in omega (arith, said.1, early)
 
 -- a packet ahead of the Close isn't answered Shutdown
 commits_nothing : (run : Run) → Headline run → CommitsNothing run → ⊥
@@ -118,7 +129,7 @@ gives_anothers_reply run is (submitter, reply, (known, (index, replied)), apart)
 
 pub answers_anotherwise : Excludes AnswersAnotherwise
 answers_anotherwise run is (submitter, place, reply, answer, its, outcome, apart) =
-    apart (says run is submitter reply its (Committed place answer) outcome).1
+    apart (says run is submitter reply its (Committed place answer) outcome).3
 
 pub loses_an_item : Excludes LosesAnItem
 loses_an_item run is (sender, one, known, (index, got), absent) =
@@ -129,14 +140,20 @@ loses_an_item run is (sender, one, known, (index, got), absent) =
 pub may_stop_at_once : MayStopAtOnce
 may_stop_at_once run is =
     let stopped = stopped_at_once run in
-    let due = λ (submitter : ℕ) (below : submitter < run.submitters). refl in
+    let same : inputs stopped.ledger ≡ run.before = append-nil run.before in
+    let none : committed_in stopped ≡ [] = ap (drop (length run.before)) same ∙ drop-whole run.before in
+    let committed : IsPrefix (committed_in stopped) (ahead_in run) =
+    (ahead_in run, ap (λ ws. ws ++ ahead_in run) none) in
+    let due = λ (submitter : ℕ) (below : submitter < run.submitters).
+    ap (λ journal. due run.ledger.opening (length run.before) run.queue journal submitter) (sym same) in
     record {
       queued = is.queued;
-      committed = (ahead_in run, refl);
+      continues = ([], append-nil run.before ∙ sym same);
+      committed = committed;
       all = λ nothing. absurd (true≢false nothing.ledger);
       replied = all-replied stopped is.queued due;
-      answered = all-true stopped is.queued (ahead_in run, refl) due;
-      state = refl;
+      answered = all-true stopped is.queued committed due;
+      state = ap (replay run.ledger.opening) (sym same);
     }
 
 closed-parts : (packet : packet.Packet) (sender : ℕ) → sender ≤ 1
@@ -189,6 +206,7 @@ may_pop_the_close_first packet =
         numbered = closed-numbered packet;
         ended = closed-ended packet;
       };
+      continues = ([], refl);
       committed = ([], refl);
       all = λ nothing. refl;
       replied = closed-replied packet;

@@ -1,5 +1,5 @@
 -- What follows from the headline for each submitter, for the pulses, and for each packet committed.
-use Rattle.std.proofs.Common.{refl, sym, ap, subst, ◌∙◌, arith, ◌≡◌, ◌<◌, ◌≤◌, ◌⊎◌, inl, inr, ℕ, zero, suc, ◌+◌, Bool, true, false, true≢false, List, [], ◌∷◌, ◌++◌, map, Some}
+use Rattle.std.proofs.Common.{refl, sym, ap, subst, ◌∙◌, arith, ◌≡◌, ◌<◌, ◌≤◌, ◌⊎◌, inl, inr, ℕ, zero, suc, ◌+◌, Bool, true, false, true≢false, List, [], ◌∷◌, ◌++◌, length, map, Some}
 use Rattle.std.specs.Prelude.{◌==◌, slice_get}
 use Rattle.std.proofs.lemmas.Bool.{eq-eqb, cases_order}
 use Rattle.tb_layout.specs.declared.answer.Answer.{Answer}
@@ -274,12 +274,13 @@ same-place run is submitter below place other number events one two =
 committed_at : (run : Run) → Headline run → (place submitter number : ℕ) (events : Events)
     → slice_get (committed_in run) place ≡ Some (Packet submitter number events)
     → (reply : IsReplied run submitter number events) → (outcome : Outcome) → reply.reply.outcome ≡ outcome
-    → IsTrueOf run (numbered_of reply.reply) outcome → (answer : Answer) × (reply.reply.outcome ≡ Committed place answer)
-committed_at run is place submitter number events got reply (Committed its answer) says said =
-    let other : slice_get (committed_in run) its ≡ Some (Packet submitter number events) =
-    said.0 ∙ ap (λ input. Some input) reply.own in
-    let same : its ≡ place = same-place run is submitter reply.known place its number events got other in
-    (answer, says ∙ ap (λ p. Committed p answer) same)
+    → IsTrueOf run (numbered_of reply.reply) outcome →
+    (answer : Answer) × (reply.reply.outcome ≡ Committed (length run.before + place) answer)
+committed_at run is place submitter number events got reply (Committed its answer) says (index, at, there, alone) =
+    let other : slice_get (committed_in run) index ≡ Some (Packet submitter number events) =
+    there ∙ ap (λ input. Some input) reply.own in
+    let same : index ≡ place = same-place run is submitter reply.known place index number events got other in
+    (answer, says ∙ ap (λ p. Committed p answer) (at ∙ ap (λ n. length run.before + n) same))
 committed_at run is place submitter number events got reply Stopped says said =
     absurd (said.1 (place, got ∙ ap (λ input. Some input) (sym reply.own)))
 committed_at run is place submitter number events got reply Shutdown says said =

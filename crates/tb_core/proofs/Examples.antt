@@ -42,7 +42,7 @@ second = job 0 1 (event 2)
 abbrev shut : List Ticket
 shut = packet first ∷ of_control item.Close ∷ packet second ∷ []
 
-packet_behind_shut : outcomes (due 0 shut (ahead (items shut)) 0) ≡ Committed 0 (Failures []) ∷ Shutdown ∷ []
+packet_behind_shut : outcomes (due 0 0 shut (ahead (items shut)) 0) ≡ Committed 0 (Failures []) ∷ Shutdown ∷ []
 packet_behind_shut = refl
 
 packet_behind_shut-clock : (replay 0 (ahead (items shut))).clock ≡ 1
@@ -52,11 +52,11 @@ packet_behind_shut-clock = refl
 abbrev pulsed : List Ticket
 pulsed = packet first ∷ of_control (item.Pulse 5) ∷ packet second ∷ of_control item.End ∷ []
 
-refused_second_commit : outcomes (due 0 pulsed (input_of first ∷ []) 0) ≡ Committed 0 (Failures []) ∷ Stopped ∷ []
+refused_second_commit : outcomes (due 0 0 pulsed (input_of first ∷ []) 0) ≡ Committed 0 (Failures []) ∷ Stopped ∷ []
 refused_second_commit = refl
 
 -- if nothing is refused, a pulse takes a place
-all_committed : outcomes (due 0 pulsed (ahead (items pulsed)) 0)
+all_committed : outcomes (due 0 0 pulsed (ahead (items pulsed)) 0)
     ≡ Committed 0 (Failures []) ∷ Committed 2 (Failures []) ∷ []
 all_committed = refl
 
@@ -67,9 +67,9 @@ all_committed-clock = refl
 abbrev doubled : List Ticket
 doubled = packet first ∷ packet (job 1 0 (event 1)) ∷ []
 
-own_replies : outcomes (due 0 doubled (ahead (items doubled)) 0) ≡ Committed 0 (Failures []) ∷ []
+own_replies : outcomes (due 0 0 doubled (ahead (items doubled)) 0) ≡ Committed 0 (Failures []) ∷ []
 own_replies = refl
 
-other_replies : outcomes (due 0 doubled (ahead (items doubled)) 1)
+other_replies : outcomes (due 0 0 doubled (ahead (items doubled)) 1)
     ≡ Committed 1 (Failures (record { index = 0; code = 21 } ∷ [])) ∷ []
 other_replies = refl

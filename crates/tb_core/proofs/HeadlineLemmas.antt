@@ -17,6 +17,8 @@ use Rattle.tb_core.specs.Due.{outcome_at, outcome_with, all_due_from, due, repli
 use Rattle.tb_core.specs.Report.{ReportsHeadline}
 use Rattle.tb_core.specs.Headline.{IsTrueOf, packets_queued, numbered_of}
 use Rattle.tb_core.specs.EndedRun.{Run, committed_in, ahead_in, IsPrefix}
+use Rattle.tb_core.specs.Journal.{inputs}
+use Rattle.tb_core.proofs.Since.{get-drop}
 use Rattle.tb_core.proofs.Packets.{jobs_of, jobs_with, jobs-part, AreFrom, from-numbered, AreBelow, nowhere-below, below-longer, below-append, below-first}
 
 -- ---- prefixes
@@ -78,7 +80,12 @@ module _ (run : Run) (submitter : ℕ) (committed : IsPrefix (committed_in run) 
   IsTrueReply reply = IsTrueOf run (numbered_of reply) reply.outcome
 
   abbrev due_from : Place → List Item → List ReplyValue
-  due_from place items = replies_to (all_due_from run.ledger.opening (committed_in run) place items) submitter
+  due_from place items = replies_to (all_due_from run.ledger.opening (inputs run.ledger) place items) submitter
+
+  -- what the run committed is in the journal after what was before it
+  in-journal : (index : ℕ) → slice_get (committed_in run) index
+      ≡ slice_get (inputs run.ledger) (length run.before + index)
+  in-journal index = get-drop (length run.before) index (inputs run.ledger)
 
   -- behind the Close, if what is ahead of it has lower numbers
   true-behind : (number : ℕ) (items : List Item) → AreBelow submitter number (ahead_in run)
@@ -105,17 +112,20 @@ module _ (run : Run) (submitter : ℕ) (committed : IsPrefix (committed_in run) 
 
   -- a packet ahead of the Close has the answer at its place, or isn't committed
   own-answer : (place number : ℕ) (before : List Input) (job : Numbered) (others : List Input)
-      → before ++ input_of job ∷ others ≡ ahead_in run → place ≡ length before → AreBelow submitter number before
+      → before ++ input_of job ∷ others ≡ ahead_in run → place ≡ length run.before + length before → AreBelow submitter number before
       → job.submitter ≡ submitter → job.number ≡ number →
-      IsTrueOf run job (outcome_at run.ledger.opening (committed_in run) (Ahead place))
-  own-answer place number before job others is at below own numbered = by (slice_get (committed_in run) place) refl
+      IsTrueOf run job (outcome_at run.ledger.opening (inputs run.ledger) (Ahead place))
+  own-answer place number before job others is at below own numbered = by (slice_get (inputs run.ledger) place) refl
     where
       outcome_of_found : Option Input → Outcome
       outcome_of_found found =
-          outcome_with place (answer_to (replay run.ledger.opening (take place (committed_in run))) found)
+          outcome_with place (answer_to (replay run.ledger.opening (take place (inputs run.ledger))) found)
 
-      by : (found : Option Input) → slice_get (committed_in run) place ≡ found
-          → IsTrueOf run job (outcome_at run.ledger.opening (committed_in run) (Ahead place))
+      here : slice_get (committed_in run) (length before) ≡ slice_get (inputs run.ledger) place
+      here = in-journal (length before) ∙ ap (slice_get (inputs run.ledger)) (sym at)
+
+      by : (found : Option Input) → slice_get (inputs run.ledger) place ≡ found
+          → IsTrueOf run job (outcome_at run.ledger.opening (inputs run.ledger) (Ahead place))
       by None nowhere =
           subst (IsTrueOf run job) (sym (ap outcome_of_found nowhere)) (
             (
@@ -127,17 +137,17 @@ module _ (run : Run) (submitter : ℕ) (committed : IsPrefix (committed_in run) 
                 (sym own)
                 (nowhere-below submitter number (committed_in run) found.0 job.number (events_in job.packet)
                 (below-first submitter number (committed_in run) committed.0 before (input_of job) others
-                (committed.1 ∙ sym is) (ap (slice_get (committed_in run)) (sym at) ∙ nowhere) below)
+                (committed.1 ∙ sym is) (here ∙ nowhere) below)
                 (omega (arith, numbered))) found.1,
           )
       by (Some input) found =
-          let same : input ≡ input_of job = at_place (committed_in run) committed.0 before (input_of job) input others place
-          (committed.1 ∙ sym is) at found in
-          let stands : slice_get (committed_in run) place ≡ Some (input_of job) = found ∙ ap (λ w. Some w) same in
-          subst (IsTrueOf run job) (sym (ap outcome_of_found stands)) (stands, refl)
+          let same : input ≡ input_of job = at_place (committed_in run) committed.0 before (input_of job) input others
+          (length before) (committed.1 ∙ sym is) refl (here ∙ found) in
+          let stands : slice_get (inputs run.ledger) place ≡ Some (input_of job) = found ∙ ap (λ w. Some w) same in
+          subst (IsTrueOf run job) (sym (ap outcome_of_found stands)) (length before, at, here ∙ stands, refl)
 
   -- ahead of the Close, if what precedes it has lower numbers
-  true-ahead : (k number : ℕ) (before : List Input) (items : List Item) → k ≡ length before
+  true-ahead : (k number : ℕ) (before : List Input) (items : List Item) → k ≡ length run.before + length before
       → before ++ ahead items ≡ ahead_in run → AreBelow submitter number before
       → AreFrom submitter number (jobs_of submitter items) → AllByRecursion IsTrueReply (due_from (Ahead k) items)
   true-ahead k number before [] at is below from = tt
@@ -185,7 +195,7 @@ at-index run (first ∷ replies) (suc index) reply all got = at-index run replie
 abbrev AreDue : Run → Type 0
 AreDue run =
     (submitter : ℕ) → submitter < run.submitters
-    → run.replies submitter ≡ due run.ledger.opening run.queue (committed_in run) submitter
+    → run.replies submitter ≡ due run.ledger.opening (length run.before) run.queue (inputs run.ledger) submitter
 
 -- the packets that a submitter queued are those of the queue that name it
 pub jobs-queued : (run : Run) → IsQueueOf run.submitters run.queue run.queued → (submitter : ℕ) → submitter < run.submitters
@@ -198,7 +208,7 @@ pub all-replied : (run : Run) → IsQueueOf run.submitters run.queue run.queued 
     → submitter < run.submitters → map numbered_of (run.replies submitter) ≡ packets_queued (run.queued submitter)
 all-replied run filled are submitter below =
     ap (map numbered_of) (are submitter below)
-    ∙ one-each run.ledger.opening submitter (committed_in run) (Ahead 0) (items_in run.queue)
+    ∙ one-each run.ledger.opening submitter (inputs run.ledger) (Ahead (length run.before)) (items_in run.queue)
     ∙ jobs-queued run filled submitter below
 
 pub all-true : (run : Run) → IsQueueOf run.submitters run.queue run.queued
@@ -207,7 +217,7 @@ pub all-true : (run : Run) → IsQueueOf run.submitters run.queue run.queued
     → IsTrueOf run (numbered_of reply) reply.outcome
 all-true run filled committed are submitter index reply below got =
     at-index run _ index reply
-    (true-ahead run submitter committed 0 0 [] (items_in run.queue) refl refl tt
+    (true-ahead run submitter committed (length run.before) 0 [] (items_in run.queue) (omega arith) refl tt
     (subst (AreFrom submitter 0) (sym (jobs-queued run filled submitter below))
     (from-numbered submitter 0 (run.queued submitter) (filled.numbered submitter (omega (arith, below))))))
     (sym (ap (λ rs. slice_get rs index) (are submitter below)) ∙ got)
@@ -216,6 +226,7 @@ pub headline : ReportsHeadline
 headline run is =
     record {
       queued = is.filled;
+      continues = is.continues;
       committed = is.committed;
       all = is.complete.0;
       replied = all-replied run is.filled is.replied;

@@ -10,26 +10,26 @@ use Rattle.tb_core.specs.inside.Decision.{Decision}
 use Rattle.tb_core.specs.Run.{HasNotStopped, IsRunning, IsDrained}
 
 -- the parcels with these decisions, all before the rest, were applied
-pub record AreApplied (clock limit : ℕ) (decisions : List Decision) (rest : List Parcel) (ledger : LedgerState)
+pub record AreApplied (start : LedgerState) (limit : ℕ) (decisions : List Decision) (rest : List Parcel) (ledger : LedgerState)
     (replies : List ReplyValue) : Type 0 where
   pub done : List Decision
   pub parts : done ++ all_decisions_in rest ≡ decisions
   pub joined : AreJoinedParcels limit rest
-  pub on : HasNotStopped clock limit done ledger replies
+  pub on : HasNotStopped start limit done ledger replies
 
 -- the items in front of the rest were taken
-pub record IsUnderWay (clock limit : ℕ) (items rest : List Item) (front : FrontState) (ledger : LedgerState)
+pub record IsUnderWay (start : LedgerState) (limit : ℕ) (items rest : List Item) (front : FrontState) (ledger : LedgerState)
     (replies : List ReplyValue) : Type 0 where
   pub done : List Item
   pub parts : items ≡ done ++ rest
-  pub run : IsRunning clock limit done front ledger replies
+  pub run : IsRunning start limit done front ledger replies
 
 -- what was held is applied too
-pub through : (clock limit : ℕ) (items : List Item) (front : FrontState) (ledger : LedgerState)
+pub through : (start : LedgerState) (limit : ℕ) (items : List Item) (front : FrontState) (ledger : LedgerState)
     (replies : List ReplyValue) (now : LedgerState) (given : List ReplyValue)
-    → (run : IsRunning clock limit items front ledger replies) →
-    HasNotStopped clock limit (run.sent ++ held_by front) now given → IsDrained clock limit items now given
-through clock limit items front ledger replies now given run on = record {
+    → (run : IsRunning start limit items front ledger replies) →
+    HasNotStopped start limit (run.sent ++ held_by front) now given → IsDrained start limit items now given
+through start limit items front ledger replies now given run on = record {
   ran = record {
     closed = front.closed;
     stopped = front.stopped;

@@ -7,7 +7,7 @@ use Rattle.std.proofs.lemmas.Bool.{and_parts, and_from, cond_both}
 use Rattle.tb_layout.specs.Account.{account_of}
 use Rattle.tb_layout.specs.Transfer.{transfer_of}
 use Rattle.tb_layout.specs.Bytes.{little_endian}
-use Rattle.tb_layout.specs.Events.{events_of, chunks, Pulse}
+use Rattle.tb_layout.specs.Events.{events_of, chunks, Input, Pulse}
 use Rattle.tb_layout.specs.inside.Events.{is_open, count_of as count_of_events}
 use Rattle.tb_work.specs.Admission.{admission_of, count_of_size, event_size}
 use Rattle.tb_work.specs.Packet.{Numbered, events_in, ReplyValue, input_of}
@@ -17,8 +17,9 @@ use Rattle.tb_batch.specs.Grouping.{can_share, are_of, joins, join_in_turn, IsGr
 use Rattle.tb_core.specs.declared.parcel.Parcel.{Parcel}
 use Rattle.tb_core.specs.declared.parcel.Parcel.TheVariants as parcel
 use Rattle.tb_core.specs.Grouping.{operation_of, can_join, can_stand_with, events_together, joins_group, join_one_by_one, IsJoined, AreJoined, IsJoinedParcel}
-use Rattle.tb_core.specs.Journal.{LedgerState}
-use Rattle.tb_core.specs.Ledger.{Applied, apply_result, must_stop, apply_step}
+use Rattle.tb_core.specs.EndedRun.{IsPrefix}
+use Rattle.tb_core.specs.Journal.{LedgerState, groups_since}
+use Rattle.tb_core.specs.Ledger.{Applied, apply_result, must_stop, apply_step, with_entry}
 use Rattle.tb_core.specs.BareLedger.{BareLedgerState, with_journal, groups_in, HasSent, Records}
 use Rattle.tb_core.specs.declared.journal.Entry.{Entry}
 use Rattle.tb_core.specs.declared.outcomes.Outcomes.{Outcomes}
@@ -28,6 +29,7 @@ use Rattle.tb_core.specs.Run.{Commits, HasPackets, replies_in}
 use Rattle.tb_core.proofs.LedgerSteps.{all-push, HasJobs, commits_more}
 use Rattle.tb_core.proofs.Batches.{Kind, OfAccounts, OfTransfers, OfIds, kind_of}
 use Rattle.tb_core.proofs.JoinedBatch.{length-chunks}
+use Rattle.tb_core.proofs.Since.{drop-more}
 
 -- ---- one packet
 
@@ -117,17 +119,25 @@ group_joined limit (job ∷ jobs) some is = join_seen limit (job ∷ []) jobs (s
 
 -- ---- a ledger
 
-joined_more : (refused : Bool) (ledger : LedgerState) (handed : Parcel) (limit : ℕ) → HasPackets handed
-    → IsJoinedParcel limit handed → AreJoined limit ledger.groups
-    → AreJoined limit (apply_step refused ledger handed).ledger.groups
-joined_more refused ledger (parcel.Batch jobs) limit some joined all =
-    cond_both (must_stop refused ledger (length jobs)) _ _ (λ (a : Applied). AreJoined limit a.ledger.groups)
-    (λ stops. all) (λ goes. all-push (IsJoined limit) ledger.groups (map input_of jobs) all
-    (group_joined limit jobs some joined))
-joined_more refused ledger (parcel.Pulse moment) limit some joined all =
-    cond_both (must_stop refused ledger 1) _ _ (λ (a : Applied). AreJoined limit a.ledger.groups) (λ stops. all)
-    (λ goes. all-push (IsJoined limit) ledger.groups (Pulse moment ∷ []) all refl)
-joined_more refused ledger p limit some joined all = all
+-- one group more
+group_more : (start ledger : LedgerState) (limit : ℕ) (group : List Input) → IsPrefix start.groups ledger.groups
+    → AreJoined limit (groups_since start ledger) → IsJoined limit group
+    → AreJoined limit (groups_since start (with_entry ledger group))
+group_more start ledger limit group on all joined =
+    subst (AreJoined limit) (sym (drop-more start.groups ledger.groups (group ∷ []) on))
+    (all-push (IsJoined limit) (groups_since start ledger) group all joined)
+
+joined_more : (refused : Bool) (start ledger : LedgerState) (handed : Parcel) (limit : ℕ) → HasPackets handed
+    → IsPrefix start.groups ledger.groups → IsJoinedParcel limit handed → AreJoined limit (groups_since start ledger)
+    → AreJoined limit (groups_since start (apply_step refused ledger handed).ledger)
+joined_more refused start ledger (parcel.Batch jobs) limit some on joined all =
+    cond_both (must_stop refused ledger (length jobs)) _ _
+    (λ (a : Applied). AreJoined limit (groups_since start a.ledger)) (λ stops. all)
+    (λ goes. group_more start ledger limit (map input_of jobs) on all (group_joined limit jobs some joined))
+joined_more refused start ledger (parcel.Pulse moment) limit some on joined all =
+    cond_both (must_stop refused ledger 1) _ _ (λ (a : Applied). AreJoined limit (groups_since start a.ledger))
+    (λ stops. all) (λ goes. group_more start ledger limit (Pulse moment ∷ []) on all refl)
+joined_more refused start ledger p limit some on joined all = all
 
 has_jobs : (p : Parcel) → HasPackets p → HasJobs p
 has_jobs (parcel.Batch jobs) some = some.0
@@ -135,27 +145,27 @@ has_jobs p some = tt
 
 -- all that holds of a ledger that applied a parcel
 pub record HasApplied (ledger : LedgerState) (handed : Parcel) (next : Applied) : Type 0 where
-  pub commits : (clock : ℕ) (decisions : List Decision) (replies : List ReplyValue)
-      → Commits clock decisions ledger replies → Commits clock (decisions ++ decisions_in handed) next.ledger
+  pub commits : (start : LedgerState) (decisions : List Decision) (replies : List ReplyValue)
+      → Commits start decisions ledger replies → Commits start (decisions ++ decisions_in handed) next.ledger
       (replies ++ replies_in next.outcomes)
-  pub joined : (limit : ℕ) → IsJoinedParcel limit handed → AreJoined limit ledger.groups
-      → AreJoined limit next.ledger.groups
+  pub joined : (start : LedgerState) (limit : ℕ) → IsPrefix start.groups ledger.groups → IsJoinedParcel limit handed
+      → AreJoined limit (groups_since start ledger) → AreJoined limit (groups_since start next.ledger)
 
 pub has_applied : (refused : Bool) (ledger : LedgerState) (handed : Parcel) (next : Applied) → HasPackets handed
     → next ≡ apply_step refused ledger handed → HasApplied ledger handed next
 has_applied refused ledger handed next some is = subst (HasApplied ledger handed) (sym is) (record {
-  commits = λ clock decisions replies commits. commits_more clock decisions ledger replies commits refused
+  commits = λ start decisions replies commits. commits_more start decisions ledger replies commits refused
       handed (has_jobs handed some);
-  joined = λ limit. joined_more refused ledger handed limit some;
+  joined = λ start limit. joined_more refused start ledger handed limit some;
 })
 
 -- a bare ledger that applied a parcel
 pub sent_more : (refused : Bool) (bare : BareLedgerState) (handed : Parcel) (outcomes : Outcomes) (entry : Option Entry)
     (next : BareLedgerState) → HasPackets handed → Records refused handed bare outcomes entry next →
-    (clock limit : ℕ) (decisions : List Decision) (replies : List ReplyValue) → IsJoinedParcel limit handed
-    → HasSent clock limit decisions bare replies
-    → HasSent clock limit (decisions ++ decisions_in handed) next (replies ++ replies_in outcomes)
-sent_more refused bare handed outcomes entry next some records clock limit decisions replies joined has =
+    (start : LedgerState) (limit : ℕ) (decisions : List Decision) (replies : List ReplyValue)
+    → IsJoinedParcel limit handed → HasSent start limit decisions bare replies
+    → HasSent start limit (decisions ++ decisions_in handed) next (replies ++ replies_in outcomes)
+sent_more refused bare handed outcomes entry next some records start limit decisions replies joined has =
     let made = records has.groups has.committed in
     let groups = has.groups ++ groups_in entry in
     let applied = has_applied refused (with_journal bare has.groups) handed
@@ -163,6 +173,6 @@ sent_more refused bare handed outcomes entry next some records clock limit decis
     record {
       groups = groups;
       committed = made.0;
-      commits = applied.commits clock decisions replies has.commits;
-      joined = applied.joined limit joined has.joined;
+      commits = applied.commits start decisions replies has.commits;
+      joined = applied.joined start limit has.commits.continues joined has.joined;
     }

@@ -25,6 +25,7 @@ use Rattle.tb_core.specs.BareLedger.{BareLedgerState, with_journal, HasCommitted
 use Rattle.tb_core.specs.Ledger.{Applied, apply_result, must_stop, with_stop, with_entry, step_of_batch, apply_step}
 use Rattle.tb_core.specs.Run.{replies_in, Commits}
 use Rattle.tb_core.proofs.OneMoreEntry.{inputs-more, must_stop_is}
+use Rattle.tb_core.proofs.Since.{prefix-more}
 
 -- what is so of each is so with one more
 pub all-push : {X : Type 0} (P : X → Type 0) (xs : List X) (x : X) → AllByRecursion P xs → P x
@@ -159,38 +160,48 @@ nothing_after : {X : Type 0} (xs : List X) (y : X) (ys : List X) → xs ++ y ∷
 nothing_after [] y ys e = cc
 nothing_after (x ∷ xs) y ys e = cc
 
-module _ (clock : ℕ) (sent : List Decision) (ledger : LedgerState) (replies : List ReplyValue)
-    (is : Commits clock sent ledger replies) where
+module _ (start : LedgerState) (sent : List Decision) (ledger : LedgerState) (replies : List ReplyValue)
+    (is : Commits start sent ledger replies) where
   abbrev journal : List Input
   journal = inputs ledger
 
   abbrev ThenCommits : List Decision → LedgerState → List ReplyValue → Type 0
-  ThenCommits decisions next answers = Commits clock (sent ++ decisions) next (replies ++ answers)
+  ThenCommits decisions next answers = Commits start (sent ++ decisions) next (replies ++ answers)
+
+  abbrev first : ℕ
+  first = length (inputs start)
 
   -- all of them are committed
   entered : (group : List Input) (decisions : List Decision) (answers : List ReplyValue) → ledger.stopped ≡ false
       → inputs_in decisions ≡ group →
-      answers ≡ replies_from clock (inputs (with_entry ledger group)) (length journal) decisions
+      answers ≡ replies_from start.opening (inputs (with_entry ledger group)) (length journal) decisions
       → ThenCommits decisions (with_entry ledger group) answers
   entered group decisions answers goes group_is answers_are =
       let longer : inputs (with_entry ledger group) ≡ journal ++ group = inputs-more ledger.groups group in
-      let all : journal ≡ inputs_in sent = sym (append-nil journal)
+      let all : journal ≡ inputs start ++ inputs_in sent = sym (append-nil journal)
       ∙ ap (λ ws. journal ++ ws) (sym (is.whole goes)) ∙ is.committed in
-      let count : 0 + length (inputs_in sent) ≡ length journal = omega (arith, ap length all) in
-      let before : replies ≡ replies_from clock (journal ++ group) 0 sent = is.replied
-      ∙ sym (replies_from-longer clock journal group 0 sent (omega (arith, count))) in
+      let count : first + length (inputs_in sent) ≡ length journal = omega (
+        arith,
+        ap length all,
+        length-append (inputs start) (inputs_in sent),
+      ) in
+      let before : replies ≡ replies_from start.opening (journal ++ group) first sent = is.replied
+      ∙ sym (replies_from-longer start.opening journal group first sent (omega (arith, count))) in
       record {
         from = is.from;
+        continues = prefix-more start.groups ledger.groups (group ∷ []) is.continues;
         remainder = [];
         committed = append-nil _ ∙ longer ∙ ap (λ ws. ws ++ group) all
-            ∙ ap (λ ws. inputs_in sent ++ ws) (sym group_is) ∙ sym (inputs_in-append sent decisions);
+            ∙ append_assoc (inputs start) (inputs_in sent) group
+            ∙ ap (λ ws. inputs start ++ (inputs_in sent ++ ws)) (sym group_is)
+            ∙ ap (λ ws. inputs start ++ ws) (sym (inputs_in-append sent decisions));
         whole = λ any. refl;
         unstopped = λ any. goes;
         state = ap (λ s. fold after_input s group) is.state
-            ∙ sym (fold-append after_input (opening clock) journal group)
-            ∙ ap (replay clock) (sym longer);
+            ∙ sym (fold-append after_input (opening start.opening) journal group)
+            ∙ ap (replay start.opening) (sym longer);
         replied = rw (
-          replies_from-append clock (inputs (with_entry ledger group)) 0 sent decisions,
+          replies_from-append start.opening (inputs (with_entry ledger group)) first sent decisions,
           count,
           answers_are,
           longer,
@@ -202,39 +213,47 @@ module _ (clock : ℕ) (sent : List Decision) (ledger : LedgerState) (replies : 
   kept : (decisions : List Decision) (stopped : Bool) (answers : List ReplyValue)
       → (stopped ≡ false → (ledger.stopped ≡ false) × (inputs_in decisions ≡ []))
       → (is.remainder ++ inputs_in decisions ≡ [] → stopped ≡ false) →
-      ((place : ℕ) → length journal ≤ place → answers ≡ replies_from clock journal place decisions)
+      ((place : ℕ) → length journal ≤ place → answers ≡ replies_from start.opening journal place decisions)
       → ThenCommits decisions (record ledger { stopped = stopped }) answers
   kept decisions stopped answers goes stays answers_are =
-      let after = answers_are (0 + length (inputs_in sent))
-      (omega (arith, ap length is.committed, length-append journal is.remainder)) in
+      let after = answers_are (first + length (inputs_in sent)) (omega (
+        arith,
+        ap length is.committed,
+        length-append journal is.remainder,
+        length-append (inputs start) (inputs_in sent),
+      )) in
       record {
         from = is.from;
+        continues = is.continues;
         remainder = is.remainder ++ inputs_in decisions;
         committed = sym (append_assoc journal is.remainder (inputs_in decisions))
-            ∙ ap (λ ws. ws ++ inputs_in decisions) is.committed ∙ sym (inputs_in-append sent decisions);
+            ∙ ap (λ ws. ws ++ inputs_in decisions) is.committed
+            ∙ append_assoc (inputs start) (inputs_in sent) (inputs_in decisions)
+            ∙ ap (λ ws. inputs start ++ ws) (sym (inputs_in-append sent decisions));
         whole = λ on. (let both = goes on in ap (λ ws. ws ++ inputs_in decisions) (is.whole both.0) ∙ both.1);
         unstopped = stays;
         state = is.state;
-        replied = ap (λ rs. rs ++ answers) is.replied ∙ ap (λ rs. replies_from clock journal 0 sent ++ rs) after
-            ∙ sym (replies_from-append clock journal 0 sent decisions);
+        replied = ap (λ rs. rs ++ answers) is.replied
+            ∙ ap (λ rs. replies_from start.opening journal first sent ++ rs) after
+            ∙ sym (replies_from-append start.opening journal first sent decisions);
       }
 
   -- nothing of it was to be committed
   aside : (decisions : List Decision) (answers : List ReplyValue) → inputs_in decisions ≡ []
-      → ((place : ℕ) → answers ≡ replies_from clock journal place decisions) → ThenCommits decisions ledger answers
+      → ((place : ℕ) → answers ≡ replies_from start.opening journal place decisions) → ThenCommits decisions ledger answers
   aside decisions answers none answers_are =
       kept decisions ledger.stopped answers (λ on. (on, none))
       (λ e. is.unstopped (sym (append-nil is.remainder) ∙ ap (λ ws. is.remainder ++ ws) (sym none) ∙ e))
       (λ place far. answers_are place)
 
   -- the ledger is marked
-  halted : (first : Input) (others : List Input) (decisions : List Decision) (answers : List ReplyValue)
-      → inputs_in decisions ≡ first ∷ others → ((place : ℕ) → length journal ≤ place
-      → answers ≡ replies_from clock journal place decisions) →
+  halted : (one : Input) (others : List Input) (decisions : List Decision) (answers : List ReplyValue)
+      → inputs_in decisions ≡ one ∷ others → ((place : ℕ) → length journal ≤ place
+      → answers ≡ replies_from start.opening journal place decisions) →
       ThenCommits decisions (with_stop ledger) answers
-  halted first others decisions answers some answers_are =
+  halted one others decisions answers some answers_are =
       kept decisions true answers (λ on. cc) (λ e. absurd
-      (nothing_after is.remainder first others (ap (λ ws. is.remainder ++ ws) (sym some) ∙ e))) answers_are
+      (nothing_after is.remainder one others (ap (λ ws. is.remainder ++ ws) (sym some) ∙ e))) answers_are
 
   abbrev Then : List Decision → Applied → Type 0
   Then decisions next = ThenCommits decisions next.ledger (replies_in next.outcomes)
@@ -248,9 +267,9 @@ module _ (clock : ℕ) (sent : List Decision) (ledger : LedgerState) (replies : 
       let next = step_of_batch ledger (job ∷ jobs) in
       cond_both (must_stop refused ledger (length (job ∷ jobs))) _ _ (Then decisions)
       (λ stops. halted (input_of job) (map input_of jobs) decisions _ group
-      (λ place far. sym (replies_from-stopped clock journal place (job ∷ jobs) far)))
+      (λ place far. sym (replies_from-stopped start.opening journal place (job ∷ jobs) far)))
       (λ goes. entered (map input_of (job ∷ jobs)) decisions _ (or_parts ledger.stopped _ goes).0 group
-      (ap (λ start. replies_from start (inputs next.ledger) (length journal) decisions) is.from))
+      (ap (λ clock. replies_from clock (inputs next.ledger) (length journal) decisions) is.from))
   commits_more refused (parcel.Pulse moment) some =
       let decisions = Pulsed moment ∷ [] in
       cond_both (must_stop refused ledger 1) _ _ (Then decisions)

@@ -6,6 +6,7 @@ mod JoinedBatch
 mod Batches
 mod RecordedBatch
 mod OneMoreEntry
+pub mod Since
 pub mod LedgerSteps
 mod JournalGroups
 pub mod Runs
@@ -13,5 +14,6 @@ pub mod Packets
 pub mod HeadlineLemmas
 mod EachSubmitter
 mod BadRuns
+mod TwoRuns
 mod ItemList
 mod Examples

@@ -18,11 +18,13 @@ use Rattle.tb_work.specs.declared.item.Item.TheVariants as item
 use Rattle.tb_work.specs.declared.item.Ticket.{Ticket}
 use Rattle.tb_core.specs.Due.{outcome_at, reply_due, all_due_from, all_due, replies_to, Place, Ahead, Behind, next_place}
 use Rattle.tb_core.specs.inside.Decision.{inputs_in, replies_from, Decision, decisions_from, decisions_of, IsPacket, AreDecisions}
-use Rattle.tb_core.specs.Journal.{LedgerState, inputs}
-use Rattle.tb_core.specs.EndedRun.{is_stopped, any_stopped, committed_in}
+use Rattle.tb_core.specs.Journal.{LedgerState, inputs, inputs_since}
+use Rattle.tb_core.specs.Ledger.{new_ledger}
+use Rattle.tb_core.specs.EndedRun.{is_stopped, any_stopped, committed_in, ahead_in, IsPrefix}
 use Rattle.tb_core.specs.Run.{IsListed, Commits, Ran, RunIsLawful}
 use Rattle.tb_core.proofs.LedgerSteps.{outcome_past, outcome_here, inputs_in-append, replies_from-append, replies_from-longer}
 use Rattle.tb_core.proofs.FrontDecisions.{never_stops}
+use Rattle.tb_core.proofs.Since.{cancel, prefix-inputs, inputs-parts}
 
 -- ---- what a front let through, and what is due to it
 
@@ -37,64 +39,66 @@ behind_close clock place stop journal (item.Packet job ∷ items) =
     items in (others.0, ap (λ rs. reply_with outcome.Shutdown job ∷ rs) others.1)
 behind_close clock place stop journal (x ∷ items) = behind_close clock place stop journal items
 
--- from the stop on each packet comes back, as one that the journal doesn't reach
-from_stop : (clock place through k : ℕ) (journal : List Input) (items : List Item)
-    → length journal ≤ through → through ≤ k →
+-- from the stop on each packet comes back, as one that the journal doesn't reach; `at` is the place in the journal, and `k`
+-- counts what this front took
+from_stop : (clock place through k at : ℕ) (journal : List Input) (items : List Item)
+    → length journal ≤ at → through ≤ k →
     (inputs_in (decisions_from (Some through) (Ahead k) items) ≡ [])
     × (replies_from clock journal place (decisions_from (Some through) (Ahead k) items)
-    ≡ all_due_from clock journal (Ahead k) items)
-from_stop clock place through k journal [] far h = (refl, refl)
-from_stop clock place through k journal (item.Packet job ∷ items) far h =
-    let others = from_stop clock place through (k + 1) journal items far (omega (arith, h)) in
+    ≡ all_due_from clock journal (Ahead at) items)
+from_stop clock place through k at journal [] far h = (refl, refl)
+from_stop clock place through k at journal (item.Packet job ∷ items) far h =
+    let others = from_stop clock place through (k + 1) (at + 1) journal items (omega (arith, far)) (omega (arith, h)) in
     rw (le-leb through k h) (
       others.0,
-      rw (outcome_past clock k journal (omega (arith, far, h)))
-          (ap (λ rs. reply_with outcome.Stopped job ∷ rs) others.1),
+      rw (outcome_past clock at journal far) (ap (λ rs. reply_with outcome.Stopped job ∷ rs) others.1),
     )
-from_stop clock place through k journal (item.Pulse moment ∷ items) far h =
-    rw (le-leb through k h) (from_stop clock place through (k + 1) journal items far (omega (arith, h)))
-from_stop clock place through k journal (item.End ∷ items) far h = from_stop clock place through k journal items far h
-from_stop clock place through k journal (item.Close ∷ items) far h =
+from_stop clock place through k at journal (item.Pulse moment ∷ items) far h =
+    rw (le-leb through k h)
+    (from_stop clock place through (k + 1) (at + 1) journal items (omega (arith, far)) (omega (arith, h)))
+from_stop clock place through k at journal (item.End ∷ items) far h =
+    from_stop clock place through k at journal items far h
+from_stop clock place through k at journal (item.Close ∷ items) far h =
     behind_close clock place (Some through) journal items
 
 -- what was let through, at most this number, is the first part of what is ahead; and a journal that reaches no further
 -- gives the replies that are due
-let_through : (clock most through k : ℕ) (journal : List Input) (items : List Item)
-    → length journal ≤ through → through ≡ k + most →
+let_through : (clock most through k at : ℕ) (journal : List Input) (items : List Item)
+    → length journal ≤ at + most → through ≡ k + most →
     (inputs_in (decisions_from (Some through) (Ahead k) items) ≡ take most (ahead items))
-    × (replies_from clock journal k (decisions_from (Some through) (Ahead k) items)
-    ≡ all_due_from clock journal (Ahead k) items)
-let_through clock zero through k journal items far h = from_stop clock k through k journal items far (omega (arith, h))
-let_through clock (suc most) through k journal [] far h = (refl, refl)
-let_through clock (suc most) through k journal (item.Packet job ∷ items) far h =
-    let others = let_through clock most through (k + 1) journal items far (omega (arith, h)) in
+    × (replies_from clock journal at (decisions_from (Some through) (Ahead k) items)
+    ≡ all_due_from clock journal (Ahead at) items)
+let_through clock zero through k at journal items far h =
+    from_stop clock at through k at journal items (omega (arith, far)) (omega (arith, h))
+let_through clock (suc most) through k at journal [] far h = (refl, refl)
+let_through clock (suc most) through k at journal (item.Packet job ∷ items) far h =
+    let others = let_through clock most through (k + 1) (at + 1) journal items (omega (arith, far)) (omega (arith, h)) in
     rw (lt-leb through k (omega (arith, h))) (
       ap (λ ws. input_of job ∷ ws) others.0,
-      ap
-          (λ rs. reply_with (outcome_at clock journal (Ahead k)) job ∷ rs) others.1,
+      ap (λ rs. reply_with (outcome_at clock journal (Ahead at)) job ∷ rs) others.1,
     )
-let_through clock (suc most) through k journal (item.Pulse moment ∷ items) far h =
-    let others = let_through clock most through (k + 1) journal items far (omega (arith, h)) in rw
-    (lt-leb through k (omega (arith, h))) (ap (λ ws. input.Pulse moment ∷ ws) others.0, others.1)
-let_through clock (suc most) through k journal (item.End ∷ items) far h =
-    let_through clock (suc most) through k journal items far h
-let_through clock (suc most) through k journal (item.Close ∷ items) far h =
-    behind_close clock k (Some through) journal items
+let_through clock (suc most) through k at journal (item.Pulse moment ∷ items) far h =
+    let others = let_through clock most through (k + 1) (at + 1) journal items (omega (arith, far)) (omega (arith, h)) in
+    rw (lt-leb through k (omega (arith, h))) (ap (λ ws. input.Pulse moment ∷ ws) others.0, others.1)
+let_through clock (suc most) through k at journal (item.End ∷ items) far h =
+    let_through clock (suc most) through k at journal items far h
+let_through clock (suc most) through k at journal (item.Close ∷ items) far h =
+    behind_close clock at (Some through) journal items
 
 -- how many were let through at most, if the front may have stopped
 abbrev most_of : Option ℕ → List Item → ℕ
 most_of None items = length (ahead items)
 most_of (Some through) items = through
 
-passed_through : (clock : ℕ) (stop : Option ℕ) (journal : List Input) (items : List Item)
-    → length journal ≤ most_of stop items →
+passed_through : (clock before : ℕ) (stop : Option ℕ) (journal : List Input) (items : List Item)
+    → length journal ≤ before + most_of stop items →
     (inputs_in (decisions_of stop items) ≡ take (most_of stop items) (ahead items))
-    × (replies_from clock journal 0 (decisions_of stop items) ≡ all_due clock items journal)
-passed_through clock None journal items far = let most =
+    × (replies_from clock journal before (decisions_of stop items) ≡ all_due clock before items journal)
+passed_through clock before None journal items far = let most =
     length (ahead items) in rw (never_stops 0 most items (omega arith))
-    (let_through clock most most 0 journal items far (omega arith))
-passed_through clock (Some through) journal items far =
-    let_through clock through through 0 journal items far (omega arith)
+    (let_through clock most most 0 before journal items far (omega arith))
+passed_through clock before (Some through) journal items far =
+    let_through clock through through 0 before journal items far (omega arith)
 
 -- ---- which submitters learn that the pipeline stopped
 
@@ -197,88 +201,109 @@ nothing_left : {X : Type 0} (xs ys : List X) → xs ++ ys ≡ [] → (xs ≡ [])
 nothing_left [] ys e = (refl, e)
 nothing_left (x ∷ xs) ys e = cc
 
--- a ledger took some of what a front made of a queue, and the rest is on the way
-pub record SoFar (clock : ℕ) (items : List Item) (stopped : Bool) (ledger : LedgerState) (answers : List ReplyValue)
-    (way : List Decision) : Type 0 where
+-- since it was `start` a ledger took some of what a front made of a queue, and the rest is on the way
+pub record SoFar (start : LedgerState) (items : List Item) (stopped : Bool) (ledger : LedgerState)
+    (answers : List ReplyValue) (way : List Decision) : Type 0 where
   pub remainder : List Input
-  pub committed : inputs ledger ++ remainder ≡ ahead items
+  pub committed : inputs_since start ledger ++ remainder ≡ ahead items
   pub later : List ReplyValue
-  pub due : answers ++ later ≡ all_due clock items (inputs ledger)
-  pub replied : way ≡ [] → answers ≡ all_due clock items (inputs ledger)
+  pub due : answers ++ later ≡ all_due start.opening (length (inputs start)) items (inputs ledger)
+  pub replied : way ≡ [] → answers ≡ all_due start.opening (length (inputs start)) items (inputs ledger)
   -- all of it is committed or on the way if neither stopped, and then nobody learns of a stop
-  pub whole : stopped ≡ false → ledger.stopped ≡ false → inputs ledger ++ inputs_in way ≡ ahead items
+  pub whole : stopped ≡ false → ledger.stopped ≡ false → inputs_since start ledger ++ inputs_in way ≡ ahead items
   pub no_stop_seen : stopped ≡ false → ledger.stopped ≡ false → any_stopped answers ≡ false
   -- with nothing on the way, nothing remains exactly if the ledger hasn't stopped and nobody learned of a stop
   pub nothing_remains : way ≡ [] → ledger.stopped ≡ false → any_stopped answers ≡ false → remainder ≡ []
   pub nothing_stopped : remainder ≡ [] → (ledger.stopped ≡ false) × (any_stopped answers ≡ false)
 
-pub so_far : (clock : ℕ) (items : List Item) (closed stopped : Bool) (applied way : List Decision)
+pub so_far : (start : LedgerState) (items : List Item) (closed stopped : Bool) (applied way : List Decision)
     (ledger : LedgerState) (answers : List ReplyValue) → AreDecisions items closed stopped (applied ++ way)
-    → Commits clock applied ledger answers →
-    SoFar clock items stopped ledger answers way
-so_far clock items closed stopped applied way ledger answers passes commits =
+    → Commits start applied ledger answers →
+    SoFar start items stopped ledger answers way
+so_far start items closed stopped applied way ledger answers passes commits =
     record {
       remainder = (commits.remainder ++ inputs_in way) ++ rest;
-      committed = sym (append_assoc journal (commits.remainder ++ inputs_in way) rest)
+      committed = sym (append_assoc since (commits.remainder ++ inputs_in way) rest)
           ∙ ap (λ ws. ws ++ rest) longer ∙ parts;
       later = replies_from clock journal here way;
       due = due;
       replied = replied;
-      whole = λ on goes. all (journal_is (commits.whole goes)) (rest_is passes.stop refl (sym on ∙ passes.stops));
+      whole = λ on goes. all (since_is (commits.whole goes)) (rest_is passes.stop refl (sym on ∙ passes.stops));
       no_stop_seen = λ on goes. let is =
-          journal_is (commits.whole goes) in told is (all is (rest_is passes.stop refl (sym on ∙ passes.stops)));
+          since_is (commits.whole goes) in told is (all is (rest_is passes.stop refl (sym on ∙ passes.stops)));
       nothing_remains = λ none goes no_stop_seen. ap (λ ws. (ws ++ inputs_in way) ++ rest) (commits.whole goes)
           ∙ ap (λ ps. inputs_in ps ++ rest) none ∙ left passes.stop refl passes.at_packet none no_stop_seen;
       nothing_stopped = λ none.
           let two = nothing_left (commits.remainder ++ inputs_in way) rest none in
           let one = nothing_left commits.remainder (inputs_in way) two.0 in
-          let is = journal_is one.0 in
+          let is = since_is one.0 in
           (commits.unstopped one.0, told is (all is two.1));
     }
   where
+    clock : ℕ
+    clock = start.opening
+
+    before : ℕ
+    before = length (inputs start)
+
     journal : List Input
     journal = inputs ledger
+
+    since : List Input
+    since = inputs_since start ledger
+
+    journal_parts : inputs start ++ since ≡ journal
+    journal_parts = inputs-parts start ledger commits.continues
 
     most : ℕ
     most = most_of passes.stop items
 
     -- the place after what was applied
     here : ℕ
-    here = 0 + length (inputs_in applied)
+    here = before + length (inputs_in applied)
 
     rest : List Input
     rest = drop most (ahead items)
 
     through : inputs_in (applied ++ way) ≡ take most (ahead items)
-    through = ap inputs_in passes.all ∙ (passed_through clock passes.stop [] items (omega arith)).0
+    through = ap inputs_in passes.all ∙ (passed_through clock before passes.stop [] items (omega arith)).0
 
     parts : inputs_in (applied ++ way) ++ rest ≡ ahead items
     parts = ap (λ ws. ws ++ rest) through ∙ take-append-drop most (ahead items)
 
-    longer : journal ++ (commits.remainder ++ inputs_in way) ≡ inputs_in (applied ++ way)
-    longer = sym (append_assoc journal commits.remainder (inputs_in way))
-        ∙ ap (λ ws. ws ++ inputs_in way) commits.committed ∙ sym (inputs_in-append applied way)
+    since_parts : since ++ commits.remainder ≡ inputs_in applied
+    since_parts = cancel (inputs start) (since ++ commits.remainder) (inputs_in applied)
+        (sym (append_assoc (inputs start) since commits.remainder)
+        ∙ ap (λ ws. ws ++ commits.remainder) journal_parts ∙ commits.committed)
 
-    replies_are : (now : List Input) → length now ≤ most
-        → replies_from clock now 0 applied ++ replies_from clock now here way ≡ all_due clock items now
+    longer : since ++ (commits.remainder ++ inputs_in way) ≡ inputs_in (applied ++ way)
+    longer = sym (append_assoc since commits.remainder (inputs_in way))
+        ∙ ap (λ ws. ws ++ inputs_in way) since_parts ∙ sym (inputs_in-append applied way)
+
+    replies_are : (now : List Input) → length now ≤ before + most
+        → replies_from clock now before applied ++ replies_from clock now here way ≡ all_due clock before items now
     replies_are now short =
-        sym (replies_from-append clock now 0 applied way) ∙ ap (replies_from clock now 0) passes.all
-        ∙ (passed_through clock passes.stop now items short).1
+        sym (replies_from-append clock now before applied way) ∙ ap (replies_from clock now before) passes.all
+        ∙ (passed_through clock before passes.stop now items short).1
 
-    short : length journal ≤ most
+    journal_long : length journal ≡ before + length since
+    journal_long = ap length (sym journal_parts) ∙ length-append (inputs start) since
+
+    short : length journal ≤ before + most
     short = omega (
       arith,
+      journal_long,
       ap length longer,
-      length-append journal
+      length-append since
           (commits.remainder ++ inputs_in way),
       ap length through,
       length-take most (ahead items),
     )
 
-    due : answers ++ replies_from clock journal here way ≡ all_due clock items journal
+    due : answers ++ replies_from clock journal here way ≡ all_due clock before items journal
     due = ap (λ rs. rs ++ replies_from clock journal here way) commits.replied ∙ replies_are journal short
 
-    replied : way ≡ [] → answers ≡ all_due clock items journal
+    replied : way ≡ [] → answers ≡ all_due clock before items journal
     replied none = sym (append-nil answers) ∙ ap (λ ps. answers ++ replies_from clock journal here ps) (sym none) ∙ due
 
     rest_is : (stop : Option ℕ) → passes.stop ≡ stop → false ≡ is_some stop → rest ≡ []
@@ -291,78 +316,91 @@ so_far clock items closed stopped applied way ledger answers passes commits =
     left None is packet none no_stop_seen = rest_is None is refl
     left (Some k) is packet none no_stop_seen =
         absurd (both_ways (any_stopped answers) no_stop_seen
-        (ap any_stopped (replied none) ∙ one_told clock 0 k journal items
+        (ap any_stopped (replied none) ∙ one_told clock before k journal items
         (omega (arith, short, ap (λ stop. most_of stop items) is)) packet))
 
-    journal_is : commits.remainder ≡ [] → journal ≡ inputs_in applied
-    journal_is none = sym (append-nil journal) ∙ ap (λ ws. journal ++ ws) (sym none) ∙ commits.committed
+    since_is : commits.remainder ≡ [] → since ≡ inputs_in applied
+    since_is none = sym (append-nil since) ∙ ap (λ ws. since ++ ws) (sym none) ∙ since_parts
 
-    all : journal ≡ inputs_in applied → rest ≡ [] → journal ++ inputs_in way ≡ ahead items
+    all : since ≡ inputs_in applied → rest ≡ [] → since ++ inputs_in way ≡ ahead items
     all is none =
         ap (λ ws. ws ++ inputs_in way) is ∙ sym (inputs_in-append applied way) ∙ sym (append-nil _)
         ∙ ap (λ ws. inputs_in (applied ++ way) ++ ws) (sym none) ∙ parts
 
     -- what is on the way doesn't change what was answered
-    told : journal ≡ inputs_in applied → journal ++ inputs_in way ≡ ahead items → any_stopped answers ≡ false
+    told : since ≡ inputs_in applied → since ++ inputs_in way ≡ ahead items → any_stopped answers ≡ false
     told is all_is =
         let now = journal ++ inputs_in way in
-        let same : answers ≡ replies_from clock now 0 applied = commits.replied
-        ∙ sym (replies_from-longer clock journal (inputs_in way) 0 applied (omega (arith, ap length is))) in
-        let within : length now ≤ most = omega (
+        let same : answers ≡ replies_from clock now before applied = commits.replied
+        ∙ sym (replies_from-longer clock journal (inputs_in way) before applied
+        (omega (arith, journal_long, ap length is))) in
+        let within : length now ≤ before + most = omega (
           arith,
+          journal_long,
+          length-append journal (inputs_in way),
+          length-append since (inputs_in way),
           ap length
               (ap (λ ws. ws ++ inputs_in way) is ∙ sym (inputs_in-append applied way) ∙ through),
           length-take most (ahead items),
         ) in
-        none_of_first answers (replies_from clock now here way) (all_due clock items now)
+        none_of_first answers (replies_from clock now here way) (all_due clock before items now)
         (ap (λ rs. rs ++ replies_from clock now here way) same ∙ replies_are now within)
-        (none_told clock 0 now [] items all_is refl)
+        (none_told clock before now (inputs start) items
+        (ap (λ ws. ws ++ inputs_in way) (sym journal_parts) ∙ append_assoc (inputs start) since (inputs_in way)
+        ∙ ap (λ ws. inputs start ++ ws) all_is) refl)
 
-run_so_far : (clock : ℕ) (items : List Item) (ledger : LedgerState) (answers : List ReplyValue)
-    (run : Ran clock items ledger answers) → SoFar clock items run.stopped ledger answers []
-run_so_far clock items ledger answers run =
-    so_far clock items run.closed run.stopped run.decisions [] ledger answers
+run_so_far : (start : LedgerState) (items : List Item) (ledger : LedgerState) (answers : List ReplyValue)
+    (run : Ran start items ledger answers) → SoFar start items run.stopped ledger answers []
+run_so_far start items ledger answers run =
+    so_far start items run.closed run.stopped run.decisions [] ledger answers
     (subst (AreDecisions items run.closed run.stopped) (sym (append-nil run.decisions)) run.passed) run.commits
 
 none_after : {X : Type 0} (front rest : List X) → front ++ rest ≡ front → rest ≡ []
 none_after front rest is = nil_from_length rest (omega (arith, ap length is, length-append front rest))
 
 pub run_is_lawful : RunIsLawful
-run_is_lawful run answers filled ran theirs =
-    let far = run_so_far run.ledger.opening (items_in run.queue) run.ledger answers ran in
-    let is_due : answers ≡ all_due run.ledger.opening (items_in run.queue) (committed_in run) = far.replied refl in
+run_is_lawful run start answers filled before_is ran theirs =
+    let journal = inputs run.ledger in
+    let far = run_so_far start (items_in run.queue) run.ledger answers ran in
+    let is_due : answers ≡ all_due run.ledger.opening (length run.before) (items_in run.queue) journal =
+    far.replied refl
+    ∙ ap (λ (ws : List Input). all_due start.opening (length ws) (items_in run.queue) journal) (sym before_is)
+    ∙ ap (λ clock. all_due clock (length run.before) (items_in run.queue) journal) (sym ran.commits.from) in
     let among = subst (AreAmong run.submitters) (sym is_due)
-    (due_among run.ledger.opening run.submitters (committed_in run) (Ahead 0) run.queue filled.submitted) in
+    (due_among run.ledger.opening run.submitters journal (Ahead (length run.before)) run.queue filled.submitted) in
+    let committed : committed_in run ++ far.remainder ≡ ahead_in run =
+    ap (λ (ws : List Input). drop (length ws) journal ++ far.remainder) before_is ∙ far.committed in
     record {
       filled = filled;
-      committed = (far.remainder, far.committed);
+      continues = subst (λ ws. IsPrefix ws journal) (sym before_is) (prefix-inputs start run.ledger ran.commits.continues);
+      committed = (far.remainder, committed);
       complete = (
         λ nothing. let none = far.nothing_remains refl nothing.ledger
             (none_at_all run.submitters answers among (λ submitter below. sym (ap any_stopped (theirs submitter below))
             ∙ nothing.replies submitter below)) in
-            sym (append-nil (committed_in run)) ∙ ap (λ rest. committed_in run ++ rest) (sym none) ∙ far.committed,
-        λ all. let none = none_after (committed_in run) far.remainder (far.committed ∙ sym all) in
+            sym (append-nil (committed_in run)) ∙ ap (λ rest. committed_in run ++ rest) (sym none) ∙ committed,
+        λ all. let none = none_after (committed_in run) far.remainder (committed ∙ sym all) in
             record {
               ledger = (far.nothing_stopped none).0;
               replies = λ submitter below. ap any_stopped (theirs submitter below)
                   ∙ none_among (λ (reply : ReplyValue). reply.submitter == submitter) answers (far.nothing_stopped none).1;
             },
       );
-      state = ran.commits.state;
+      state = ran.commits.state ∙ ap (λ clock. replay clock journal) (sym ran.commits.from);
       replied = λ submitter below. theirs submitter below ∙ ap (λ rs. replies_to rs submitter) is_due;
     }
 
 -- if neither stopped, a list has been run whole
 pub run_is_listed : (clock : ℕ) (items : List Item) (ledger : LedgerState) (answers : List ReplyValue)
-    (run : Ran clock items ledger answers) → ledger.stopped ≡ false → run.stopped ≡ false
+    (run : Ran (new_ledger clock) items ledger answers) → ledger.stopped ≡ false → run.stopped ≡ false
     → IsListed clock items ledger answers
 run_is_listed clock items ledger answers run goes on =
-    let far = run_so_far clock items ledger answers run in
+    let far = run_so_far (new_ledger clock) items ledger answers run in
     let all = sym (append-nil (inputs ledger)) ∙ far.whole on goes in
     record {
       from = run.commits.from;
       goes_on = goes;
       committed = all;
       replied = far.replied refl
-          ∙ ap (all_due clock items) all;
+          ∙ ap (all_due clock 0 items) all;
     }

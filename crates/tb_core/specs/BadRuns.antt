@@ -1,6 +1,6 @@
--- Kinds of runs that nobody wants. No run with a headline is of one of the first fifteen; each says at its name which fields
+-- Kinds of runs that nobody wants. No run with a headline is of one of the first seventeen; each says at its name which fields
 -- exclude it. Of the last two there are runs with a headline.
-use Rattle.std.specs.Prelude.{◌≡◌, ◌≢◌, ◌<◌, ◌≤◌, ℕ, true, false, List, [], ◌∷◌, map, take, slice_get, Some, if◌then◌else◌, ◌==◌}
+use Rattle.std.specs.Prelude.{◌≡◌, ◌≢◌, ◌<◌, ◌≤◌, ℕ, true, false, List, [], ◌∷◌, length, map, take, slice_get, Some, if◌then◌else◌, ◌==◌}
 use Rattle.tb_layout.specs.declared.answer.Answer.{Answer}
 use Rattle.tb_layout.specs.Events.{Events, Input, Packet, Pulse}
 use Rattle.tb_machine.specs.Replay.{replay, answer_of, opening}
@@ -13,7 +13,8 @@ use Rattle.tb_work.specs.declared.outcome.Outcome.{Outcome}
 use Rattle.tb_work.specs.declared.outcome.Outcome.TheVariants.{Committed, Shutdown, Stopped}
 use Rattle.tb_work.specs.declared.packet.Packet as packet
 use Rattle.tb_core.specs.EachSubmitter.{moments_in, moments_queued}
-use Rattle.tb_core.specs.EndedRun.{Run, committed_in, ahead_in, NothingStopped}
+use Rattle.tb_core.specs.Journal.{inputs}
+use Rattle.tb_core.specs.EndedRun.{Run, committed_in, ahead_in, IsPrefix, NothingStopped}
 use Rattle.tb_core.specs.Due.{due}
 use Rattle.tb_core.specs.Headline.{Headline, IsIn, numbered_of, packets_queued}
 
@@ -62,7 +63,17 @@ ChangesPlaces run =
 
 -- excluded by `state`: the machine's state isn't that of the journal
 abbrev pub ForgetsTheState : Run → Type 0
-ForgetsTheState run = run.ledger.state ≢ replay run.ledger.opening (committed_in run)
+ForgetsTheState run = run.ledger.state ≢ replay run.ledger.opening (inputs run.ledger)
+
+-- excluded by `continues`: what was committed before the run isn't the journal's head any more
+abbrev pub LosesTheJournal : Run → Type 0
+LosesTheJournal run = IsPrefix run.before (inputs run.ledger) → ⊥
+
+-- excluded by `answered`: a packet is said to be committed at a place of an earlier run
+abbrev pub CountsPlacesAnew : Run → Type 0
+CountsPlacesAnew run =
+    (submitter : ℕ) × (place : ℕ) × (reply : ReplyValue) × (answer : Answer) × IsReplyTo run submitter reply
+    × (reply.outcome ≡ Committed place answer) × (place < length run.before)
 
 abbrev pub AllSay : Outcome → Run → Type 0
 AllSay outcome run = (submitter : ℕ) (reply : ReplyValue) → IsReplyTo run submitter reply → reply.outcome ≡ outcome
@@ -121,7 +132,7 @@ abbrev pub AnswersAnotherwise : Run → Type 0
 AnswersAnotherwise run =
     (submitter : ℕ) × (place : ℕ) × (reply : ReplyValue) × (answer : Answer) × IsReplyTo run submitter reply
     × (reply.outcome ≡ Committed place answer)
-    × (answer ≢ answer_of (replay run.ledger.opening (take place (committed_in run))) (events_in reply.packet))
+    × (answer ≢ answer_of (replay run.ledger.opening (take place (inputs run.ledger))) (events_in reply.packet))
 
 -- excluded by `queued`: what a sender queued is never popped
 abbrev pub LosesAnItem : Run → Type 0
@@ -140,11 +151,11 @@ stopped_at_once run =
     record run {
       ledger = record {
         opening = run.ledger.opening;
-        groups = [];
-        state = opening run.ledger.opening;
+        groups = run.before ∷ [];
+        state = replay run.ledger.opening run.before;
         stopped = true;
       };
-      replies = due run.ledger.opening run.queue [];
+      replies = due run.ledger.opening (length run.before) run.queue run.before;
     }
 
 -- A headline doesn't say that a pipeline stops only if it must.
@@ -160,6 +171,7 @@ closed_first packet =
       queue = record { sender = 1; item = item.Close } ∷ record { sender = 0; item = item.Packet job }
           ∷ record { sender = 0; item = item.End } ∷ [];
       queued = λ sender. if sender == 0 then item.Packet job ∷ item.End ∷ [] else item.Close ∷ [];
+      before = [];
       ledger = record { opening = 0; groups = []; state = opening 0; stopped = false };
       replies = λ submitter. if submitter == 0 then reply_with Shutdown job ∷ [] else [];
     }

@@ -12,7 +12,7 @@ use Rattle.tb_core.specs.declared.parcel.Parcel.{Parcel}
 use Rattle.tb_core.specs.declared.parcel.Parcel.TheVariants as parcel
 use Rattle.tb_core.specs.Grouping.{AreJoined}
 use Rattle.tb_core.specs.inside.Decision.{Decision}
-use Rattle.tb_core.specs.Journal.{LedgerState}
+use Rattle.tb_core.specs.Journal.{LedgerState, groups_since}
 use Rattle.tb_core.specs.Ledger.{group_of, IsEntry, AreEntries, apply_result, apply_step}
 use Rattle.tb_core.specs.Run.{Commits}
 
@@ -87,10 +87,10 @@ abbrev pub Applies : Parcel → BareLedgerState → Outcomes → BareLedgerState
 Applies handed old outcomes new =
     (refused : Bool) × (entry : Option Entry) × (refused ≡ true → IsBatch handed) × Records refused handed old outcomes entry new
 
--- from a clock on a bare ledger took these decisions, in groups lawful under a limit; these are the replies
-pub record HasSent (clock limit : ℕ) (decisions : List Decision) (bare : BareLedgerState)
+-- since it was `start` a bare ledger took these decisions, in groups lawful under a limit; these are the replies
+pub record HasSent (start : LedgerState) (limit : ℕ) (decisions : List Decision) (bare : BareLedgerState)
     (replies : List ReplyValue) : Type 0 where
   pub groups : List (List Input)
   pub committed : HasCommitted bare groups
-  pub commits : Commits clock decisions (with_journal bare groups) replies
-  pub joined : AreJoined limit groups
+  pub commits : Commits start decisions (with_journal bare groups) replies
+  pub joined : AreJoined limit (groups_since start (with_journal bare groups))

@@ -12,7 +12,8 @@ use Rattle.tb_work.specs.declared.item.Ticket.{Ticket}
 use Rattle.tb_work.specs.declared.outcome.Outcome.{Outcome}
 use Rattle.tb_work.specs.declared.outcome.Outcome.TheVariants.{Committed, Shutdown, Stopped}
 
--- An item of a queue is ahead of the Close, after `k` packets and pulses, or behind the Close.
+-- An item of a queue is ahead of the Close, after `k` packets and pulses, those of earlier runs included, or behind the
+-- Close.
 pub data Place : Type 0 where
   Ahead : ℕ → Place
   Behind : Place
@@ -44,13 +45,14 @@ all_due_from clock inputs place [] = []
 all_due_from clock inputs place (item ∷ items) =
     reply_due (outcome_at clock inputs place) item ++ all_due_from clock inputs (next_place place item) items
 
--- the replies to a queue's packets, in order
-abbrev pub all_due : ℕ → List Item → List Input → List ReplyValue
-all_due clock items inputs = all_due_from clock inputs (Ahead 0) items
+-- the replies to a queue's packets, in order, if this number of packets and pulses had been committed before the queue's
+-- first
+abbrev pub all_due : ℕ → ℕ → List Item → List Input → List ReplyValue
+all_due clock before items inputs = all_due_from clock inputs (Ahead before) items
 
 abbrev pub replies_to : List ReplyValue → ℕ → List ReplyValue
 replies_to replies submitter = filter (λ (reply : ReplyValue). reply.submitter == submitter) replies
 
 -- the replies to a submitter's packets, in order
-abbrev pub due : ℕ → List Ticket → List Input → ℕ → List ReplyValue
-due clock queue inputs submitter = replies_to (all_due clock (items_in queue) inputs) submitter
+abbrev pub due : ℕ → ℕ → List Ticket → List Input → ℕ → List ReplyValue
+due clock before queue inputs submitter = replies_to (all_due clock before (items_in queue) inputs) submitter

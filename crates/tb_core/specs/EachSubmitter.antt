@@ -1,5 +1,5 @@
 -- What the headline says of each submitter, of the control's pulses, and of each packet committed.
-use Rattle.std.specs.Prelude.{◌≡◌, ◌<◌, ℕ, ◌==◌, Bool, false, List, [], ◌∷◌, map, filter, slice_get, Some}
+use Rattle.std.specs.Prelude.{◌≡◌, ◌<◌, ℕ, ◌+◌, ◌==◌, Bool, false, List, [], ◌∷◌, length, map, filter, slice_get, Some}
 use Rattle.tb_layout.specs.declared.answer.Answer.{Answer}
 use Rattle.tb_layout.specs.Events.{Events, Input, Packet, Pulse}
 use Rattle.tb_work.specs.Packet.{ReplyValue, input_of}
@@ -54,6 +54,6 @@ pub record IsAnsweredAt (run : Run) (place submitter number : ℕ) (events : Eve
 
 abbrev pub CommittedAreAnswered : Type 0
 CommittedAreAnswered =
-    (run : Run) → Headline run → (place submitter number : ℕ) (events : Events)
-    → slice_get (committed_in run) place ≡ Some (Packet submitter number events)
-    → IsAnsweredAt run place submitter number events
+    (run : Run) → Headline run → (index submitter number : ℕ) (events : Events)
+    → slice_get (committed_in run) index ≡ Some (Packet submitter number events)
+    → IsAnsweredAt run (length run.before + index) submitter number events

@@ -1,5 +1,5 @@
 -- A run whose threads have ended.
-use Rattle.std.specs.Prelude.{◌≡◌, ℕ, ◌<◌, Bool, true, false, List, ◌++◌}
+use Rattle.std.specs.Prelude.{◌≡◌, ℕ, ◌<◌, Bool, true, false, List, ◌++◌, drop, length}
 use Rattle.std.specs.List.{list_any}
 use Rattle.tb_layout.specs.Events.{Input}
 use Rattle.tb_work.specs.Ahead.{ahead, items_in}
@@ -11,16 +11,19 @@ use Rattle.tb_work.specs.declared.item.Ticket.{Ticket}
 use Rattle.tb_core.specs.Journal.{LedgerState, inputs}
 
 -- `queue` is as the intake popped it, `queued` what each sender queued itself. The control is the sender after the last
--- submitter.
+-- submitter. `before` is what the ledger had committed when the run began, in this and in all earlier runs: nothing if the
+-- ledger was new.
 pub record Run : Type 0 where
   pub submitters : ℕ
   pub queue : List Ticket
   pub queued : ℕ → List Item
+  pub before : List Input
   pub ledger : LedgerState
   pub replies : ℕ → List ReplyValue
 
+-- what this run committed
 abbrev pub committed_in : Run → List Input
-committed_in run = inputs run.ledger
+committed_in run = drop (length run.before) (inputs run.ledger)
 
 abbrev pub ahead_in : Run → List Input
 ahead_in run = ahead (items_in run.queue)

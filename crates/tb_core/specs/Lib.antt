@@ -5,6 +5,7 @@ pub mod Report
 pub mod Headline
 pub mod EachSubmitter
 pub mod BadRuns
+pub mod TwoRuns
 pub mod Front
 pub mod Grouping
 pub mod Ledger

@@ -158,6 +158,8 @@ impl BareLedger {
     ghost use Rattle.tb_core.specs.Grouping.{IsJoinedParcel};
     ghost use Rattle.tb_core.specs.inside.Decision.{Decision};
     ghost use Rattle.tb_core.specs.Run.{HasPackets, replies_in};
+    ghost use Rattle.tb_core.specs.Journal.{LedgerState};
+    ghost use Rattle.tb_core.specs.Ledger.{new_ledger};
     ghost use Rattle.tb_core.specs.BareLedger.{new_bare_ledger, halts, Applies, HasSent, IsBatch, IsEntryIf, Records};
 
     /// Returns a ledger that has committed nothing, whose clock starts at a number of nanoseconds, 0 to `CLOCK_MAX`,
@@ -165,7 +167,7 @@ impl BareLedger {
     pub fn with_seed(alloc: Global, clock: u64, seed: Seed) -> BareLedger
         requires { clock ≤ clock_max }
         ensures new { result ≡ new_bare_ledger clock }
-        ensures sent { (limit : ℕ) → HasSent clock limit [] result [] }
+        ensures sent { (limit : ℕ) → HasSent (new_ledger clock) limit [] result [] }
     {
         BareLedger {
             opening: clock,
@@ -314,9 +316,9 @@ impl BareLedger {
     /// Applies one parcel, and returns its outcomes, as `Ledger::apply` does. It takes memory for the facts.
     pub fn apply(&mut self, parcel: Parcel) -> Outcomes
         ensures applied { Applies parcel self.old result self.new }
-        ensures sent { (clock limit : ℕ) (decisions : List Decision) (replies : List ReplyValue)
-            → IsJoinedParcel limit parcel → HasSent clock limit decisions self.old replies
-            → HasSent clock limit (decisions ++ decisions_in parcel) self.new (replies ++ replies_in result) }
+        ensures sent { (start : LedgerState) (limit : ℕ) (decisions : List Decision) (replies : List ReplyValue)
+            → IsJoinedParcel limit parcel → HasSent start limit decisions self.old replies
+            → HasSent start limit (decisions ++ decisions_in parcel) self.new (replies ++ replies_in result) }
     {
         match self.try_record(parcel) {
             Ok(Recorded { outcomes, entry }) => {

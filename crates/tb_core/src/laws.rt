@@ -4,9 +4,10 @@
 ghost use Rattle.tb_core.specs.BadRuns.{Excludes, CommitsAStranger, ShutsDownACommitted, StopsACommitted, DropsPulses};
 ghost use Rattle.tb_core.specs.BadRuns.{ChangesPlaces, ForgetsTheState, CommitsNothingRunning, CommitsNothingStopped};
 ghost use Rattle.tb_core.specs.BadRuns.{InventsAPacket, InventsAPulse, Overtakes, GivesAnothersReply, StopsBehindTheClose};
-ghost use Rattle.tb_core.specs.BadRuns.{AnswersAnotherwise, LosesAnItem, MayStopAtOnce, MayPopTheCloseFirst};
+ghost use Rattle.tb_core.specs.BadRuns.{LosesTheJournal, CountsPlacesAnew, AnswersAnotherwise, LosesAnItem, MayStopAtOnce, MayPopTheCloseFirst};
 ghost use Rattle.tb_core.specs.EachSubmitter.{CommittedOfEachSubmitter, PulsesAreTheControls, CommittedAreAnswered};
 ghost use Rattle.tb_core.specs.Report.{ReportsHeadline};
+ghost use Rattle.tb_core.specs.TwoRuns.{TwoRunsAreOne};
 ghost use Rattle.tb_core.specs.Run.{EachPartIsLawful, RunIsLawful};
 
 /// Establishes that the report on a run is lawful, also if an allocation failed: a front and a ledger took all of its
@@ -36,6 +37,12 @@ pub fn committed_are_answered()
     ensures { CommittedAreAnswered }
 {}
 
+/// Establishes that two runs over one ledger are as one: the second was begun with the ledger that the first ended with, so
+/// places count on, and what the first answered stays true.
+pub fn two_runs_are_one()
+    ensures { TwoRunsAreOne }
+{}
+
 /// Establishes which runs have no headline: one clause for each kind of bad run.
 pub fn bad_runs_are_excluded()
     ensures stranger { Excludes CommitsAStranger }
@@ -45,6 +52,8 @@ pub fn bad_runs_are_excluded()
     ensures dropped_pulses { Excludes DropsPulses }
     ensures changed_places { Excludes ChangesPlaces }
     ensures state { Excludes ForgetsTheState }
+    ensures lost_journal { Excludes LosesTheJournal }
+    ensures places_anew { Excludes CountsPlacesAnew }
     ensures nothing_running { Excludes CommitsNothingRunning }
     ensures nothing_stopped { Excludes CommitsNothingStopped }
     ensures invented_packet { Excludes InventsAPacket }

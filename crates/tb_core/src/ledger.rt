@@ -10,6 +10,7 @@ use crate::outcomes::Outcomes;
 use crate::parcel::Parcel;
 use std::alloc::Global;
 use std::marker::Model;
+use std::snapshot::Snapshot;
 use tb_layout::NoMemory;
 use tb_machine::{Machine, Seed};
 
@@ -59,7 +60,8 @@ impl Ledger {
     ghost use Rattle.tb_core.specs.Grouping.{AreJoined, IsJoinedParcel};
     ghost use Rattle.tb_core.specs.inside.Decision.{Decision};
     ghost use Rattle.tb_core.specs.Run.{Commits, HasPackets, replies_in};
-    ghost use Rattle.tb_core.specs.Journal.{inputs};
+    ghost use Rattle.tb_core.specs.EndedRun.{IsPrefix};
+    ghost use Rattle.tb_core.specs.Journal.{LedgerState, inputs, groups_since};
     ghost use Rattle.tb_core.specs.Ledger.{apply_result, apply_step, new_ledger, takes_memory, group_of, AreEntries};
 
     /// Returns a ledger without entries, whose clock starts at a number of nanoseconds, 0 to `CLOCK_MAX`. Takes no
@@ -67,7 +69,7 @@ impl Ledger {
     pub fn new(alloc: Global, clock: u64) -> Ledger
         requires { clock ≤ clock_max }
         ensures ledger { result ≡ new_ledger clock }
-        ensures commits { Commits clock [] result [] }
+        ensures commits { Commits (new_ledger clock) [] result [] }
     {
         Ledger::with_seed(alloc, clock, Seed::default())
     }
@@ -77,12 +79,24 @@ impl Ledger {
     pub fn with_seed(alloc: Global, clock: u64, seed: Seed) -> Ledger
         requires { clock ≤ clock_max }
         ensures ledger { result ≡ new_ledger clock }
-        ensures commits { Commits clock [] result [] }
+        ensures commits { Commits (new_ledger clock) [] result [] }
     {
         Ledger {
             bare: BareLedger::with_seed(alloc, clock, seed),
             entries: Vec::new(alloc),
         }
+    }
+
+    /// Establishes that a run may begin with this ledger unless it has stopped, whatever it committed before: places count
+    /// on, and answers come from the state that it has. Returns a ghost copy, by which contracts say what was added since.
+    pub fn begin(&self) -> Snapshot<Ledger>
+        ensures start { result.value ≡ self.now }
+        ensures commits { self.now.stopped ≡ false → Commits self.now [] self.now [] }
+        ensures joined { (limit : ℕ) → AreJoined limit (groups_since self.now self.now) }
+    {
+        // The law that the machine is in the state that the journal gives.
+        let _ = self.machine();
+        Snapshot::of(self)
     }
 
     /// Reserves capacity for accounts and transfers that are still to be made. Until then no commit waits for their maps
@@ -153,11 +167,12 @@ impl Ledger {
     /// Applies one parcel as `apply` does if its allocation fails. Takes no memory.
     pub fn apply_as_refused(&mut self, parcel: Parcel) -> Outcomes
         ensures applied { apply_result self.new result ≡ apply_step true self.old parcel }
-        ensures commits { (clock : ℕ) (decisions : List Decision) (replies : List ReplyValue)
-            → Commits clock decisions self.old replies
-            → Commits clock (decisions ++ decisions_in parcel) self.new (replies ++ replies_in result) }
-        ensures joined { (limit : ℕ) → IsJoinedParcel limit parcel → AreJoined limit self.old.groups
-            → AreJoined limit self.new.groups }
+        ensures commits { (start : LedgerState) (decisions : List Decision) (replies : List ReplyValue)
+            → Commits start decisions self.old replies
+            → Commits start (decisions ++ decisions_in parcel) self.new (replies ++ replies_in result) }
+        ensures joined { (start : LedgerState) (limit : ℕ) → IsPrefix start.groups self.old.groups
+            → IsJoinedParcel limit parcel → AreJoined limit (groups_since start self.old)
+            → AreJoined limit (groups_since start self.new) }
     {
         self.bare.refuse(parcel)
     }
@@ -168,11 +183,12 @@ impl Ledger {
     /// Stopped. It takes memory for the facts and for the journal.
     pub fn apply(&mut self, parcel: Parcel) -> Outcomes
         ensures applied { (refused : Bool) × (apply_result self.new result ≡ apply_step refused self.old parcel) }
-        ensures commits { (clock : ℕ) (decisions : List Decision) (replies : List ReplyValue)
-            → Commits clock decisions self.old replies
-            → Commits clock (decisions ++ decisions_in parcel) self.new (replies ++ replies_in result) }
-        ensures joined { (limit : ℕ) → IsJoinedParcel limit parcel → AreJoined limit self.old.groups
-            → AreJoined limit self.new.groups }
+        ensures commits { (start : LedgerState) (decisions : List Decision) (replies : List ReplyValue)
+            → Commits start decisions self.old replies
+            → Commits start (decisions ++ decisions_in parcel) self.new (replies ++ replies_in result) }
+        ensures joined { (start : LedgerState) (limit : ℕ) → IsPrefix start.groups self.old.groups
+            → IsJoinedParcel limit parcel → AreJoined limit (groups_since start self.old)
+            → AreJoined limit (groups_since start self.new) }
     {
         match self.try_apply(parcel) {
             Ok(outcomes) => outcomes,

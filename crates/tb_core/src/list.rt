@@ -8,6 +8,8 @@ ghost use Rattle.tb_work.specs.declared.item.Item.{Item as ItemValue};
 ghost use Rattle.tb_core.specs.Front.{all_decisions_in, decisions_in};
 ghost use Rattle.tb_core.specs.Grouping.{AreWithin, IsGrouping, IsJoinedParcel, AreJoinedParcels};
 ghost use Rattle.tb_core.specs.inside.Decision.{Decision};
+ghost use Rattle.tb_core.specs.Journal.{LedgerState};
+ghost use Rattle.tb_core.specs.Ledger.{new_ledger};
 ghost use Rattle.tb_core.specs.Run.{IsListed, HasNotStopped, IsRunning, IsDrained, Ran, replies_in};
 
 use crate::front::Front;
@@ -55,9 +57,9 @@ fn put(outcomes: Outcomes, replies: &mut Vec<Reply>) -> Result<(), NoMemory>
 /// Applies a parcel to a ledger that hasn't stopped, and keeps the replies. A ledger that stops means here that memory
 /// ran out.
 fn apply(ledger: &mut Ledger, replies: &mut Vec<Reply>, parcel: Parcel) -> Result<(), NoMemory>
-    ensures { (clock : ℕ) (limit : ℕ) (sent : List Decision) → IsJoinedParcel limit parcel
-        → HasNotStopped clock limit sent ledger.old replies.old.items
-        → OnOk result (HasNotStopped clock limit (sent ++ decisions_in parcel) ledger.new replies.new.items) }
+    ensures { (start : LedgerState) (limit : ℕ) (sent : List Decision) → IsJoinedParcel limit parcel
+        → HasNotStopped start limit sent ledger.old replies.old.items
+        → OnOk result (HasNotStopped start limit (sent ++ decisions_in parcel) ledger.new replies.new.items) }
 {
     match ledger.try_apply(parcel) {
         Ok(outcomes) => {
@@ -81,9 +83,9 @@ fn apply_all(
     parcels: &mut ArrayVec<Parcel, 2>,
 ) -> Result<(), NoMemory>
     ensures none { OnOk result (parcels.new.items ≡ []) }
-    ensures applied { (clock : ℕ) (limit : ℕ) (sent : List Decision) → AreJoinedParcels limit parcels.old.items
-        → HasNotStopped clock limit sent ledger.old replies.old.items
-        → OnOk result (HasNotStopped clock limit (sent ++ all_decisions_in parcels.old.items) ledger.new replies.new.items) }
+    ensures applied { (start : LedgerState) (limit : ℕ) (sent : List Decision) → AreJoinedParcels limit parcels.old.items
+        → HasNotStopped start limit sent ledger.old replies.old.items
+        → OnOk result (HasNotStopped start limit (sent ++ all_decisions_in parcels.old.items) ledger.new replies.new.items) }
 {
     while let Some(parcel) = parcels.pop_at(0) {
         apply(ledger, replies, parcel)?;
@@ -104,9 +106,9 @@ impl Listing {
     fn take(&mut self, parcels: &mut ArrayVec<Parcel, 2>, item: Item) -> Result<(), NoMemory>
         requires { parcels.old.items ≡ [] }
         ensures none { OnOk result (parcels.new.items ≡ []) }
-        ensures runs { (clock : ℕ) (limit : ℕ) (items : List ItemValue)
-            → IsRunning clock limit items self.old.front self.old.ledger self.old.replies.items
-            → OnOk result (IsRunning clock limit (items ++ item ∷ []) self.new.front self.new.ledger
+        ensures runs { (start : LedgerState) (limit : ℕ) (items : List ItemValue)
+            → IsRunning start limit items self.old.front self.old.ledger self.old.replies.items
+            → OnOk result (IsRunning start limit (items ++ item ∷ []) self.new.front self.new.ledger
             self.new.replies.items) }
     {
         let mut ticket = Ticket { sender: 0, item };
@@ -118,9 +120,9 @@ impl Listing {
 
     /// Takes items in order.
     fn take_all(&mut self, items: Vec<Item>) -> Result<(), NoMemory>
-        ensures { (clock : ℕ) (limit : ℕ) → IsRunning clock limit [] self.old.front
+        ensures { (start : LedgerState) (limit : ℕ) → IsRunning start limit [] self.old.front
             self.old.ledger self.old.replies.items
-            → OnOk result (IsRunning clock limit items.items self.new.front self.new.ledger self.new.replies.items) }
+            → OnOk result (IsRunning start limit items.items self.new.front self.new.ledger self.new.replies.items) }
     {
         let mut parcels = ArrayVec::new();
         for item in items {
@@ -131,9 +133,9 @@ impl Listing {
 
     /// Applies the group that the front still holds.
     fn finish(&mut self) -> Result<(), NoMemory>
-        ensures { (clock : ℕ) (limit : ℕ) (items : List ItemValue)
-            → IsRunning clock limit items self.old.front self.old.ledger self.old.replies.items
-            → OnOk result (IsDrained clock limit items self.new.ledger self.new.replies.items) }
+        ensures { (start : LedgerState) (limit : ℕ) (items : List ItemValue)
+            → IsRunning start limit items self.old.front self.old.ledger self.old.replies.items
+            → OnOk result (IsDrained start limit items self.new.ledger self.new.replies.items) }
     {
         match self.front.idle() {
             Some(batch) => apply(&mut self.ledger, &mut self.replies, Parcel::Batch(batch)),
@@ -143,9 +145,9 @@ impl Listing {
 
     /// Takes items in order, and applies the group that is held after them.
     fn take_all_and_finish(&mut self, items: Vec<Item>) -> Result<(), NoMemory>
-        ensures { (clock : ℕ) (limit : ℕ) → IsRunning clock limit [] self.old.front
+        ensures { (start : LedgerState) (limit : ℕ) → IsRunning start limit [] self.old.front
             self.old.ledger self.old.replies.items
-            → OnOk result (IsDrained clock limit items.items self.new.ledger self.new.replies.items) }
+            → OnOk result (IsDrained start limit items.items self.new.ledger self.new.replies.items) }
     {
         self.take_all(items)?;
         self.finish()
@@ -161,7 +163,7 @@ pub fn run_list(alloc: Global, clock: u64, limit: u32, items: Vec<Item>) -> Resu
     requires least { 1 ≤ limit }
     requires most { limit ≤ batch_max }
     ensures listed { IfOk result (λ listed. IsListed clock items.items listed.ledger listed.replies.items) }
-    ensures ran { IfOk result (λ listed. Ran clock items.items listed.ledger listed.replies.items) }
+    ensures ran { IfOk result (λ listed. Ran (new_ledger clock) items.items listed.ledger listed.replies.items) }
     ensures grouping { AreWithin limit (ahead items.items)
         → IfOk result (λ listed. IsGrouping limit listed.ledger.groups) }
 {

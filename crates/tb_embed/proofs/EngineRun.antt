@@ -11,6 +11,7 @@ use Rattle.tb_work.specs.declared.packet.Packet.{Packet}
 use Rattle.tb_core.specs.Front.{held_by}
 use Rattle.tb_core.specs.inside.Decision.{Admitted, AreDecisions}
 use Rattle.tb_core.specs.BareLedger.{with_journal}
+use Rattle.tb_core.specs.Journal.{LedgerState}
 use Rattle.tb_core.specs.Run.{Commits, EachPartIsLawful, RunIsLawful}
 use Rattle.tb_embed.specs.Engine.{EngineState, HasTaken, Steps, Queues, sender_refusal, run_of, ServingIsLawful}
 use Rattle.tb_embed.specs.Queued.{AreQueued, packets_in, ticket_of, packet_ticket}
@@ -19,9 +20,9 @@ use Rattle.tb_embed.proofs.Queued.{IsNext, packet_queued, control_queued, passes
 -- what the front and the ledger make of one item more
 abbrev pub Takes : EngineState → Item → EngineState → Type 0
 Takes old x new =
-    (clock : ℕ) (items : List Item) (read : List ReplyValue)
-    → HasTaken clock items (read ++ old.unread) old.front old.ledger
-    → HasTaken clock (items ++ x ∷ []) (read ++ new.unread) new.front new.ledger
+    (start : LedgerState) (items : List Item) (read : List ReplyValue)
+    → HasTaken start items (read ++ old.unread) old.front old.ledger
+    → HasTaken start (items ++ x ∷ []) (read ++ new.unread) new.front new.ledger
 
 -- one ticket more, with what its sender may queue next
 serves_more : (old new : EngineState) (ticket : Ticket) (numbers : List ℕ) (shut : Bool) → Takes old ticket.item new
@@ -30,10 +31,10 @@ serves_more : (old new : EngineState) (ticket : Ticket) (numbers : List ℕ) (sh
     → AreQueued old.front.submitters (queue ++ ticket ∷ []) numbers shut)
     → Queues old ticket (record new { numbers = numbers; shut = shut })
 serves_more old new ticket numbers shut takes steps same more = record {
-  adds = λ clock queue read serves. record {
-    taken = subst (λ (items : List Item). HasTaken clock items (read ++ new.unread) new.front new.ledger)
+  adds = λ start queue read serves. record {
+    taken = subst (λ (items : List Item). HasTaken start items (read ++ new.unread) new.front new.ledger)
         (sym (map-append (λ (t : Ticket). t.item) queue (ticket ∷ [])))
-        (takes clock (items_in queue) read serves.taken);
+        (takes start (items_in queue) read serves.taken);
     queued = subst (λ n. AreQueued n (queue ++ ticket ∷ []) numbers shut) (sym same) (more queue serves.queued);
   };
   steps = steps;
@@ -74,17 +75,18 @@ pub is_among : (engine : EngineState) (submitter : ℕ) → sender_refusal engin
 is_among engine submitter is = grind arith
 
 pub serving_is_lawful : EachPartIsLawful → RunIsLawful → ServingIsLawful
-serving_is_lawful each_part run clock queue read engine serves =
+serving_is_lawful each_part run start queue read engine serves =
     let front = engine.front in
     let taken = serves.taken in
     let commits = taken.has_sent.commits in
     let ledger = with_journal engine.ledger taken.has_sent.groups in
-    let far = each_part clock (items_in queue) front.closed front.stopped taken.sent (held_by front) ledger
+    let far = each_part start (items_in queue) front.closed front.stopped taken.sent (held_by front) ledger
     (read ++ engine.unread) taken.passed commits in
     record {
       ledger = ledger;
       own = refl;
       opening = commits.from;
+      continues = commits.continues;
       replayed = commits.state;
       counted = taken.has_sent.committed.counted;
       joined = taken.has_sent.joined;
@@ -92,8 +94,8 @@ serving_is_lawful each_part run clock queue read engine serves =
       due = far.due;
       replied = λ none. far.replied (ap (map Admitted) none);
       whole = far.whole;
-      report = λ none done. run (run_of queue read engine ledger) read
-          (queue_ended front.submitters queue engine.numbers engine.shut serves.queued)
+      report = λ none done. run (run_of start queue read engine ledger) start read
+          (queue_ended front.submitters queue engine.numbers engine.shut serves.queued) refl
           (record {
             closed = front.closed;
             stopped = front.stopped;
@@ -101,8 +103,8 @@ serving_is_lawful each_part run clock queue read engine serves =
             passed = passes_ended (if engine.shut then front.submitters else front.submitters + 1) queue front.closed front.stopped taken.sent
                 (subst (AreDecisions (items_in queue) front.closed front.stopped)
                 (ap (λ jobs. taken.sent ++ map Admitted jobs) none ∙ append-nil taken.sent) taken.passed);
-            commits = subst (λ opened. Commits opened taken.sent ledger read) (sym commits.from)
-                (subst (Commits clock taken.sent ledger) (ap (λ replies. read ++ replies) done ∙ append-nil read) commits);
+            commits = subst (Commits start taken.sent ledger)
+                (ap (λ replies. read ++ replies) done ∙ append-nil read) commits;
           })
           (λ submitter below. refl);
     }

@@ -1,4 +1,5 @@
 mod Queued
+mod Opened
 mod Parcels
 mod EngineRun
 mod Replies

@@ -5,14 +5,15 @@ use Rattle.tb_core.specs.declared.parcel.Parcel.{Parcel}
 use Rattle.tb_core.specs.Front.{all_decisions_in}
 use Rattle.tb_core.specs.Grouping.{AreJoinedParcels}
 use Rattle.tb_core.specs.inside.Decision.{Decision}
+use Rattle.tb_core.specs.Journal.{LedgerState}
 use Rattle.tb_core.specs.BareLedger.{BareLedgerState, HasSent}
 
 -- all parcels in front of the rest were applied
-pub record AreApplied (clock limit : ℕ) (decisions : List Decision) (rest : List Parcel) (ledger : BareLedgerState)
+pub record AreApplied (start : LedgerState) (limit : ℕ) (decisions : List Decision) (rest : List Parcel) (ledger : BareLedgerState)
     (replies : List ReplyValue) : Type 0 where
   pub done : List Decision
   pub parts : done ++ all_decisions_in rest ≡ decisions
-  pub sent : HasSent clock limit done ledger replies
+  pub sent : HasSent start limit done ledger replies
   pub joined : AreJoinedParcels limit rest
 
 pub first_out : (parcels rest : List Parcel) (parcel : Parcel) → Some parcel ≡ slice_get parcels 0

@@ -9,7 +9,7 @@ use Rattle.tb_work.specs.declared.item.Item.TheVariants as item
 use Rattle.tb_work.specs.declared.item.Ticket.{Ticket}
 use Rattle.tb_core.specs.Due.{all_due_from, Place, Ahead, next_place}
 use Rattle.tb_core.specs.Front.{FrontState}
-use Rattle.tb_core.specs.Journal.{inputs}
+use Rattle.tb_core.specs.Journal.{LedgerState, inputs}
 use Rattle.tb_embed.specs.Engine.{EngineState, Serves, IsReply, AreReplies, RepliesCome, ServingIsLawful}
 use Rattle.tb_embed.specs.Queued.{packets_in}
 
@@ -24,53 +24,53 @@ due_counted clock journal place (item.Pulse moment ∷ items) =
 due_counted clock journal place (item.End ∷ items) = due_counted clock journal (next_place place item.End) items
 due_counted clock journal place (item.Close ∷ items) = due_counted clock journal (next_place place item.Close) items
 
-record AllCome (clock : ℕ) (queue : List Ticket) (read : List ReplyValue) (engine : EngineState)
+record AllCome (start : LedgerState) (queue : List Ticket) (read : List ReplyValue) (engine : EngineState)
     (results : List (Option ReplyValue)) (last : EngineState) : Type 0 where
   replies : results ≡ map Some engine.unread
   empty : last.unread ≡ []
-  serves : Serves clock queue (read ++ engine.unread) last
+  serves : Serves start queue (read ++ engine.unread) last
   same : last.front ≡ engine.front
 
-all_come : (clock : ℕ) (queue : List Ticket) (read : List ReplyValue) (engine last : EngineState)
-    (results : List (Option ReplyValue)) → Serves clock queue read engine → length results ≡ length engine.unread
-    → AreReplies engine results last → AllCome clock queue read engine results last
-all_come clock queue read engine last [] serves as_many are =
+all_come : (start : LedgerState) (queue : List Ticket) (read : List ReplyValue) (engine last : EngineState)
+    (results : List (Option ReplyValue)) → Serves start queue read engine → length results ≡ length engine.unread
+    → AreReplies engine results last → AllCome start queue read engine results last
+all_come start queue read engine last [] serves as_many are =
     let empty : engine.unread ≡ [] = nil_from_length engine.unread (sym as_many) in
     record {
       replies = ap (map Some) (sym empty);
       empty = ap (λ (engine : EngineState). engine.unread) are ∙ empty;
-      serves = subst (λ (read : List ReplyValue). Serves clock queue read last)
+      serves = subst (λ (read : List ReplyValue). Serves start queue read last)
           (sym (ap (λ (unread : List ReplyValue). read ++ unread) empty ∙ append-nil read))
-          (subst (Serves clock queue read) (sym are) serves);
+          (subst (Serves start queue read) (sym are) serves);
       same = ap (λ (engine : EngineState). engine.front) are;
     }
-all_come clock queue read engine last (None ∷ results) serves as_many (middle, (empty, same), are) =
+all_come start queue read engine last (None ∷ results) serves as_many (middle, (empty, same), are) =
     absurd (omega (arith, as_many, ap length empty))
-all_come clock queue read engine last (Some reply ∷ results) serves as_many (middle, (reads, unread), are) =
-    let others = all_come clock queue (read ++ reply ∷ []) middle last results (reads.adds clock queue read serves)
+all_come start queue read engine last (Some reply ∷ results) serves as_many (middle, (reads, unread), are) =
+    let others = all_come start queue (read ++ reply ∷ []) middle last results (reads.adds start queue read serves)
     (omega (arith, as_many, ap length unread)) are in
     record {
       replies = ap (λ (results : List (Option ReplyValue)). Some reply ∷ results) others.replies
           ∙ ap (map Some) (sym unread);
       empty = others.empty;
-      serves = subst (λ (read : List ReplyValue). Serves clock queue read last)
+      serves = subst (λ (read : List ReplyValue). Serves start queue read last)
           (append_assoc read (reply ∷ []) middle.unread
           ∙ ap (λ (unread : List ReplyValue). read ++ unread) (sym unread)) others.serves;
       same = others.same ∙ reads.stays;
     }
 
 pub replies_come : ServingIsLawful → RepliesCome
-replies_come lawful clock queue read engine results last serves flushed as_many are =
-    let now = lawful clock queue read engine serves in
-    let come = all_come clock queue read engine last results serves
+replies_come lawful start queue read engine results last serves flushed as_many are =
+    let now = lawful start queue read engine serves in
+    let come = all_come start queue read engine last results serves
     (omega (
       arith,
       as_many,
       length-append read engine.unread,
       ap length (now.replied flushed),
-      due_counted clock (inputs now.ledger) (Ahead 0) (items_in queue),
+      due_counted start.opening (inputs now.ledger) (Ahead (length (inputs start))) (items_in queue),
     )) are in
-    let after = lawful clock queue (read ++ engine.unread) last come.serves in
+    let after = lawful start queue (read ++ engine.unread) last come.serves in
     let held : last.front.held ≡ [] = ap (λ (front : FrontState). front.held) come.same ∙ flushed in
     record {
       ledger = after.ledger;

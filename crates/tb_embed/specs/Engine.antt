@@ -13,11 +13,13 @@ use Rattle.tb_work.specs.declared.refusal.Refusal.TheVariants.{BadSubmitters, Fu
 use Rattle.tb_core.specs.Due.{all_due, replies_to}
 use Rattle.tb_core.specs.inside.Decision.{inputs_in, Decision, AreDecisions}
 use Rattle.tb_core.specs.Front.{FrontState, held_by, take_step, with_group}
-use Rattle.tb_core.specs.Journal.{LedgerState, inputs}
+use Rattle.tb_layout.specs.Events.{Input}
+use Rattle.tb_core.specs.Journal.{LedgerState, inputs, groups_since, inputs_since}
+use Rattle.tb_core.specs.Ledger.{new_ledger}
 use Rattle.tb_core.specs.EndedRun.{Run, IsPrefix}
 use Rattle.tb_core.specs.Grouping.{AreJoined}
 use Rattle.tb_core.specs.Report.{LawfulReport}
-use Rattle.tb_core.specs.BareLedger.{BareLedgerState, HasSent, with_journal}
+use Rattle.tb_core.specs.BareLedger.{BareLedgerState, HasCommitted, HasSent, with_journal}
 use Rattle.tb_embed.specs.Queued.{AreQueued, ended_queue, packets_in}
 
 -- the front, the bare ledger, the replies that are not read, of each submitter the number of its next packet, and whether
@@ -49,23 +51,34 @@ has_stopped engine = engine.ledger.stopped
 
 -- ---- what a call adds to the run so far
 
--- from a clock on a front took these items and a ledger all that the front passed on; these are the replies
-pub record HasTaken (clock : ℕ) (items : List Item) (replies : List ReplyValue) (front : FrontState)
+-- a front took these items and a ledger, since it was `start`, all that the front passed on; these are the replies
+pub record HasTaken (start : LedgerState) (items : List Item) (replies : List ReplyValue) (front : FrontState)
     (ledger : BareLedgerState) : Type 0 where
   pub sent : List Decision
   pub passed : AreDecisions items front.closed front.stopped (sent ++ held_by front)
-  pub has_sent : HasSent clock front.limit sent ledger replies
+  pub has_sent : HasSent start front.limit sent ledger replies
 
--- from a clock on this is what was queued in the engine, and these replies were read
-pub record Serves (clock : ℕ) (queue : List Ticket) (read : List ReplyValue) (engine : EngineState) : Type 0 where
-  pub taken : HasTaken clock (items_in queue) (read ++ engine.unread) engine.front engine.ledger
+-- since its ledger was `start` this is what was queued in the engine, and these replies were read
+pub record Serves (start : LedgerState) (queue : List Ticket) (read : List ReplyValue) (engine : EngineState) : Type 0 where
+  pub taken : HasTaken start (items_in queue) (read ++ engine.unread) engine.front engine.ledger
   pub queued : AreQueued engine.front.submitters queue engine.numbers engine.shut
 
 -- an engine that was opened with these, in which nothing was queued
 pub record IsOpened (clock limit submitters : ℕ) (engine : EngineState) : Type 0 where
-  pub serves : Serves clock [] [] engine
+  pub serves : Serves (new_ledger clock) [] [] engine
   pub limited : engine.front.limit ≡ limit
   pub counted : engine.front.submitters ≡ submitters
+
+-- the same over a ledger that an earlier engine left, whatever groups that one committed
+pub record IsOpenedOver (ledger : BareLedgerState) (limit submitters : ℕ) (engine : EngineState) : Type 0 where
+  pub serves : (groups : List (List Input)) → HasCommitted ledger groups → Serves (with_journal ledger groups) [] [] engine
+  pub own : engine.ledger ≡ ledger
+  pub limited : engine.front.limit ≡ limit
+  pub counted : engine.front.submitters ≡ submitters
+
+-- nothing is held, and all replies were read
+abbrev pub HoldsNothing : EngineState → Type 0
+HoldsNothing engine = (engine.front.held ≡ []) × (engine.unread ≡ [])
 
 -- a front took a ticket, for which there was memory
 abbrev pub Steps : FrontState → Ticket → FrontState → Type 0
@@ -73,20 +86,20 @@ Steps old ticket new = new ≡ (take_step false old ticket.sender ticket.item).f
 
 -- the call added this ticket to what was queued, and the front took it
 pub record Queues (old : EngineState) (ticket : Ticket) (new : EngineState) : Type 0 where
-  pub adds : (clock : ℕ) (queue : List Ticket) (read : List ReplyValue) → Serves clock queue read old
-      → Serves clock (queue ++ ticket ∷ []) read new
+  pub adds : (start : LedgerState) (queue : List Ticket) (read : List ReplyValue) → Serves start queue read old
+      → Serves start (queue ++ ticket ∷ []) read new
   pub steps : Steps old.front ticket new.front
 
 -- the call added this reply to those that were read, and committed nothing
 pub record Reads (old : EngineState) (reply : ReplyValue) (new : EngineState) : Type 0 where
-  pub adds : (clock : ℕ) (queue : List Ticket) (read : List ReplyValue) → Serves clock queue read old
-      → Serves clock queue (read ++ reply ∷ []) new
+  pub adds : (start : LedgerState) (queue : List Ticket) (read : List ReplyValue) → Serves start queue read old
+      → Serves start queue (read ++ reply ∷ []) new
   pub stays : new.front ≡ old.front
 
 -- the call added nothing, and the group held was sealed
 pub record Continues (old new : EngineState) : Type 0 where
-  pub adds : (clock : ℕ) (queue : List Ticket) (read : List ReplyValue) → Serves clock queue read old
-      → Serves clock queue read new
+  pub adds : (start : LedgerState) (queue : List Ticket) (read : List ReplyValue) → Serves start queue read old
+      → Serves start queue read new
   pub seals : new.front ≡ with_group old.front []
 
 -- ---- refusals
@@ -130,42 +143,48 @@ IsRefusal first refusal = (first ≡ Some refusal) ⊎ ((first ≡ None) × (ref
 
 -- ---- what follows
 
--- the run that ends here, if this is the journal of what was committed: each sender's end is queued after all that it
--- queued
-abbrev pub run_of : List Ticket → List ReplyValue → EngineState → LedgerState → Run
-run_of queue read engine ledger =
+-- the run that ends here, if this is the journal of what was committed, which began as that of `start`: each sender's end is
+-- queued after all that it queued
+abbrev pub run_of : LedgerState → List Ticket → List ReplyValue → EngineState → LedgerState → Run
+run_of start queue read engine ledger =
     let whole = ended_queue engine.front.submitters engine.shut queue in
     record {
       submitters = engine.front.submitters;
       queue = whole;
       queued = λ sender. part sender whole;
+      before = inputs start;
       ledger = ledger;
       replies = replies_to read;
     }
 
--- The engine keeps no journal, but there is one whose replay is the engine's state, in groups lawful under the limit. It is
--- a prefix of what was queued ahead of the Close, and the replies, read and unread, are a prefix of those due by it. Unless
--- something stopped, what is ahead is committed or held. When nothing is held and all replies are read, the report on the
--- run that ends here is lawful.
-pub record IsServed (clock : ℕ) (queue : List Ticket) (read : List ReplyValue) (engine : EngineState) : Type 0 where
+-- the replies due to what was queued, in order, if this is the journal
+abbrev pub due_since : LedgerState → List Ticket → LedgerState → List ReplyValue
+due_since start queue ledger = all_due start.opening (length (inputs start)) (items_in queue) (inputs ledger)
+
+-- The engine keeps no journal, but there is one whose replay is the engine's state. It goes on from that of `start`, in groups
+-- lawful under the limit. What it adds is a prefix of what was queued ahead of the Close, and the replies, read and unread,
+-- are a prefix of those due by it. Unless something stopped, what is ahead is committed or held. When nothing is held and all
+-- replies are read, the report on the run that ends here is lawful.
+pub record IsServed (start : LedgerState) (queue : List Ticket) (read : List ReplyValue) (engine : EngineState) : Type 0 where
   pub ledger : LedgerState
   pub own : ledger ≡ with_journal engine.ledger ledger.groups
-  pub opening : ledger.opening ≡ clock
-  pub replayed : state_of engine ≡ replay clock (inputs ledger)
+  pub opening : ledger.opening ≡ start.opening
+  pub continues : IsPrefix start.groups ledger.groups
+  pub replayed : state_of engine ≡ replay start.opening (inputs ledger)
   pub counted : engine.ledger.places ≡ length (inputs ledger)
-  pub joined : AreJoined engine.front.limit ledger.groups
-  pub committed : IsPrefix (inputs ledger) (ahead (items_in queue))
-  pub due : IsPrefix (read ++ engine.unread) (all_due clock (items_in queue) (inputs ledger))
-  pub replied : engine.front.held ≡ [] → read ++ engine.unread ≡ all_due clock (items_in queue) (inputs ledger)
+  pub joined : AreJoined engine.front.limit (groups_since start ledger)
+  pub committed : IsPrefix (inputs_since start ledger) (ahead (items_in queue))
+  pub due : IsPrefix (read ++ engine.unread) (due_since start queue ledger)
+  pub replied : engine.front.held ≡ [] → read ++ engine.unread ≡ due_since start queue ledger
   pub whole : engine.front.stopped ≡ false → ledger.stopped ≡ false
-      → inputs ledger ++ inputs_in (held_by engine.front) ≡ ahead (items_in queue)
-  pub report : engine.front.held ≡ [] → engine.unread ≡ [] → LawfulReport (run_of queue read engine ledger)
+      → inputs_since start ledger ++ inputs_in (held_by engine.front) ≡ ahead (items_in queue)
+  pub report : engine.front.held ≡ [] → engine.unread ≡ [] → LawfulReport (run_of start queue read engine ledger)
 
 -- Whatever was queued and read, in any order of calls.
 abbrev pub ServingIsLawful : Type 0
 ServingIsLawful =
-    (clock : ℕ) (queue : List Ticket) (read : List ReplyValue) (engine : EngineState) → Serves clock queue read engine
-    → IsServed clock queue read engine
+    (start : LedgerState) (queue : List Ticket) (read : List ReplyValue) (engine : EngineState)
+    → Serves start queue read engine → IsServed start queue read engine
 
 -- ---- reading to the end
 
@@ -182,20 +201,20 @@ AreReplies old (result ∷ results) new =
 
 -- Each call returned a reply, and with those read before they are all that are due. The report is lawful, and any further call
 -- returns none.
-pub record HaveAllCome (clock : ℕ) (queue : List Ticket) (read : List ReplyValue) (engine : EngineState)
+pub record HaveAllCome (start : LedgerState) (queue : List Ticket) (read : List ReplyValue) (engine : EngineState)
     (results : List (Option ReplyValue)) (last : EngineState) : Type 0 where
   pub ledger : LedgerState
   pub replies : results ≡ map Some engine.unread
-  pub due : read ++ engine.unread ≡ all_due clock (items_in queue) (inputs ledger)
-  pub report : LawfulReport (run_of queue (read ++ engine.unread) last ledger)
+  pub due : read ++ engine.unread ≡ due_since start queue ledger
+  pub report : LawfulReport (run_of start queue (read ++ engine.unread) last ledger)
   pub none : (result : Option ReplyValue) (next : EngineState) → IsReply last result next → result ≡ None
 
 -- Whatever was queued and read: if nothing is held, as after a `flush` that returned Ok, as many calls of `reply` as packets have
 -- unread replies return all of these.
 abbrev pub RepliesCome : Type 0
 RepliesCome =
-    (clock : ℕ) (queue : List Ticket) (read : List ReplyValue) (engine : EngineState)
+    (start : LedgerState) (queue : List Ticket) (read : List ReplyValue) (engine : EngineState)
     (results : List (Option ReplyValue)) (last : EngineState)
-    → Serves clock queue read engine → engine.front.held ≡ []
+    → Serves start queue read engine → engine.front.held ≡ []
     → length read + length results ≡ packets_in (items_in queue) → AreReplies engine results last
-    → HaveAllCome clock queue read engine results last
+    → HaveAllCome start queue read engine results last

@@ -1,6 +1,6 @@
 //! The engine.
 
-ghost use Rattle.std.specs.Prelude.{◌≡◌, ◌<◌, ◌≤◌, ◌+◌, ◌++◌, ◌∷◌, [], ℕ, List, Some, None, true, length, IfOk, IfErr, OnOk, OnErr, IfSome, IfNone, option_to_list, get_or, slice_get, slice_set};
+ghost use Rattle.std.specs.Prelude.{◌≡◌, ◌<◌, ◌≤◌, ◌+◌, ◌++◌, ◌∷◌, [], ℕ, List, Some, None, true, false, length, IfOk, IfErr, OnOk, OnErr, IfSome, IfNone, option_to_list, get_or, slice_get, slice_set};
 ghost use Rattle.std.specs.Option.{option_copied};
 ghost use Rattle.std.specs.List.{flat_map};
 ghost use Rattle.tb_layout.specs.Limits.{clock_max};
@@ -18,7 +18,8 @@ ghost use Rattle.tb_core.specs.Front.{opening_refusal, all_decisions_in};
 ghost use Rattle.tb_core.specs.Grouping.{AreJoinedParcels};
 ghost use Rattle.tb_core.specs.inside.Decision.{Decision};
 ghost use Rattle.tb_core.specs.BareLedger.{HasSent};
-ghost use Rattle.tb_embed.specs.Engine.{HasTaken, IsOpened, Steps, Queues, Reads, Continues, IsRefusal, either, refusal_in, sender_refusal, packet_with, submit_refusal, pulse_refusal, shut_refusal, has_stopped, state_of};
+ghost use Rattle.tb_core.specs.Journal.{LedgerState};
+ghost use Rattle.tb_embed.specs.Engine.{HasTaken, IsOpened, IsOpenedOver, HoldsNothing, Steps, Queues, Reads, Continues, IsRefusal, either, refusal_in, sender_refusal, packet_with, submit_refusal, pulse_refusal, shut_refusal, has_stopped, state_of};
 ghost use Rattle.tb_embed.specs.Queued.{ticket_of, packet_ticket};
 
 use crate::unread::Unread;
@@ -110,10 +111,10 @@ impl Model for Engine {
 /// Applies parcels in order, for whose outcomes there is capacity.
 fn apply_all(ledger: &mut BareLedger, unread: &mut Unread, parcels: &mut ArrayVec<Parcel, 2>)
     requires room { length parcels.old.items ≤ unread.old.room }
-    ensures { (clock limit : ℕ) (sent : List Decision) (read : List ReplyValue)
+    ensures { (start : LedgerState) (limit : ℕ) (sent : List Decision) (read : List ReplyValue)
         → AreJoinedParcels limit parcels.old.items
-        → HasSent clock limit sent ledger.old (read ++ unread.old.replies)
-        → HasSent clock limit (sent ++ all_decisions_in parcels.old.items) ledger.new (read ++ unread.new.replies) }
+        → HasSent start limit sent ledger.old (read ++ unread.old.replies)
+        → HasSent start limit (sent ++ all_decisions_in parcels.old.items) ledger.new (read ++ unread.new.replies) }
 {
     while let Some(parcel) = parcels.pop_at(0) {
         unread.push(ledger.apply(parcel));
@@ -183,7 +184,38 @@ impl Engine {
         ensures opens { OnOk result (opening_refusal limit submitters ≡ None) }
         ensures refusal { IfErr result (λ refusal. opening_refusal limit submitters ≡ Some refusal) }
     {
-        let front = Front::new(alloc, limit, submitters)?;
+        let ledger = BareLedger::with_seed(alloc, clock, seed);
+        match Engine::over(alloc, ledger, limit, submitters) {
+            Ok(engine) => Ok(engine),
+            Err((ledger, refusal)) => {
+                drop(ledger);
+                Err(refusal)
+            }
+        }
+    }
+
+    /// Returns an engine over a ledger that an earlier engine left (`into_ledger`) and that hasn't stopped. Its clock,
+    /// its accounts and its transfers go on, and places count on; packets are numbered from 0 again. Allocates nothing.
+    ///
+    /// # Errors
+    ///
+    /// Those of `new`, with the ledger.
+    pub fn over(
+        alloc: Global,
+        ledger: BareLedger,
+        limit: u32,
+        submitters: u32,
+    ) -> Result<Engine, (BareLedger, Refusal)>
+        requires { ledger.stopped ≡ false }
+        ensures opened { IfOk result (λ engine. IsOpenedOver ledger limit submitters engine) }
+        ensures opens { OnOk result (opening_refusal limit submitters ≡ None) }
+        ensures refusal { IfErr result (λ refused. opening_refusal limit submitters ≡ Some refused.1) }
+        ensures back { IfErr result (λ refused. refused.0 ≡ ledger) }
+    {
+        let front = match Front::new(alloc, limit, submitters) {
+            Ok(front) => front,
+            Err(refusal) => return Err((ledger, refusal)),
+        };
         Ok(Engine {
             limit,
             submitters,
@@ -193,10 +225,36 @@ impl Engine {
                 transfers: 0,
             },
             front,
-            ledger: BareLedger::with_seed(alloc, clock, seed),
+            ledger,
             unread: Unread::new(alloc),
             numbers: [0; 16],
         })
+    }
+
+    /// Returns the ledger of an engine that holds nothing, for another engine to go on with. If a packet is held or a
+    /// reply is unread the engine comes back, as it was.
+    pub fn into_ledger(self) -> Result<BareLedger, Engine>
+        ensures ledger { IfOk result (λ ledger. ledger ≡ self.ledger) }
+        ensures nothing { OnOk result (HoldsNothing self) }
+        ensures back { IfErr result (λ back. back ≡ self) }
+        ensures held { OnErr result (HoldsNothing self → ⊥) }
+    {
+        if self.front.is_holding() || self.unread.next().is_some() {
+            return Err(self);
+        }
+        let Engine {
+            limit: _,
+            submitters: _,
+            shut: _,
+            due: _,
+            front,
+            ledger,
+            unread,
+            numbers: _,
+        } = self;
+        drop(front);
+        drop(unread);
+        Ok(ledger)
     }
 
     /// Reserves capacity for accounts and transfers that are still to be made. Until then no commit waits for their maps
@@ -230,9 +288,9 @@ impl Engine {
     /// accounts and transfers that are due, it is returned and nothing has changed.
     fn take(&mut self, ticket: Ticket) -> Result<(), Ticket>
         requires { ticket.sender ≤ self.old.front.submitters }
-        ensures taken { OnOk result ((clock : ℕ) (items : List ItemValue) (read : List ReplyValue)
-            → HasTaken clock items (read ++ self.old.unread) self.old.front self.old.ledger
-            → HasTaken clock (items ++ ticket.item ∷ []) (read ++ self.new.unread) self.new.front self.new.ledger) }
+        ensures taken { OnOk result ((start : LedgerState) (items : List ItemValue) (read : List ReplyValue)
+            → HasTaken start items (read ++ self.old.unread) self.old.front self.old.ledger
+            → HasTaken start (items ++ ticket.item ∷ []) (read ++ self.new.unread) self.new.front self.new.ledger) }
         ensures steps { OnOk result (Steps self.old.front ticket self.new.front) }
         ensures same { (self.new.numbers ≡ self.old.numbers) × (self.new.shut ≡ self.old.shut)
             × (self.new.front.limit ≡ self.old.front.limit)
@@ -261,9 +319,9 @@ impl Engine {
 
     /// Passes an item of the control through the front and the ledger.
     fn take_control(&mut self, item: Item) -> Result<(), Refusal>
-        ensures taken { OnOk result ((clock : ℕ) (items : List ItemValue) (read : List ReplyValue)
-            → HasTaken clock items (read ++ self.old.unread) self.old.front self.old.ledger
-            → HasTaken clock (items ++ item ∷ []) (read ++ self.new.unread) self.new.front self.new.ledger) }
+        ensures taken { OnOk result ((start : LedgerState) (items : List ItemValue) (read : List ReplyValue)
+            → HasTaken start items (read ++ self.old.unread) self.old.front self.old.ledger
+            → HasTaken start (items ++ item ∷ []) (read ++ self.new.unread) self.new.front self.new.ledger) }
         ensures steps { OnOk result (Steps self.old.front (ticket_of self.old.front.submitters item) self.new.front) }
         ensures same { (self.new.numbers ≡ self.old.numbers) × (self.new.shut ≡ self.old.shut)
             × (self.new.front.limit ≡ self.old.front.limit)

@@ -9,7 +9,8 @@ use Rattle.tb_core.specs.declared.outcomes.Outcomes.{Outcomes}
 use Rattle.tb_core.specs.declared.outcomes.Outcomes.TheVariants as outcomes
 use Rattle.tb_core.specs.Front.{all_decisions_in, decisions_in}
 use Rattle.tb_core.specs.Grouping.{AreJoined, AreJoinedParcels, IsJoinedParcel}
-use Rattle.tb_core.specs.Journal.{LedgerState}
+use Rattle.tb_core.specs.EndedRun.{IsPrefix}
+use Rattle.tb_core.specs.Journal.{LedgerState, groups_since}
 use Rattle.tb_core.specs.Ledger.{Applied, apply_result, must_stop, apply_step}
 use Rattle.tb_core.specs.inside.Decision.{Decision}
 use Rattle.tb_core.specs.Run.{Commits, replies_in}
@@ -52,15 +53,16 @@ last_of : (limit : ℕ) (sent : List Parcel) (handed : Parcel) → AreJoinedParc
 last_of limit [] handed all = all.0
 last_of limit (first ∷ sent) handed all = last_of limit sent handed all.1
 
-pub parcel_more : (clock : ℕ) (sent : List Parcel) (handed : Parcel) (last : Bool) (ledger next : LedgerState)
+pub parcel_more : (start : LedgerState) (sent : List Parcel) (handed : Parcel) (last : Bool) (ledger next : LedgerState)
     (before : List Outcomes) (given : Outcomes) → last ≡ is_last handed →
     (refused : Bool) × (apply_result next given ≡ apply_step refused ledger handed) →
-    ((clock : ℕ) (sent : List Decision) (replies : List ReplyValue) → Commits clock sent ledger replies
-    → Commits clock (sent ++ decisions_in handed) next (replies ++ replies_in given)) →
-    ((limit : ℕ) → IsJoinedParcel limit handed → AreJoined limit ledger.groups → AreJoined limit next.groups)
-    → IsCommitted clock sent ledger before →
-    CommittedTo last clock (sent ++ handed ∷ []) next (before ++ given_on given)
-parcel_more clock sent handed last ledger next before given last_is step more joined_more is = by last last_is
+    ((start : LedgerState) (sent : List Decision) (replies : List ReplyValue) → Commits start sent ledger replies
+    → Commits start (sent ++ decisions_in handed) next (replies ++ replies_in given)) →
+    ((start : LedgerState) (limit : ℕ) → IsPrefix start.groups ledger.groups → IsJoinedParcel limit handed
+    → AreJoined limit (groups_since start ledger) → AreJoined limit (groups_since start next))
+    → IsCommitted start sent ledger before →
+    CommittedTo last start (sent ++ handed ∷ []) next (before ++ given_on given)
+parcel_more start sent handed last ledger next before given last_is step more joined_more is = by last last_is
   where
     final : is_final given ≡ is_last handed
     final = final_is step.0 ledger next handed given step.1
@@ -69,23 +71,23 @@ parcel_more clock sent handed last ledger next before given last_is step more jo
     spelling = flat_map-append decisions_in sent (handed ∷ [])
         ∙ ap (λ ps. all_decisions_in sent ++ ps) (append-nil (decisions_in handed))
 
-    commits : Commits clock (all_decisions_in (sent ++ handed ∷ [])) next (answers_in before ++ replies_in given)
-    commits = subst (λ ps. Commits clock ps next (answers_in before ++ replies_in given)) (sym spelling)
-        (more clock (all_decisions_in sent) (answers_in before) is.commits)
+    commits : Commits start (all_decisions_in (sent ++ handed ∷ [])) next (answers_in before ++ replies_in given)
+    commits = subst (λ ps. Commits start ps next (answers_in before ++ replies_in given)) (sym spelling)
+        (more start (all_decisions_in sent) (answers_in before) is.commits)
 
-    joined : (limit : ℕ) → AreJoinedParcels limit (sent ++ handed ∷ []) → AreJoined limit next.groups
+    joined : (limit : ℕ) → AreJoinedParcels limit (sent ++ handed ∷ []) → AreJoined limit (groups_since start next)
     joined limit all =
-        joined_more limit (last_of limit sent handed all)
+        joined_more start limit is.commits.continues (last_of limit sent handed all)
         (is.joined limit (all_first (IsJoinedParcel limit) sent (handed ∷ []) all))
 
-    by : (last : Bool) → last ≡ is_last handed → CommittedTo last clock (sent ++ handed ∷ []) next
+    by : (last : Bool) → last ≡ is_last handed → CommittedTo last start (sent ++ handed ∷ []) next
         (before ++ given_on given)
     by true ends =
         let end : given ≡ outcomes.Last = is_the_last given (final ∙ sym ends) in
         record {
           before = before;
           parts = ap (λ (o : Outcomes). before ++ given_on o) end;
-          commits = subst (λ rs. Commits clock (all_decisions_in (sent ++ handed ∷ [])) next rs)
+          commits = subst (λ rs. Commits start (all_decisions_in (sent ++ handed ∷ [])) next rs)
               (ap (λ (o : Outcomes). answers_in before ++ replies_in o) end
               ∙ append-nil (answers_in before)) commits;
           joined = joined;
@@ -93,7 +95,7 @@ parcel_more clock sent handed last ledger next before given last_is step more jo
           unfinished = is.unfinished;
         }
     by false ends = record {
-      commits = subst (λ rs. Commits clock (all_decisions_in (sent ++ handed ∷ [])) next rs)
+      commits = subst (λ rs. Commits start (all_decisions_in (sent ++ handed ∷ [])) next rs)
           (ap (λ rs. answers_in before ++ rs) (sym (answers-given_on given))
           ∙ sym (flat_map-append replies_in before (given_on given))) commits;
       joined = joined;

@@ -23,7 +23,9 @@ use Rattle.tb_core.specs.declared.outcomes.Outcomes.{Outcomes}
 use Rattle.tb_core.specs.declared.outcomes.Outcomes.TheVariants as outcomes
 use Rattle.tb_core.specs.Front.{all_decisions_in, decisions_in}
 use Rattle.tb_core.specs.Grouping.{AreJoined, AreJoinedParcels, IsJoinedParcel, IsGrouping, IsWithin as IsInputWithin, AreWithin as AreInputsWithin}
-use Rattle.tb_core.specs.Journal.{LedgerState, inputs}
+use Rattle.tb_core.specs.EndedRun.{IsPrefix}
+use Rattle.tb_core.specs.Journal.{LedgerState, groups_since, inputs_since}
+use Rattle.tb_core.proofs.Since.{groups-inputs}
 use Rattle.tb_core.specs.Run.{Commits, Ran, replies_in}
 use Rattle.tb_rings.specs.declared.Outlet.{Outlet}
 use Rattle.tb_submit.specs.Ends.{IntakeState}
@@ -31,19 +33,20 @@ use Rattle.tb_submit.specs.Lists.{IsWithin, AreWithin}
 use Rattle.tb_pipe.specs.Carried.{is_last, is_final, has_final, answers_in, AllBatched, AllCommitted}
 use Rattle.tb_pipe.proofs.Lists.{all_taken, all_more, all_first}
 
-pub record HasRun (clock limit : ℕ) (queue : List Ticket) (ledger : LedgerState) (answers : List ReplyValue) : Type 0 where
-  pub ran : Ran clock (items_in queue) ledger answers
-  pub joined : AreJoined limit ledger.groups
+pub record HasRun (start : LedgerState) (limit : ℕ) (queue : List Ticket) (ledger : LedgerState)
+    (answers : List ReplyValue) : Type 0 where
+  pub ran : Ran start (items_in queue) ledger answers
+  pub joined : AreJoined limit (groups_since start ledger)
 
 -- where each stage took all that the one before it gave, and gave all that it made of it
-pub drained : (clock : ℕ) (intake : IntakeState)
+pub drained : (start : LedgerState) (intake : IntakeState)
     (given_parcels taken_parcels left_parcels : List Parcel) (ledger : LedgerState)
     (given_outcomes taken_outcomes left_outcomes : List Outcomes) →
-    AllBatched intake given_parcels → AllCommitted clock taken_parcels ledger given_outcomes
+    AllBatched intake given_parcels → AllCommitted start taken_parcels ledger given_outcomes
     → taken_parcels ++ left_parcels ≡ given_parcels → taken_outcomes ++ left_outcomes ≡ given_outcomes
     → has_final taken_outcomes ≡ true →
-    HasRun clock intake.limit intake.taken ledger (answers_in taken_outcomes)
-drained clock intake given_parcels taken_parcels left_parcels ledger given_outcomes taken_outcomes
+    HasRun start intake.limit intake.taken ledger (answers_in taken_outcomes)
+drained start intake given_parcels taken_parcels left_parcels ledger given_outcomes taken_outcomes
     left_outcomes batched committed parcels_are outcomes_are final =
     let all_parcels : taken_parcels ≡ batched.before
     ++ parcel.Last ∷ [] =
@@ -65,8 +68,8 @@ drained clock intake given_parcels taken_parcels left_parcels ledger given_outco
         stopped = batched.stopped;
         decisions = all_decisions_in batched.before;
         passed = batched.passes;
-        commits = subst (λ rs. Commits clock (all_decisions_in batched.before) ledger rs) (sym answers)
-            (subst (λ ps. Commits clock ps ledger (answers_in committed.before)) spelling committed.commits);
+        commits = subst (λ rs. Commits start (all_decisions_in batched.before) ledger rs) (sym answers)
+            (subst (λ ps. Commits start ps ledger (answers_in committed.before)) spelling committed.commits);
       };
       joined = committed.joined intake.limit (subst (AreJoinedParcels intake.limit) (sym all_parcels)
           (all_more (IsJoinedParcel intake.limit) batched.before (parcel.Last ∷ []) batched.joined (tt, tt)));
@@ -116,13 +119,14 @@ ahead_within limit [] all = tt
 ahead_within limit (ticket ∷ queue) all =
     one_within limit ticket.item (items_in queue) all.0 (ahead_within limit queue all.1)
 
-pub grouped : (limit : ℕ) (queue : List Ticket) (ledger : LedgerState) (remainder : List Input)
-    → AreJoined limit ledger.groups → AreWithin limit queue → inputs ledger ++ remainder ≡ ahead (items_in queue)
-    → IsGrouping limit ledger.groups
-grouped limit queue ledger remainder joined within committed = record {
+pub grouped : (limit : ℕ) (queue : List Ticket) (start ledger : LedgerState) (remainder : List Input)
+    → IsPrefix start.groups ledger.groups → AreJoined limit (groups_since start ledger) → AreWithin limit queue
+    → inputs_since start ledger ++ remainder ≡ ahead (items_in queue) → IsGrouping limit (groups_since start ledger)
+grouped limit queue start ledger remainder continues joined within committed = record {
   joined = joined;
-  within = all_first (IsInputWithin limit) (inputs ledger) remainder
-      (subst (AreInputsWithin limit) (sym committed) (ahead_within limit queue within));
+  within = subst (AreInputsWithin limit) (sym (groups-inputs start ledger continues))
+      (all_first (IsInputWithin limit) (inputs_since start ledger) remainder
+      (subst (AreInputsWithin limit) (sym committed) (ahead_within limit queue within)));
 }
 
 -- ---- a reply ring of each number below theirs

@@ -8,8 +8,9 @@ use Rattle.tb_core.specs.declared.parcel.Parcel.{Parcel}
 use Rattle.tb_core.specs.declared.parcel.Parcel.TheVariants as parcel
 use Rattle.tb_core.specs.declared.outcomes.Outcomes.{Outcomes}
 use Rattle.tb_core.specs.Due.{replies_to}
-use Rattle.tb_core.specs.Journal.{LedgerState}
-use Rattle.tb_core.specs.Ledger.{new_ledger}
+use Rattle.tb_core.specs.Grouping.{AreJoined}
+use Rattle.tb_core.specs.Journal.{LedgerState, groups_since}
+use Rattle.tb_core.specs.Run.{Commits}
 use Rattle.tb_core.specs.Front.{FrontState, group_as_batch, held_by, KnowsEnds}
 use Rattle.tb_core.specs.inside.Decision.{AreDecisions}
 use Rattle.tb_rings.specs.Ends.{given as given_to}
@@ -45,25 +46,18 @@ fresh_batched intake front given under among passes knows holds no_queue none =
     none_in_a_row [] after group next is = cc
     none_in_a_row (x ∷ before) after group next is = cc
 
-pub fresh_committed : (clock : ℕ) (taken : List Parcel) (ledger : LedgerState) (given : List Outcomes)
-    → ledger ≡ new_ledger clock → taken ≡ [] → given ≡ [] → IsCommitted ledger.opening taken ledger given
-fresh_committed clock taken ledger given new untaken none =
-    subst (λ ps. IsCommitted ledger.opening ps ledger given) (sym untaken)
-    (subst (λ os. IsCommitted ledger.opening [] ledger os) (sym none)
-    (subst (λ (l : LedgerState). IsCommitted l.opening [] l []) (sym new) (record {
-      commits = record {
-        from = refl;
-        remainder = [];
-        committed = refl;
-        whole = λ is. refl;
-        unstopped = λ is. refl;
-        state = refl;
-        replied = refl;
-      };
-      joined = λ limit is. tt;
+-- a ledger with which a run may begin
+pub fresh_committed : (taken : List Parcel) (ledger : LedgerState) (given : List Outcomes) → Commits ledger [] ledger []
+    → ((limit : ℕ) → AreJoined limit (groups_since ledger ledger)) → taken ≡ [] → given ≡ []
+    → IsCommitted ledger taken ledger given
+fresh_committed taken ledger given begins joined untaken none =
+    subst (λ ps. IsCommitted ledger ps ledger given) (sym untaken)
+    (subst (λ os. IsCommitted ledger [] ledger os) (sym none) (record {
+      commits = begins;
+      joined = λ limit is. joined limit;
       unended = refl;
       unfinished = refl;
-    })))
+    }))
 
 pub fresh_replies : (taken : List Outcomes) (outlets : List (Outlet ReplyValue)) → taken ≡ []
     → All (λ (outlet : Outlet ReplyValue). given_to outlet ≡ []) outlets → AllGiven (answers_in taken) outlets

@@ -45,24 +45,23 @@ seat-origins seats n (outlet ∷ outlets) (suc k) d below =
 -- what serving leaves is known of what it was handed
 pub record IsServedOf (stages : Stages) (remains : Remains) : Type 0 where
   pub served : IsServed remains
-  pub clock : (served_of remains).clock ≡ (pipeline_of stages).clock
+  pub start : (served_of remains).start ≡ (pipeline_of stages).start
   pub submitters : (served_of remains).submitters ≡ (pipeline_of stages).submitters
 
 pub served_is : (stages : Stages) (remains : Remains) → IsPipeline stages → HaveServed stages remains
     → IsServedOf stages remains
 served_is stages remains is served =
     let same = served.intake in
-    let clock : remains.committed.ledger.opening ≡ stages.committer.ledger.opening = served.committed.commits.from in
     record {
       served = record {
         rings = (served.rings.1 ∙ is.rings.0 ∙ sym served.rings.0, served.rings.3 ∙ is.rings.1 ∙ sym served.rings.2);
         number = served.rings.4.0 ∙ is.number ∙ sym (ap (λ (i : IntakeState). i.submitters) same);
         batched = served.batched;
-        committed = subst (λ n. AllCommitted n (taken remains.committed.inlet) remains.committed.ledger
-            (given remains.committed.outlet)) (sym clock) served.committed;
+        committed = subst (λ start. AllCommitted start (taken remains.committed.inlet) remains.committed.ledger
+            (given remains.committed.outlet)) (sym served.start) served.committed;
         routed = served.routed;
       };
-      clock = clock;
+      start = served.start;
       submitters = ap (λ (i : IntakeState). origins i remains.routed.outlets.items) same
           ∙ same_origins (seat_at stages.intake) 0 stages.demultiplexer.outlets.items remains.routed.outlets.items served.rings.4;
     }

@@ -11,7 +11,7 @@ use Rattle.tb_core.specs.declared.outcomes.Outcomes.{Outcomes}
 use Rattle.tb_core.specs.declared.outcomes.Outcomes.TheVariants as outcomes
 use Rattle.tb_core.specs.Front.{FrontState, all_ended, all_decisions_in, group_as_batch, held_by, KnowsEnds, HaveAllEnded}
 use Rattle.tb_core.specs.Grouping.{AreJoined, AreJoinedParcels}
-use Rattle.tb_core.specs.Journal.{LedgerState}
+use Rattle.tb_core.specs.Journal.{LedgerState, groups_since}
 use Rattle.tb_core.specs.inside.Decision.{AreDecisions, inputs_in}
 use Rattle.tb_core.specs.Run.{Commits, replies_in}
 use Rattle.tb_submit.specs.Ends.{IntakeState}
@@ -125,22 +125,24 @@ pub record AllBatched (intake : IntakeState) (given : List Parcel) : Type 0 wher
   pub unended : has_last before ≡ false
   pub ended : HaveAllEnded intake.submitters intake.taken
 
--- a ledger took these parcels, and these outcomes were given on
-pub record IsCommitted (clock : ℕ) (taken : List Parcel) (ledger : LedgerState) (given : List Outcomes) : Type 0 where
-  pub commits : Commits clock (all_decisions_in taken) ledger (answers_in given)
-  pub joined : (limit : ℕ) → AreJoinedParcels limit taken → AreJoined limit ledger.groups
+-- since it was `start` a ledger took these parcels, and these outcomes were given on
+pub record IsCommitted (start : LedgerState) (taken : List Parcel) (ledger : LedgerState)
+    (given : List Outcomes) : Type 0 where
+  pub commits : Commits start (all_decisions_in taken) ledger (answers_in given)
+  pub joined : (limit : ℕ) → AreJoinedParcels limit taken → AreJoined limit (groups_since start ledger)
   pub unended : has_last taken ≡ false
   pub unfinished : has_final given ≡ false
 
 -- the last parcel was taken too, and the last outcome was given on after all others
-pub record AllCommitted (clock : ℕ) (taken : List Parcel) (ledger : LedgerState) (given : List Outcomes) : Type 0 where
+pub record AllCommitted (start : LedgerState) (taken : List Parcel) (ledger : LedgerState)
+    (given : List Outcomes) : Type 0 where
   pub before : List Outcomes
   pub parts : given ≡ before ++ outcomes.Last ∷ []
-  pub commits : Commits clock (all_decisions_in taken) ledger (answers_in before)
-  pub joined : (limit : ℕ) → AreJoinedParcels limit taken → AreJoined limit ledger.groups
+  pub commits : Commits start (all_decisions_in taken) ledger (answers_in before)
+  pub joined : (limit : ℕ) → AreJoinedParcels limit taken → AreJoined limit (groups_since start ledger)
   pub ended : has_last taken ≡ true
   pub unfinished : has_final before ≡ false
 
-abbrev pub CommittedTo : Bool → ℕ → List Parcel → LedgerState → List Outcomes → Type 0
-CommittedTo true clock taken ledger given = AllCommitted clock taken ledger given
-CommittedTo false clock taken ledger given = IsCommitted clock taken ledger given
+abbrev pub CommittedTo : Bool → LedgerState → List Parcel → LedgerState → List Outcomes → Type 0
+CommittedTo true start taken ledger given = AllCommitted start taken ledger given
+CommittedTo false start taken ledger given = IsCommitted start taken ledger given

@@ -1,6 +1,7 @@
 -- A pipeline that was driven until all of its senders had ended.
 use Rattle.std.specs.Prelude.{◌≡◌, ℕ, true, List, Some, map, length, slice_get, All}
 use Rattle.tb_core.specs.Grouping.{IsGrouping}
+use Rattle.tb_core.specs.Journal.{LedgerState, groups_since, inputs}
 use Rattle.tb_core.specs.EachSubmitter.{moments_in, moments_queued}
 use Rattle.tb_core.specs.Headline.{Headline}
 use Rattle.tb_core.specs.EndedRun.{IsPrefix, Run, committed_in}
@@ -28,27 +29,29 @@ AreTasksOf intake origins tasks =
     (map task_origin tasks.submitters ≡ origins) × (tasks.control.control.seat ≡ control_seat intake)
     × (length origins ≡ intake.submitters)
 
--- the run of a pipeline with this intake, which took the queue that its ghost copy has; `control` says what the control
--- queued
-abbrev pub run_in : {D C : Type 0} → IntakeState → SenderState → Finished D C → Run
-run_in intake control finished =
-    run_of (record intake { taken = finished.served.value.intake.taken }) finished.unsettled.value.items control
+-- the run of a pipeline with this start and this intake, which took the queue that its ghost copy has; `control` says what
+-- the control queued
+abbrev pub run_in : {D C : Type 0} → LedgerState → IntakeState → SenderState → Finished D C → Run
+run_in start intake control finished =
+    run_of (record intake { taken = finished.served.value.intake.taken }) finished.unsettled.value.items control start
     finished.report.ledger finished.report.ends.items
 
 -- The report on a run is lawful and has the headline. `unsettled` has the submitters' ends from before they were settled,
 -- each at its submitter's index; an end says what was queued, and what was queued before the run comes first. Each end is
--- settled. Each driver has seen what its submitter queued and read, and was asked until it ended.
+-- settled. Each driver has seen what its submitter queued and read, and was asked until it ended. The run began with what the
+-- ledger `start` had committed, and its clock is that ledger's.
 pub record HasReported {D : Type 0} (has_seen has_ended : D → ℕ → List Numbered → List ReplyValue → Type 0)
-    (run : Run) (clock limit : ℕ) (before : List SubmitterState) (unsettled ends : List EndedState)
+    (run : Run) (start : LedgerState) (limit : ℕ) (before : List SubmitterState) (unsettled ends : List EndedState)
     (control : SenderState) (drivers : List D) : Type 0 where
-  pub opening : run.ledger.opening ≡ clock
+  pub opening : run.ledger.opening ≡ start.opening
+  pub began : run.before ≡ inputs start
   pub own : map end_origin unsettled ≡ map origin_of before
   pub ahead : AreFronts before unsettled
   pub settled : All (λ (ended : EndedState). ended.settled ≡ true) ends
   pub controlled : run.queued run.submitters ≡ control.queued
   pub report : LawfulReport run
   pub headline : Headline run
-  pub grouping : IsGrouping limit run.ledger.groups
+  pub grouping : IsGrouping limit (groups_since start run.ledger)
   pub pulses : IsPrefix (moments_in (committed_in run)) (moments_queued control.queued)
   pub number : length ends ≡ run.submitters
   pub driven : length drivers ≡ run.submitters
@@ -57,29 +60,29 @@ pub record HasReported {D : Type 0} (has_seen has_ended : D → ℕ → List Num
   pub ended : (k : ℕ) (driver : D) (ended : EndedState) → slice_get drivers k ≡ Some driver
       → slice_get ends k ≡ Some ended → has_ended driver limit (jobs_in (run.queued k)) ended.read
 
--- a pipeline with this clock and intake was run, with these submitters before it and this control after it, and has
+-- a pipeline with this start and intake was run, with these submitters before it and this control after it, and has
 -- reported so
 abbrev pub HasFinished : {D C : Type 0} → (D → ℕ → List Numbered → List ReplyValue → Type 0)
-    → (D → ℕ → List Numbered → List ReplyValue → Type 0) → ℕ → IntakeState → List SubmitterState → SenderState
+    → (D → ℕ → List Numbered → List ReplyValue → Type 0) → LedgerState → IntakeState → List SubmitterState → SenderState
     → Finished D C → Type 0
-HasFinished has_seen has_ended clock intake before control finished =
-    HasReported has_seen has_ended (run_in intake control finished) clock intake.limit before
+HasFinished has_seen has_ended start intake before control finished =
+    HasReported has_seen has_ended (run_in start intake control finished) start intake.limit before
     finished.unsettled.value.items finished.report.ends.items control finished.drivers.items
 
 -- the same, if the control queued some items after those that it had queued before, and its driver has ended with them
 abbrev pub HasFinishedWith : {D C : Type 0} → (D → ℕ → List Numbered → List ReplyValue → Type 0)
-    → (D → ℕ → List Numbered → List ReplyValue → Type 0) → (C → List Item → Type 0) → ℕ → IntakeState
-    → List SubmitterState → SenderState → Finished D C → Type 0
-HasFinishedWith has_seen has_ended ended_with clock intake before control finished =
+    → (D → ℕ → List Numbered → List ReplyValue → Type 0) → (C → List Item → Type 0) → LedgerState
+    → IntakeState → List SubmitterState → SenderState → Finished D C → Type 0
+HasFinishedWith has_seen has_ended ended_with start intake before control finished =
     (items : List Item) × ended_with finished.control items
-    × HasFinished has_seen has_ended clock intake before (with_items control items) finished
+    × HasFinished has_seen has_ended start intake before (with_items control items) finished
 
--- these tasks were run by a pipeline with this clock and this intake: the run has reported so, with the drivers in their
+-- these tasks were run by a pipeline with this start and this intake: the run has reported so, with the drivers in their
 -- order
 abbrev pub HasRun : {D C : Type 0} → (D → ℕ → List Numbered → List ReplyValue → Type 0)
-    → (D → ℕ → List Numbered → List ReplyValue → Type 0) → (D → List Packet) → (C → C → List Item → Type 0) → ℕ
-    → IntakeState → TasksState C → Finished D C → Type 0
-HasRun has_seen has_ended share control_has_ended clock intake tasks finished =
-    HasFinishedWith has_seen has_ended (control_has_ended tasks.control.driver) clock intake
+    → (D → ℕ → List Numbered → List ReplyValue → Type 0) → (D → List Packet) → (C → C → List Item → Type 0)
+    → LedgerState → IntakeState → TasksState C → Finished D C → Type 0
+HasRun has_seen has_ended share control_has_ended start intake tasks finished =
+    HasFinishedWith has_seen has_ended (control_has_ended tasks.control.driver) start intake
     (map task_submitter tasks.submitters) tasks.control.control finished
     × (map share finished.drivers.items ≡ map task_share tasks.submitters)

@@ -1,5 +1,5 @@
 -- What callers see of a pipeline before it runs, and after.
-use Rattle.std.specs.Prelude.{◌≡◌, ℕ, List, [], length}
+use Rattle.std.specs.Prelude.{◌≡◌, List, [], length}
 use Rattle.tb_core.specs.Journal.{LedgerState}
 use Rattle.tb_rings.specs.Ends.{given, taken, IsRing}
 use Rattle.tb_submit.specs.Ends.{IntakeState, Origin, origins}
@@ -9,16 +9,16 @@ use Rattle.tb_pipe.specs.Stages.{IsReady}
 use Rattle.tb_pipe.specs.declared.stages.Stages.{Stages}
 use Rattle.tb_pipe.specs.declared.stages.Remains.{Remains}
 
--- the clock that it opened with, its intake, and where its submitters come from, by rising number
+-- the ledger that it starts with, its intake, and where its submitters come from, by rising number
 pub record PipelineState : Type 0 where
-  pub clock : ℕ
+  pub start : LedgerState
   pub intake : IntakeState
   pub submitters : List Origin
 
 abbrev pub pipeline_of : Stages → PipelineState
 pipeline_of stages =
     record {
-      clock = stages.committer.ledger.opening;
+      start = stages.start.value;
       intake = stages.intake;
       submitters = origins stages.intake stages.demultiplexer.outlets.items;
     }
@@ -29,16 +29,16 @@ pub record IsPipeline (stages : Stages) : Type 0 where
   pub rings : IsRing stages.batches stages.committer.inlet × IsRing stages.committer.outlet stages.demultiplexer.inlet
   pub number : length stages.demultiplexer.outlets.items ≡ stages.intake.submitters
 
--- the same once it has run, with its ledger
+-- the same once it has run, with its ledger as it is then
 pub record ServedState : Type 0 where
-  pub clock : ℕ
+  pub start : LedgerState
   pub intake : IntakeState
   pub submitters : List Origin
   pub ledger : LedgerState
 
 abbrev pub served_of : Remains → ServedState
 served_of remains = record {
-  clock = remains.committed.ledger.opening;
+  start = remains.start.value;
   intake = remains.intake;
   submitters = origins remains.intake remains.routed.outlets.items;
   ledger = remains.committed.ledger;
@@ -48,6 +48,6 @@ pub record IsServed (remains : Remains) : Type 0 where
   pub rings : IsRing remains.batches remains.committed.inlet × IsRing remains.committed.outlet remains.routed.inlet
   pub number : length remains.routed.outlets.items ≡ remains.intake.submitters
   pub batched : AllBatched remains.intake (given remains.batches)
-  pub committed : AllCommitted remains.committed.ledger.opening
-      (taken remains.committed.inlet) remains.committed.ledger (given remains.committed.outlet)
+  pub committed : AllCommitted remains.start.value (taken remains.committed.inlet)
+      remains.committed.ledger (given remains.committed.outlet)
   pub routed : AllRouted (taken remains.routed.inlet) remains.routed.outlets.items

@@ -1,6 +1,7 @@
 //! The committer's stage: batches from their ring through the ledger, their replies into the next ring.
 
 ghost use Rattle.std.specs.Prelude.{◌≡◌, ℕ, List, [], ◌∷◌, ◌++◌};
+ghost use Rattle.tb_core.specs.Journal.{LedgerState};
 ghost use Rattle.tb_core.specs.declared.parcel.Parcel.{Parcel as ParcelValue};
 ghost use Rattle.tb_rings.specs.Ends.{given, taken, SameInlet, SameOutlet};
 ghost use Rattle.tb_pipe.specs.Carried.{is_last, given_on, AreCleared, IsCommitted, AllCommitted, CommittedTo};
@@ -22,7 +23,8 @@ pub(crate) struct Committer {
     pub(crate) ledger: Ledger,
 }
 
-/// The promise that the returned ring ends are those of this stage, and that all that was taken is committed.
+/// The promise that the returned ring ends are those of this stage, and that all that was taken is committed, whatever the
+/// ledger was when its run began.
 #[derive(Drop)]
 pub(crate) struct Commitment {
     pub(crate) stage: Snapshot<Committer>,
@@ -31,10 +33,12 @@ pub(crate) struct Commitment {
 impl Promise<Committer> for Commitment {
     ghost use Rattle.std.specs.Prelude.{◌≡◌};
     ghost use Rattle.tb_rings.specs.Ends.{given, taken, SameOutlet, SameInlet};
-    ghost use Rattle.tb_pipe.specs.Carried.{AllCommitted};
+    ghost use Rattle.tb_core.specs.Journal.{LedgerState};
+    ghost use Rattle.tb_pipe.specs.Carried.{IsCommitted, AllCommitted};
 
     ghost kept_by = { λ p r. SameInlet p.stage.value.inlet r.inlet × SameOutlet p.stage.value.outlet r.outlet
-        × AllCommitted p.stage.value.ledger.opening (taken r.inlet) r.ledger (given r.outlet) };
+        × ((start : LedgerState) → IsCommitted start (taken p.stage.value.inlet) p.stage.value.ledger
+        (given p.stage.value.outlet) → AllCommitted start (taken r.inlet) r.ledger (given r.outlet)) };
 }
 
 /// Returns whether a parcel is the last.
@@ -66,8 +70,8 @@ fn commit<R: Wait>(
     cleared: Cleared,
 ) -> bool
     ensures ring { SameOutlet outlet.old outlet.new }
-    ensures committed { (clock : ℕ) (sent : List ParcelValue) → IsCommitted clock sent ledger.old (given outlet.old)
-        → CommittedTo result clock (sent ++ cleared ∷ []) ledger.new (given outlet.new) }
+    ensures committed { (start : LedgerState) (sent : List ParcelValue)
+        → IsCommitted start sent ledger.old (given outlet.old) → CommittedTo result start (sent ++ cleared ∷ []) ledger.new (given outlet.new) }
 {
     let parcel = cleared.into_parcel();
     let last = is_last(&parcel);
@@ -80,9 +84,10 @@ impl Committer {
     /// Commits until the last parcel, and gives all replies on, and then the last outcome. The gate let each batch
     /// through, by its number among those that were taken here.
     pub(crate) fn commit_all<R: Wait, G: Gate>(&mut self, rt: &R, gate: &G)
-        requires { IsCommitted self.old.ledger.opening (taken self.old.inlet) self.old.ledger (given self.old.outlet) }
         ensures same { SameInlet self.old.inlet self.new.inlet × SameOutlet self.old.outlet self.new.outlet }
-        ensures all { AllCommitted self.old.ledger.opening (taken self.new.inlet) self.new.ledger (given self.new.outlet) }
+        ensures all { (start : LedgerState)
+            → IsCommitted start (taken self.old.inlet) self.old.ledger (given self.old.outlet)
+            → AllCommitted start (taken self.new.inlet) self.new.ledger (given self.new.outlet) }
         ensures through { (number : ℕ)
             × AreCleared (G.lets_through gate.now) (taken self.old.inlet) (taken self.new.inlet) number }
     {

@@ -84,7 +84,7 @@ where
     C: ControlDriver + Send + 's,
     R: Threads + Wait + Sync,
     requires { AreTasksOf pipeline.intake pipeline.submitters tasks }
-    ensures { IfOk result (HasRun D.has_seen D.has_ended D.share C.has_ended pipeline.clock pipeline.intake tasks) }
+    ensures { IfOk result (HasRun D.has_seen D.has_ended D.share C.has_ended pipeline.start pipeline.intake tasks) }
 {
     let running = tasks.start(scope, rt, alloc, stop)?;
     let Ok(served) = pipeline.serve(rt, &Open) else {
@@ -123,7 +123,7 @@ pub fn drive_all<D: Driver + Send, C: ControlDriver + Send, R: Threads + Wait + 
     requires number { length drivers.items ≡ length opened.pipeline.submitters }
     requires seen { HaveSeen D.has_seen drivers.items opened.submitters.items }
     requires queued { C.has_queued control control [] }
-    ensures reported { IfOk result (HasFinishedWith D.has_seen D.has_ended (C.has_ended control) opened.pipeline.clock
+    ensures reported { IfOk result (HasFinishedWith D.has_seen D.has_ended (C.has_ended control) opened.pipeline.start
         opened.pipeline.intake opened.submitters.items opened.control) }
     ensures shares { IfOk result (λ finished. map D.share finished.drivers.items ≡ map D.share drivers.items) }
 {
@@ -140,7 +140,7 @@ pub fn drive_all<D: Driver + Send, C: ControlDriver + Send, R: Threads + Wait + 
         rt,
         |scope| -> Result<Finished<D, C>, DriveFault>
             requires { AreTasksOf pipeline.intake pipeline.submitters tasks }
-            ensures { IfOk result (HasRun D.has_seen D.has_ended D.share C.has_ended pipeline.clock pipeline.intake
+            ensures { IfOk result (HasRun D.has_seen D.has_ended D.share C.has_ended pipeline.start pipeline.intake
                 tasks) }
         {
             let finished = run(scope, rt, alloc, pipeline, tasks, stop);

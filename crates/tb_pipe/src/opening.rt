@@ -2,6 +2,7 @@
 
 ghost use Rattle.std.specs.Prelude.{◌≡◌, ◌≤◌, ◌<◌, ℕ, [], map, length, slice_index_or, None, OnOk, IfOk, IfErr, IfSome};
 ghost use Rattle.tb_layout.specs.Limits.{clock_max};
+ghost use Rattle.tb_core.specs.Ledger.{new_ledger};
 ghost use Rattle.tb_rings.specs.Ends.{given, taken, IsRing};
 ghost use Rattle.tb_submit.specs.Ends.{Origin, new_submitter, new_control, new_intake, origin_of, seat_at};
 ghost use Rattle.tb_submit.specs.Refusals.{IsQueueRefusal, queue_refusal};
@@ -72,7 +73,7 @@ pub fn open(
     submitters: u32,
 ) -> Result<Opened, Refusal>
     requires { clock ≤ clock_max }
-    ensures clock { IfOk result (λ opened. opened.pipeline.clock ≡ clock) }
+    ensures start { IfOk result (λ opened. opened.pipeline.start ≡ new_ledger clock) }
     ensures intake { IfOk result (λ opened. opened.pipeline.intake
         ≡ new_intake opened.pipeline.intake.queue submitters limit capacity) }
     ensures submitters { IfOk result (λ opened. opened.submitters.items
@@ -93,14 +94,16 @@ pub fn open(
     let Ok(front) = Front::new(alloc, limit, submitters) else {
         unreachable!()
     };
+    let ledger = Ledger::new(alloc, clock);
     let stages = Stages {
+        start: ledger.begin(),
         intake: ends.intake,
         front,
         batches: rings.batches,
         committer: Committer {
             inlet: rings.parcels,
             outlet: rings.made,
-            ledger: Ledger::new(alloc, clock),
+            ledger,
         },
         demultiplexer: Demultiplexer {
             inlet: rings.outcomes,

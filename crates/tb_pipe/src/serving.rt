@@ -1,7 +1,6 @@
 //! A pipeline, as its callers see it.
 
-ghost use Rattle.std.specs.Prelude.{◌≡◌, IfOk, IfErr};
-ghost use Rattle.tb_core.specs.Ledger.{new_ledger};
+ghost use Rattle.std.specs.Prelude.{◌≡◌, false, IfOk, IfErr};
 ghost use Rattle.tb_work.specs.declared.refusal.Refusal.TheVariants.{NoThread as NoThreadRefusal};
 ghost use Rattle.tb_pipe.specs.Run.{IsServed, served_of};
 ghost use Rattle.tb_pipe.specs.Stages.{IsReady, HaveServed};
@@ -74,14 +73,19 @@ impl Served {
 }
 
 impl Pipeline {
-    /// Returns the pipeline over a new ledger that the caller made, with its clock. It may have a seed
-    /// (`Ledger::with_seed`), if ids come from someone who may choose them to make commits slow. It may have reserved
-    /// capacity (`Ledger::reserve`), so that no commit waits for a map to grow.
+    /// Returns the pipeline over the caller's ledger, which hasn't stopped. The clock that the pipeline was opened with is
+    /// ignored: the ledger has its own.
+    ///
+    /// A ledger that an earlier run reported (`Report::ledger`) goes on: places count on from those in its journal, and
+    /// packets are answered from its accounts and transfers. A new ledger may have a seed (`Ledger::with_seed`), if ids
+    /// come from someone who may choose them to make commits slow. It may have reserved capacity (`Ledger::reserve`), so
+    /// that no commit waits for a map to grow.
     pub fn with_ledger(self, ledger: Ledger) -> Pipeline
-        requires { ledger ≡ new_ledger ledger.opening }
-        ensures { result ≡ record self { clock = ledger.opening } }
+        requires { ledger.stopped ≡ false }
+        ensures { result ≡ record self { start = ledger } }
     {
         let Pipeline { mut stages } = self;
+        stages.start = ledger.begin();
         stages.committer.ledger = ledger;
         Pipeline { stages }
     }
@@ -96,7 +100,7 @@ impl Pipeline {
         rt: &R,
         gate: &G,
     ) -> Result<Served, (Intake, Refusal)>
-        ensures clock { IfOk result (λ served. served.clock ≡ self.clock) }
+        ensures start { IfOk result (λ served. served.start ≡ self.start) }
         ensures intake { IfOk result (λ served. served.intake ≡ record self.intake {
           taken = served.intake.taken;
           seen_empty = served.intake.seen_empty;

@@ -4,7 +4,7 @@ ghost use Rattle.std.specs.Prelude.{◌≡◌, ◌<◌, ℕ, true, map, length, 
 ghost use Rattle.tb_core.specs.Grouping.{IsGrouping};
 ghost use Rattle.tb_core.specs.EachSubmitter.{moments_in, moments_queued};
 ghost use Rattle.tb_core.specs.Headline.{Headline};
-ghost use Rattle.tb_core.specs.Journal.{inputs};
+ghost use Rattle.tb_core.specs.Journal.{groups_since, inputs_since};
 ghost use Rattle.tb_core.specs.EndedRun.{IsPrefix};
 ghost use Rattle.tb_core.specs.Report.{LawfulReport};
 ghost use Rattle.tb_submit.specs.Ends.{EndedState, control_seat, end_origin, origins, seat_at};
@@ -17,7 +17,8 @@ use tb_core::{Ledger, headline, pulses_are_the_controls, run_is_lawful};
 use tb_submit::{ControlEnd, Ended, settle_queue};
 
 /// The result of all that was queued: the ledger with its journal and its machine, and each submitter's end, in the
-/// order of their numbers, which still gives the replies that it hasn't read.
+/// order of their numbers, which still gives the replies that it hasn't read. Unless the ledger has stopped, another
+/// pipeline can go on with it (`Pipeline::with_ledger`).
 #[derive(Drop)]
 pub struct Report {
     pub ledger: Ledger,
@@ -29,12 +30,14 @@ fn settle_remains(remains: Remains, ends: Vec<Ended>, control: ControlEnd) -> Re
     requires served { IsServed remains }
     requires ends { map end_origin ends.items ≡ origins remains.intake remains.routed.outlets.items }
     requires control { control.seat ≡ control_seat remains.intake }
-    ensures report { LawfulReport (run_of remains.intake ends.items control
+    ensures report { LawfulReport (run_of remains.intake ends.items control remains.start.value
         result.ledger result.ends.items) }
-    ensures headline { Headline (run_of remains.intake ends.items control
+    ensures headline { Headline (run_of remains.intake ends.items control remains.start.value
         result.ledger result.ends.items) }
-    ensures grouping { IsGrouping remains.intake.limit result.ledger.groups }
-    ensures pulses { IsPrefix (moments_in (inputs result.ledger)) (moments_queued control.queued) }
+    ensures grouping { IsGrouping remains.intake.limit (groups_since remains.start.value result.ledger) }
+    ensures pulses { IsPrefix (moments_in (inputs_since remains.start.value result.ledger))
+        (moments_queued control.queued) }
+    ensures opening { result.ledger.opening ≡ remains.start.value.opening }
     ensures ledger { result.ledger ≡ remains.committed.ledger }
     ensures long { length result.ends.items ≡ remains.intake.submitters }
     ensures read { (k : ℕ) (d : EndedState) → (slice_index_or result.ends.items k d).read
@@ -47,11 +50,13 @@ fn settle_remains(remains: Remains, ends: Vec<Ended>, control: ControlEnd) -> Re
     headline();
     pulses_are_the_controls();
     let Remains {
+        start,
         intake,
         mut batches,
         mut committed,
         mut routed,
     } = remains;
+    drop(start);
     committed.inlet.lying(&mut batches);
     routed.inlet.lying(&mut committed.outlet);
     let ends = settle_queue(intake, ends, control, routed.outlets);
@@ -67,14 +72,14 @@ fn settle_remains(remains: Remains, ends: Vec<Ended>, control: ControlEnd) -> Re
 pub fn settle(served: Served, ends: Vec<Ended>, control: ControlEnd) -> Report
     requires ends { map end_origin ends.items ≡ served.submitters }
     requires control { control.seat ≡ control_seat served.intake }
-    ensures report { LawfulReport (run_of served.intake ends.items control
+    ensures report { LawfulReport (run_of served.intake ends.items control served.start
         result.ledger result.ends.items) }
-    ensures headline { Headline (run_of served.intake ends.items control
+    ensures headline { Headline (run_of served.intake ends.items control served.start
         result.ledger result.ends.items) }
-    ensures grouping { IsGrouping served.intake.limit result.ledger.groups }
-    ensures pulses { IsPrefix (moments_in (inputs result.ledger)) (moments_queued control.queued) }
+    ensures grouping { IsGrouping served.intake.limit (groups_since served.start result.ledger) }
+    ensures pulses { IsPrefix (moments_in (inputs_since served.start result.ledger)) (moments_queued control.queued) }
     ensures ledger { result.ledger ≡ served.ledger }
-    ensures opening { result.ledger.opening ≡ served.clock }
+    ensures opening { result.ledger.opening ≡ served.start.opening }
     ensures long { length result.ends.items ≡ served.intake.submitters }
     ensures read { (k : ℕ) (d : EndedState) → (slice_index_or result.ends.items k d).read
         ≡ (slice_index_or ends.items k d).read }

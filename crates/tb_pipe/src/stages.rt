@@ -1,6 +1,7 @@
 //! The stages, run at once.
 
 ghost use Rattle.std.specs.Prelude.{◌≡◌, IfOk, IfErr, IfSome};
+ghost use Rattle.tb_core.specs.Journal.{LedgerState};
 ghost use Rattle.tb_rings.specs.Ends.{given, taken, SameOutlet, SameInlet};
 ghost use Rattle.tb_pipe.specs.Carried.{IsCommitted, AllCommitted, answers_in};
 ghost use Rattle.tb_pipe.specs.Outlets.{SameOutlets, AllGiven, AllRouted};
@@ -14,14 +15,15 @@ use crate::waiting::give_waiting;
 use std::snapshot::Snapshot;
 use std::sync::Wait;
 use std::thread::{PromisedHandle, Scope, Threads};
-use tb_core::{Front, Parcel};
+use tb_core::{Front, Ledger, Parcel};
 use tb_rings::Outlet;
 use tb_submit::Intake;
 
 /// The stages before they run: the batcher's intake, front and end of the batch ring, the committer and the
-/// demultiplexer.
+/// demultiplexer, with a ghost copy of the ledger that the run starts with.
 #[derive(Drop)]
 pub(crate) struct Stages {
+    pub(crate) start: Snapshot<Ledger>,
     pub(crate) intake: Intake,
     pub(crate) front: Front,
     pub(crate) batches: Outlet<Parcel>,
@@ -29,9 +31,10 @@ pub(crate) struct Stages {
     pub(crate) demultiplexer: Demultiplexer,
 }
 
-/// What the stages leave.
+/// What the stages leave, with the same ghost copy.
 #[derive(Drop)]
 pub(crate) struct Remains {
+    pub(crate) start: Snapshot<Ledger>,
     pub(crate) intake: Intake,
     pub(crate) batches: Outlet<Parcel>,
     pub(crate) committed: Committer,
@@ -45,7 +48,6 @@ fn start_committer<'s, E, R: Wait + Sync, G: Gate>(
     gate: &'s G,
     stage: Committer,
 ) -> Option<PromisedHandle<Committer, Commitment>>
-    requires { IsCommitted stage.ledger.opening (taken stage.inlet) stage.ledger (given stage.outlet) }
     ensures { IfSome result (λ handle. handle.promise.stage.value ≡ stage) }
 {
     let promise = Commitment {
@@ -54,9 +56,9 @@ fn start_committer<'s, E, R: Wait + Sync, G: Gate>(
     let started = scope.spawn_with(
         promise,
         move || -> Committer
-            requires { IsCommitted stage.ledger.opening (taken stage.inlet) stage.ledger (given stage.outlet) }
             ensures same { SameInlet stage.inlet result.inlet × SameOutlet stage.outlet result.outlet }
-            ensures all { AllCommitted stage.ledger.opening (taken result.inlet) result.ledger (given result.outlet) }
+            ensures all { (start : LedgerState) → IsCommitted start (taken stage.inlet) stage.ledger (given stage.outlet)
+                → AllCommitted start (taken result.inlet) result.ledger (given result.outlet) }
         {
             let mut stage = stage;
             stage.commit_all(rt, gate);
@@ -99,12 +101,14 @@ impl Stages {
         ensures { result ≡ self.intake }
     {
         let Stages {
+            start,
             intake,
             front,
             batches,
             committer,
             demultiplexer,
         } = self;
+        drop(start);
         drop(front);
         drop(batches);
         drop(committer);
@@ -125,6 +129,7 @@ impl Stages {
         ensures refused { IfErr result (λ intake. intake ≡ self.intake) }
     {
         let Stages {
+            start,
             mut intake,
             mut front,
             mut batches,
@@ -150,6 +155,7 @@ impl Stages {
         batch_all(rt, &mut intake, &mut front, &mut ring);
         drop(front);
         Ok(Remains {
+            start,
             intake,
             batches: ring.into_outlet(),
             committed: committer.join(rt),

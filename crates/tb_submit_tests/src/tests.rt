@@ -13,6 +13,7 @@ mod openings;
 mod refusals;
 mod rings;
 mod rounds;
+mod service;
 mod threads;
 
 /// Returns a packet of this number of bytes, each of them 7.

@@ -43,7 +43,7 @@ pub record IsLawfulSoFar (clock submitters : ℕ) (queue : List Ticket) (world :
   pub numbered : (sender : ℕ) → sender ≤ submitters → AreNumbered sender 0 (part sender queue)
   pub committed : IsPrefix (inputs world.ledger) (ahead (items_in queue))
   pub received : (submitter : ℕ) → submitter < submitters
-      → IsPrefix (received_of world submitter) (due clock queue (inputs world.ledger) submitter)
+      → IsPrefix (received_of world submitter) (due clock 0 queue (inputs world.ledger) submitter)
 
 -- no submitter learned of a stop
 abbrev pub NoneStopped : ℕ → WorldState → Type 0
@@ -57,6 +57,7 @@ Reports submitters queue world =
       submitters = submitters;
       queue = queue;
       queued = λ sender. part sender queue;
+      before = [];
       ledger = world.ledger;
       replies = received_of world;
     })
@@ -64,7 +65,7 @@ Reports submitters queue world =
 -- a World at rest, after these pushes
 pub record IsLawfulAtRest (clock submitters : ℕ) (queue : List Ticket) (world : WorldState) : Type 0 where
   pub received : (submitter : ℕ) → submitter < submitters
-      → received_of world submitter ≡ due clock queue (inputs world.ledger) submitter
+      → received_of world submitter ≡ due clock 0 queue (inputs world.ledger) submitter
   pub reports : HaveAllEnded submitters queue → Reports submitters queue world
 
 -- A World after these events, whatever they are; and what also holds if no allocation failed, and at rest.

@@ -156,11 +156,11 @@ abbrev pub run : WorldState → List Event → WorldState
 run world [] = world
 run world (event ∷ events) = run (after_event world event) events
 
--- one of the events, after those before it, may fail for memory
+-- one of the events, after those before it, moves and may fail for memory
 abbrev pub TakeMemory : WorldState → List Event → Type 0
 TakeMemory world events =
     (before : List Event) × (event : Event) × (after : List Event) × (events ≡ before ++ event ∷ after)
-    × (takes_memory (run world before) event ≡ true)
+    × (is_some (moved (run world before) event) ≡ true) × (takes_memory (run world before) event ≡ true)
 
 -- a new World
 abbrev pub new_world : ℕ → ℕ → ℕ → WorldState

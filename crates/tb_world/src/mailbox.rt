@@ -1,11 +1,14 @@
 //! The submitters' reply rings, and what was taken from them.
 
-ghost use Rattle.std.specs.Prelude.{◌≡◌, replicate, slice_set, is_some, true, unwrap_or, sum_by, IfOk, OnOk, IfErr, OnErr, IfSome, IfNone};
+ghost use Rattle.std.specs.Prelude.{◌≡◌, ◌≤◌, replicate, slice_set, is_some, true, unwrap_or, sum_by, IfOk, OnOk, IfErr, OnErr, IfSome, IfNone};
+ghost use Rattle.tb_layout.specs.inside.Limits.{submitters_max};
 ghost use Rattle.tb_world.specs.Mailbox.{mailbox_at, mailboxes_with, with_reply, empty_mailbox, after_pop};
 ghost use Rattle.tb_world.specs.Progress.{unread};
 
+use arrayvec::ArrayVec;
 use std::alloc::{AllocError, Global};
 use std::collections::VecDeque;
+use std::default::MadeWith;
 use std::marker::Model;
 use tb_layout::NoMemory;
 use tb_work::Reply;
@@ -23,6 +26,14 @@ impl Model for Mailbox {
     ghost Value = { MailboxValue };
 
     ghost view = { λ mailbox. record { ring = mailbox.ring.items; received = mailbox.received.items } };
+}
+
+impl MadeWith<Global> for Mailbox {
+    ghost is_made_with = { λ mailbox. mailbox ≡ empty_mailbox };
+
+    fn made_with(alloc: Global) -> Mailbox {
+        Mailbox::new(alloc)
+    }
 }
 
 impl Mailbox {
@@ -63,30 +74,29 @@ impl Mailbox {
 /// The mailboxes of all submitters, in the order of their numbers.
 #[derive(Drop)]
 pub(crate) struct Mailboxes {
-    mailboxes: Vec<Mailbox>,
+    mailboxes: ArrayVec<Mailbox, 16, Global>,
 }
 
 impl Model for Mailboxes {
-    ghost use Rattle.std.specs.Prelude.{List, length, ◌<◌, ◌^◌};
+    ghost use Rattle.std.specs.Prelude.{List};
     ghost use Rattle.tb_world.specs.Mailbox.{Mailbox as MailboxValue};
 
     ghost Value = { List MailboxValue };
 
     ghost view = { λ mailboxes. mailboxes.mailboxes.items };
-
-    ghost invariant = { λ mailboxes. length mailboxes.mailboxes.items < 2 ^ 32 };
 }
 
 impl Mailboxes {
-    /// Returns an empty ring for each of the submitters; none has received anything.
-    pub(crate) fn new(alloc: Global, submitters: u32) -> Result<Mailboxes, NoMemory>
-        ensures { IfOk result (λ mailboxes. mailboxes ≡ replicate submitters empty_mailbox) }
+    /// Returns an empty ring for each of the submitters; none has received anything. Takes no memory.
+    pub(crate) fn new(alloc: Global, submitters: u32) -> Mailboxes
+        requires { submitters ≤ submitters_max }
+        ensures { result ≡ replicate submitters empty_mailbox }
     {
-        let mut mailboxes = Vec::new(alloc);
+        let mut mailboxes = ArrayVec::new_in(alloc);
         for _ in 0..submitters {
-            mailboxes.push(Mailbox::new(alloc))?;
+            mailboxes.push(Mailbox::new(alloc));
         }
-        Ok(Mailboxes { mailboxes })
+        Mailboxes { mailboxes }
     }
 
     /// Puts a reply into its submitter's ring; it is dropped if there is no such submitter. If memory is
@@ -126,7 +136,8 @@ impl Mailboxes {
         ensures none { IfNone result (sum_by unread self.now ≡ 0) }
     {
         for own in 0..self.mailboxes.len() {
-            if !self.mailboxes[own].ring.is_empty() {
+            let mailbox = &self.mailboxes[own];
+            if !mailbox.ring.is_empty() {
                 return Some(own as u32);
             }
         }

@@ -1,11 +1,11 @@
 //! A list of events.
 
-ghost use Rattle.std.specs.Prelude.{◌≡◌, ◌≤◌, true, IfOk, OnOk, OnErr};
+ghost use Rattle.std.specs.Prelude.{◌≡◌, ◌≤◌, ◌⊎◌, true, is_some, IfOk, OnOk, OnErr};
 ghost use Rattle.tb_layout.specs.inside.Limits.{batch_max, submitters_max};
 ghost use Rattle.tb_layout.specs.Limits.{clock_max};
 ghost use Rattle.tb_world.specs.EveryOrder.{HasRun};
 ghost use Rattle.tb_world.specs.Progress.{HasFinished, HasRested, MayRunOut};
-ghost use Rattle.tb_world.specs.World.{TakeMemory, after_event, run, takes_memory};
+ghost use Rattle.tb_world.specs.World.{TakeMemory, after_event, moved, new_world, run, takes_memory};
 
 use crate::event::Event;
 use crate::world::World;
@@ -15,7 +15,7 @@ use tb_layout::NoMemory;
 /// Takes one event more.
 fn go_on(world: &mut World, event: Event) -> Result<(), NoMemory>
     ensures ok { OnOk result (world.new ≡ after_event world.old event) }
-    ensures memory { OnErr result (takes_memory world.old event ≡ true) }
+    ensures memory { OnErr result ((is_some (moved world.old event) ≡ true) × (takes_memory world.old event ≡ true)) }
 {
     match world.step(event) {
         Ok(_) => Ok(()),
@@ -46,8 +46,11 @@ fn finish(world: &mut World) -> Result<(), NoMemory>
 }
 
 /// Returns a World, from a clock in nanoseconds, 0 to `CLOCK_MAX`, on, after events in order; one that returns false is
-/// passed over. The limit is 1 to 8190 events, and there are 1 to 16 submitters. It takes memory for the World and in
-/// its steps; if that really fails, nothing is returned.
+/// passed over. The limit is 1 to 8190 events, and there are 1 to 16 submitters. Only its steps take memory.
+///
+/// # Errors
+///
+/// `NoMemory` if an allocation fails in a step.
 pub fn run_world(
     alloc: Global,
     clock: u64,
@@ -58,18 +61,14 @@ pub fn run_world(
     requires clock { clock ≤ clock_max }
     requires limit { (1 ≤ limit) × (limit ≤ batch_max) }
     requires submitters { (1 ≤ submitters) × (submitters ≤ submitters_max) }
-    ensures { IfOk result (λ world. HasRun clock limit submitters events.items world) }
+    ensures ran { IfOk result (λ world. HasRun clock limit submitters events.items world) }
+    ensures memory { OnErr result (TakeMemory (new_world clock limit submitters) events.items) }
 {
     let Ok(mut world) = World::new(alloc, clock, limit, submitters) else {
-        return Err(NoMemory);
+        unreachable!();
     };
-    match go_through(&mut world, events) {
-        Ok(()) => Ok(world),
-        Err(refused) => {
-            drop(world);
-            Err(refused)
-        }
-    }
+    go_through(&mut world, events)?;
+    Ok(world)
 }
 
 /// Returns a World after events in order, and after the steps that bring it to rest, whatever the events were. None of these
@@ -78,7 +77,7 @@ pub fn run_world(
 ///
 /// # Errors
 ///
-/// `NoMemory` if an allocation fails.
+/// `NoMemory` if an allocation fails in a step.
 pub fn run_to_rest(
     alloc: Global,
     clock: u64,
@@ -89,14 +88,11 @@ pub fn run_to_rest(
     requires clock { clock ≤ clock_max }
     requires limit { (1 ≤ limit) × (limit ≤ batch_max) }
     requires submitters { (1 ≤ submitters) × (submitters ≤ submitters_max) }
-    ensures { IfOk result (λ world. HasRested clock limit submitters events.items world) }
+    ensures rested { IfOk result (λ world. HasRested clock limit submitters events.items world) }
+    ensures memory { OnErr result (TakeMemory (new_world clock limit submitters) events.items
+        ⊎ MayRunOut (run (new_world clock limit submitters) events.items)) }
 {
     let mut world = run_world(alloc, clock, limit, submitters, events)?;
-    match finish(&mut world) {
-        Ok(()) => Ok(world),
-        Err(refused) => {
-            drop(world);
-            Err(refused)
-        }
-    }
+    finish(&mut world)?;
+    Ok(world)
 }

@@ -7,7 +7,7 @@ use tb_work::Item;
 
 /// How many packets a sender has pushed, which may be one more than the greatest number of a packet, and whether
 /// it ended.
-#[derive(Clone, Copy)]
+#[derive(Clone, Copy, Default)]
 pub(crate) struct WorldSender {
     pub(crate) pushed: u128,
     pub(crate) ended: bool,

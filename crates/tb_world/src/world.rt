@@ -1,9 +1,8 @@
 //! The stages in one thread, in any order of their steps.
 
-ghost use Rattle.std.specs.Prelude.{◌≡◌, ◌≤◌, ◌<◌, ◌+◌, ◌⊎◌, true, replicate, Some, None, IfOk, OnOk, IfErr, OnErr, is_some, IfSome, IfNone};
+ghost use Rattle.std.specs.Prelude.{◌≡◌, ◌≤◌, ◌<◌, ◌+◌, true, length, replicate, slice_set, Some, None, IfOk, OnOk, IfErr, OnErr, is_some, IfSome, IfNone};
 ghost use Rattle.tb_layout.specs.Limits.{clock_max};
 ghost use Rattle.tb_layout.specs.inside.Limits.{submitters_max};
-ghost use Rattle.tb_work.specs.declared.refusal.Refusal.TheVariants.{NoMemory as NoMemoryRefusal};
 ghost use Rattle.tb_core.specs.Front.{opening_refusal};
 ghost use Rattle.tb_world.specs.Pushing.{newcomer};
 ghost use Rattle.tb_world.specs.Mailbox.{empty_mailbox};
@@ -28,7 +27,7 @@ use tb_work::{Refusal, Reply, Ticket};
 pub struct World {
     limit: u32,
     submitters: u32,
-    senders: Vec<WorldSender>,
+    senders: ArrayVec<WorldSender, 17>,
     queue: VecDeque<Ticket>,
     front: Front,
     parcels: ArrayVec<Parcel, 2>,
@@ -96,29 +95,27 @@ impl Model for World {
     ghost invariant = { λ world. IsWorld world.submitters world.front world.queue.items world.senders.items };
 }
 
-/// The submitters and the control, and the submitters' rings.
-#[derive(Drop)]
-struct NewSenders {
-    senders: Vec<WorldSender>,
-    mailboxes: Mailboxes,
+/// Returns senders that have pushed nothing: the submitters, and after them the control.
+fn newcomers(submitters: u32) -> ArrayVec<WorldSender, 17>
+    requires { submitters ≤ submitters_max }
+    ensures { result.items ≡ replicate (submitters + 1) newcomer }
+{
+    let mut senders = ArrayVec::new();
+    for _ in 0..submitters + 1 {
+        senders.push(WorldSender {
+            pushed: 0,
+            ended: false,
+        });
+    }
+    senders
 }
 
-/// Returns senders that have pushed nothing.
-fn newcomers(alloc: Global, submitters: u32) -> Result<NewSenders, NoMemory>
-    requires { submitters ≤ submitters_max }
-    ensures senders { IfOk result (λ all. all.senders.items ≡ replicate (submitters + 1) newcomer) }
-    ensures mailboxes { IfOk result (λ all. all.mailboxes ≡ replicate submitters empty_mailbox) }
+/// Puts a sender in place of the one with its number.
+fn put(senders: &mut ArrayVec<WorldSender, 17>, number: usize, sender: WorldSender)
+    requires { number < length senders.old.items }
+    ensures { senders.new.items ≡ slice_set senders.old.items number sender }
 {
-    let newcomer = WorldSender {
-        pushed: 0,
-        ended: false,
-    };
-    let mut senders = Vec::new(alloc);
-    senders.resize(submitters as usize + 1, newcomer)?;
-    Ok(NewSenders {
-        senders,
-        mailboxes: Mailboxes::new(alloc, submitters)?,
-    })
+    senders[number] = sender;
 }
 
 /// Keeps the outcomes of a parcel. A pulse leaves none.
@@ -138,23 +135,19 @@ impl World {
     ghost use Rattle.tb_world.specs.declared.event.Event.TheVariants as event;
 
     /// Returns a World in which nothing happened, whose clock starts at a number of nanoseconds, 0 to `CLOCK_MAX`. The
-    /// limit is 1 to 8190 events, and there are 1 to 16 submitters; the limit is looked at first, and memory last.
+    /// limit is 1 to 8190 events, else it is refused as `BadLimit`, and then there are 1 to 16 submitters, else as
+    /// `BadSubmitters`. Takes no memory.
     pub fn new(alloc: Global, clock: u64, limit: u32, submitters: u32) -> Result<World, Refusal>
         requires { clock ≤ clock_max }
         ensures world { IfOk result (λ world. world ≡ new_world clock limit submitters) }
         ensures opens { OnOk result (opening_refusal limit submitters ≡ None) }
-        ensures refusal { IfErr result (λ refusal. (opening_refusal limit submitters ≡ Some refusal)
-            ⊎ ((opening_refusal limit submitters ≡ None) × (refusal ≡ NoMemoryRefusal))) }
+        ensures refusal { IfErr result (λ refusal. opening_refusal limit submitters ≡ Some refusal) }
     {
         let front = Front::new(alloc, limit, submitters)?;
-        let Ok(NewSenders { senders, mailboxes }) = newcomers(alloc, submitters) else {
-            drop(front);
-            return Err(Refusal::NoMemory);
-        };
         Ok(World {
             limit,
             submitters,
-            senders,
+            senders: newcomers(submitters),
             queue: VecDeque::new(alloc),
             front,
             parcels: ArrayVec::new(),
@@ -164,7 +157,7 @@ impl World {
             outcome: None,
             outcomes: VecDeque::new(alloc),
             pending: PendingReplies::nothing(),
-            mailboxes,
+            mailboxes: Mailboxes::new(alloc, submitters),
         })
     }
 
@@ -201,7 +194,7 @@ impl World {
         let next = sender.after(&ticket.item);
         match self.queue.push_back(ticket) {
             Ok(()) => {
-                self.senders[number] = next;
+                put(&mut self.senders, number, next);
                 Ok(true)
             }
             Err(failed) => Err(failed.value),

@@ -16,7 +16,7 @@ use Rattle.tb_core.specs.declared.parcel.Parcel.TheVariants as parcel
 use Rattle.tb_core.specs.inside.Decision.{Decision, Admitted, AreDecisions}
 use Rattle.tb_core.specs.Front.{FrontState, take_step, with_group, all_ended, all_decisions_in, decisions_in, held_by}
 use Rattle.tb_core.specs.Journal.{LedgerState}
-use Rattle.tb_core.specs.Ledger.{apply_step}
+use Rattle.tb_core.specs.Ledger.{apply_step, new_ledger}
 use Rattle.tb_core.specs.Due.{replies_to}
 use Rattle.tb_core.specs.Run.{Commits, replies_in}
 use Rattle.tb_world.specs.Mailbox.{Mailbox, empty_mailbox, mailbox_at, with_reply, mailboxes_with, after_pop_of}
@@ -77,7 +77,7 @@ pub record Holds (Unrefused : Type 0) (clock submitters : ℕ) (pushed : List Ti
   pub counted : world.submitters ≡ submitters
   pub senders : HavePushed submitters pushed world.senders
   pub sent : AreSent taken applied world.front world.parcels world.batches
-  pub commits : Commits clock applied world.ledger answers
+  pub commits : Commits (new_ledger clock) applied world.ledger answers
   pub routed : AreRouted submitters answers world.mailboxes (unrouted world.replies world.outcomes world.outcome)
   pub goes : Unrefused → Goes world.front world.ledger
 
@@ -268,7 +268,7 @@ batch_pop_holds Unrefused refused clock n pushed w None (p ∷ batches) o e goes
       counted = h.counted;
       senders = h.senders;
       sent = sent_applied h.taken h.applied w.front w.parcels batches p sent;
-      commits = commits_more clock h.applied w.ledger h.answers h.commits refused p sent.batch_jobs.0;
+      commits = commits_more (new_ledger clock) h.applied w.ledger h.answers h.commits refused p sent.batch_jobs.0;
       routed = subst (AreRouted n (h.answers ++ more) w.mailboxes) way routed;
       goes = λ is. record { front = (h.goes is).front; ledger = goes is p batches e };
     }

@@ -16,7 +16,7 @@ use Rattle.tb_world.specs.declared.event.Event.TheVariants.{Push, Pop, BatchPush
 use Rattle.tb_core.specs.inside.Decision.{inputs_in}
 use Rattle.tb_core.specs.Front.{decisions_in}
 use Rattle.tb_core.specs.Journal.{LedgerState, inputs}
-use Rattle.tb_core.specs.Ledger.{Applied, must_stop, apply_step}
+use Rattle.tb_core.specs.Ledger.{Applied, must_stop, apply_step, new_ledger}
 use Rattle.tb_world.specs.Pushing.{newcomer}
 use Rattle.tb_world.specs.Mailbox.{Mailbox, empty_mailbox, mailbox_at}
 use Rattle.tb_world.specs.World.{WorldState, is_lawful, after_event, run, new_world}
@@ -64,7 +64,7 @@ parcel_goes Unrefused refused clock n pushed w u short h = λ is p batches e.
     let way : inputs_in on_way ≡ inputs_in (decisions_in p)
     ++ inputs_in rest =
     rw e (ap inputs_in (append_assoc (decisions_in p) _ _) ∙ inputs_in-append (decisions_in p) rest) in
-    let far = so_far clock (items_in h.taken) w.front.closed w.front.stopped h.applied on_way w.ledger h.answers
+    let far = so_far (new_ledger clock) (items_in h.taken) w.front.closed w.front.stopped h.applied on_way w.ledger h.answers
     h.sent.passes h.commits in
     let all = far.whole (h.goes is).front (h.goes is).ledger in
     let few : length (ahead (items_in h.taken)) ≤ length pushed = omega (
@@ -164,6 +164,7 @@ opened_holds U clock limit n =
       };
       commits = record {
         from = refl;
+        continues = ([], refl);
         remainder = [];
         committed = refl;
         whole = λ any. refl;

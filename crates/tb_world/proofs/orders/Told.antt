@@ -15,6 +15,7 @@ use Rattle.tb_core.specs.Due.{outcome_at, reply_due, all_due_from, all_due, repl
 use Rattle.tb_core.specs.inside.Decision.{inputs_in, Decision, Admitted, AreDecisions}
 use Rattle.tb_core.specs.Front.{all_decisions_in, held_by}
 use Rattle.tb_core.specs.Journal.{inputs}
+use Rattle.tb_core.specs.Ledger.{new_ledger}
 use Rattle.tb_core.specs.Run.{Ran}
 use Rattle.tb_world.specs.Mailbox.{Mailbox, mailbox_at, after_pop_of}
 use Rattle.tb_world.specs.World.{WorldState, pop, batch_push, batch_pop, outcome_push, outcome_pop, reply_push, reply_pop, received_of, run, new_world}
@@ -46,19 +47,19 @@ module _ (U : Type 0) (clock n : ℕ) (pushed : List Ticket) (w : WorldState) (h
   abbrev way : List Decision
   way = on_the_way w.front w.parcels w.batches
 
-  far : SoFar clock (items_in h.taken) w.front.stopped w.ledger h.answers way
-  far = so_far clock (items_in h.taken) w.front.closed w.front.stopped h.applied way w.ledger
+  far : SoFar (new_ledger clock) (items_in h.taken) w.front.stopped w.ledger h.answers way
+  far = so_far (new_ledger clock) (items_in h.taken) w.front.closed w.front.stopped h.applied way w.ledger
       h.answers h.sent.passes h.commits
 
   items_are : items_in pushed ≡ items_in h.taken ++ items_in w.queue
   items_are = ap items_in h.split ∙ map-append (λ (ticket : Ticket). ticket.item) h.taken w.queue
 
-  pub far_prefix : IsPrefix h.answers (all_due clock (items_in pushed) (inputs w.ledger))
+  pub far_prefix : IsPrefix h.answers (all_due clock 0 (items_in pushed) (inputs w.ledger))
   far_prefix =
       let before = items_in h.taken in
       let after = items_in w.queue in
       let journal = inputs w.ledger in
-      rw items_are (is-prefix-trans h.answers (all_due clock before journal) (all_due clock (before ++ after) journal)
+      rw items_are (is-prefix-trans h.answers (all_due clock 0 before journal) (all_due clock 0 (before ++ after) journal)
       (far.later, far.due) (due-prefix clock journal (Ahead 0) before after))
 
   is_lawful_so_far : IsLawfulSoFar clock n pushed w
@@ -75,8 +76,8 @@ module _ (U : Type 0) (clock n : ℕ) (pushed : List Ticket) (w : WorldState) (h
         received = λ submitter among.
             let mailbox = mailbox_at w.mailboxes submitter in
             let others = mailbox.ring ++ replies_to (unrouted w.replies w.outcomes w.outcome) submitter in
-            let all = all_due clock (before ++ after) journal in
-            let answers = is-prefix-trans h.answers (all_due clock before journal) all (far.later, far.due)
+            let all = all_due clock 0 (before ++ after) journal in
+            let answers = is-prefix-trans h.answers (all_due clock 0 before journal) all (far.later, far.due)
             (due-prefix clock journal (Ahead 0) before after) in
             rw items_are (is-prefix-trans mailbox.received (replies_to h.answers submitter) (replies_to all submitter)
             (others, sym (h.routed.each submitter among)) (prefix-filter (λ (reply : ReplyValue). reply.submitter == submitter) h.answers all answers));
@@ -158,7 +159,7 @@ module _ (U : Type 0) (clock n : ℕ) (pushed : List Ticket) (w : WorldState)
   taken_all : h.taken ≡ pushed
   taken_all = sym (h.split ∙ ap (λ l. h.taken ++ l) e.queue ∙ append-nil h.taken)
 
-  ran : Ran clock (items_in pushed) w.ledger h.answers
+  ran : Ran (new_ledger clock) (items_in pushed) w.ledger h.answers
   ran =
       record {
         closed = w.front.closed;
@@ -179,13 +180,13 @@ module _ (U : Type 0) (clock n : ℕ) (pushed : List Ticket) (w : WorldState)
 
   rests : IsLawfulAtRest clock n pushed w
   rests =
-      let all : h.answers ≡ all_due clock (items_in pushed) (inputs w.ledger) =
+      let all : h.answers ≡ all_due clock 0 (items_in pushed) (inputs w.ledger) =
       (far U clock n pushed w h).replied e.way ∙ ap
-      (λ (queue : List Ticket). all_due clock (items_in queue) (inputs w.ledger)) taken_all in
+      (λ (queue : List Ticket). all_due clock 0 (items_in queue) (inputs w.ledger)) taken_all in
       record {
         received = λ submitter among. received_all submitter among ∙ ap (λ rs. replies_to rs submitter) all;
-        reports = λ over. run_is_lawful _ h.answers (queue_of_all n pushed w.senders h.senders over)
-            (subst (λ opened. Ran opened (items_in pushed) w.ledger h.answers) (sym h.commits.from) ran) received_all;
+        reports = λ over. run_is_lawful _ (new_ledger clock) h.answers
+            (queue_of_all n pushed w.senders h.senders over) refl ran received_all;
       }
 
   whole : Goes w.front w.ledger → inputs w.ledger ≡ ahead (items_in pushed)

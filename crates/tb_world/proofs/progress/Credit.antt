@@ -11,7 +11,6 @@ use Rattle.tb_work.specs.Queue.{AreSubmitted}
 use Rattle.tb_work.specs.declared.item.Item.{Item}
 use Rattle.tb_work.specs.declared.item.Item.TheVariants as item
 use Rattle.tb_work.specs.declared.item.Ticket.{Ticket}
-use Rattle.tb_core.specs.declared.parcel.Parcel.TheVariants as parcel
 use Rattle.tb_core.specs.Due.{all_due, replies_to, Ahead}
 use Rattle.tb_core.specs.EndedRun.{IsPrefix}
 use Rattle.tb_core.specs.Headline.{packets_queued, numbered_of}
@@ -125,9 +124,9 @@ counted (item.Packet job ∷ items) = omega (arith, counted items)
 counted (x ∷ items) = counted items
 
 as_many : (clock n s : ℕ) (journal : List Input) (queue : List Ticket) → AreSubmitted n queue
-    → length (replies_to (all_due clock (items_in queue) journal) s) ≡ packets_in (part s queue)
+    → length (replies_to (all_due clock 0 (items_in queue) journal) s) ≡ packets_in (part s queue)
 as_many clock n s journal queue all =
-    let replies = replies_to (all_due clock (items_in queue) journal) s in
+    let replies = replies_to (all_due clock 0 (items_in queue) journal) s in
     omega (
       arith,
       length-map replies numbered_of,
@@ -148,7 +147,7 @@ unread_few : (U : Type 0) (clock n : ℕ) (pushed : List Ticket) (w : WorldState
 unread_few U clock n pushed w h s among =
     let mailbox = mailbox_at w.mailboxes s in
     let way = replies_to (unrouted w.replies w.outcomes w.outcome) s in
-    let all = all_due clock (items_in pushed) (inputs w.ledger) in
+    let all = all_due clock 0 (items_in pushed) (inputs w.ledger) in
     let mine : IsPrefix (replies_to h.answers s) (replies_to all s) =
     prefix-filter (λ (reply : ReplyValue). reply.submitter == s) h.answers all (far_prefix U clock n pushed w h) in
     omega (

@@ -112,7 +112,7 @@ module _ (slots credit : ℕ) (some_slots : 0 < slots) (some_credit : 0 < credit
       → w.batches ≡ batches → length w.outcomes ≡ 0
       → Step (length batches + (sum_by left_of_pushed batches + left_of_outcome outcome)) w
   committer w (Some outcome) batches o e none =
-      inr (step_by w OutcomePush refl (lt-ltb (length w.outcomes) slots (omega (arith, some_slots, none)))
+      inr (step_by w OutcomePush refl (lt-ltb _ slots (omega (arith, some_slots, none)))
       (ap (λ (outcome : Option Outcomes). is_some (outcome_push w outcome)) o))
   committer w None [] o e none = inl refl
   committer w None (p ∷ batches) o e none =
@@ -126,8 +126,8 @@ module _ (slots credit : ℕ) (some_slots : 0 < slots) (some_credit : 0 < credit
       + left_of_last (all_ended w.front && not w.last_sent)))) w
   batcher w parcels held queue e g q none = by parcels held queue e g q
     where
-      room : nat_lt (length w.batches) slots ≡ true
-      room = lt-ltb (length w.batches) slots (omega (arith, some_slots, none))
+      room : has_room slots credit w BatchPush ≡ true
+      room = lt-ltb _ slots (omega (arith, some_slots, none))
 
       pushes : (parcels : List Parcel) (held : List Numbered) → w.parcels ≡ parcels → w.front.held ≡ held
           → is_some (batch_push w parcels held) ≡ true → Moves w

@@ -1,6 +1,6 @@
 -- A round takes one at least from what is left, so as many rounds as steps are left lead to rest.
 use Rattle.std.proofs.Common.{refl, sym, ap, subst, ◌∙◌, arith, ◌≡◌, ◌≢◌, ◌⊎◌, inl, inr, ⊎_elim, ℕ, zero, suc, ◌<◌, ◌≤◌, Bool, true, false, ◌||◌, List, [], ◌∷◌, ◌++◌, length, Option, Some, None, is_some, unwrap_or, eqb-true, ltb-true, eq-eqb, lt-ltb}
-use Rattle.std.specs.Prelude.{if◌then◌else◌, nat_lt}
+use Rattle.std.specs.Prelude.{if◌then◌else◌}
 use Rattle.std.specs.List.{list_any, AllByRecursion}
 use Rattle.std.proofs.lemmas.Bool.{cases_eq, or_parts, ne_eqb}
 use Rattle.tb_work.specs.Packet.{ReplyValue}
@@ -49,10 +49,11 @@ a_step n w (Push ticket) few unpushed is = cc
 a_step n w (ReplyPop own) few unpushed is = by (mailbox_at w.mailboxes own).ring refl is
   where
     by : (ring : List ReplyValue) → (mailbox_at w.mailboxes own).ring ≡ ring →
-        is_some (reply_pop w own (after_pop_of (mailbox_at w.mailboxes own) ring)) ≡ true → nat_lt own n ≡ true
+        is_some (reply_pop w own (after_pop_of (mailbox_at w.mailboxes own) ring)) ≡ true
+        → is_step_of n (ReplyPop own) ≡ true
     by [] e is = cc
     by (reply ∷ ring) e is =
-        lt-ltb own n (omega (arith, few, is_among w.mailboxes own (omega (arith, ap length e))))
+        lt-ltb _ n (omega (arith, few, is_among w.mailboxes own (omega (arith, ap length e))))
 a_step n w event few unpushed is = refl
 
 -- ---- whatever the room that steps find
@@ -193,7 +194,7 @@ among n (BatchPop refused) is = refl
 among n OutcomePush is = refl
 among n OutcomePop is = refl
 among n ReplyPush is = refl
-among n (ReplyPop own) is = reads n own (ltb-true own n is)
+among n (ReplyPop own) is = reads n own (omega (arith, ltb-true _ n is))
 
 pub one_round_is_a_round : OneRoundIsARound
 one_round_is_a_round n = record { all = among n; no_push = no_push n }

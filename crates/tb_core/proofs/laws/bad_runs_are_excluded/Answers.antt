@@ -1,4 +1,4 @@
-use Rattle.tb_core.proofs.BadRuns.{commits_a_stranger, shuts_down_a_committed, stops_a_committed, stops_behind_the_close, drops_pulses, changes_places, forgets_the_state, commits_nothing_running, commits_nothing_stopped, invents_a_packet, invents_a_pulse, overtakes, gives_anothers_reply, answers_anotherwise, loses_an_item}
+use Rattle.tb_core.proofs.BadRuns.{commits_a_stranger, shuts_down_a_committed, stops_a_committed, stops_behind_the_close, drops_pulses, changes_places, forgets_the_state, loses_the_journal, counts_places_anew, commits_nothing_running, commits_nothing_stopped, invents_a_packet, invents_a_pulse, overtakes, gives_anothers_reply, answers_anotherwise, loses_an_item}
 use Rattle.tb_core.proofs.laws.bad_runs_are_excluded.Goals as goal
 
 pub returns-clause-stranger : goal.returns-clause-stranger
@@ -21,6 +21,12 @@ returns-clause-changed_places c = changes_places
 
 pub returns-clause-state : goal.returns-clause-state
 returns-clause-state c = forgets_the_state
+
+pub returns-clause-lost_journal : goal.returns-clause-lost_journal
+returns-clause-lost_journal c = loses_the_journal
+
+pub returns-clause-places_anew : goal.returns-clause-places_anew
+returns-clause-places_anew c = counts_places_anew
 
 pub returns-clause-nothing_running : goal.returns-clause-nothing_running
 returns-clause-nothing_running c = commits_nothing_running

@@ -2,15 +2,16 @@ use Rattle.std.proofs.Common.{ℕ, List, ◌++◌, length}
 use Rattle.tb_core.specs.Front.{all_decisions_in}
 use Rattle.tb_core.specs.Grouping.{AreJoinedParcels}
 use Rattle.tb_core.specs.inside.Decision.{Decision}
+use Rattle.tb_core.specs.Journal.{LedgerState}
 use Rattle.tb_core.specs.Run.{HasNotStopped}
 use Rattle.tb_core.proofs.ItemList.{AreApplied}
 use Rattle.tb_core.proofs.list.apply_all.Given as goal
 
 abbrev pub invariant-loop-parcel : goal.invariant-loop-parcel
 invariant-loop-parcel l =
-    (clock limit : ℕ) (sent : List Decision) → AreJoinedParcels limit l.fn.parcels.items
-    → HasNotStopped clock limit sent l.fn.ledger l.fn.replies.items →
-    AreApplied clock limit (sent ++ all_decisions_in l.fn.parcels.items) l.parcels.items l.ledger l.replies.items
+    (start : LedgerState) (limit : ℕ) (sent : List Decision) → AreJoinedParcels limit l.fn.parcels.items
+    → HasNotStopped start limit sent l.fn.ledger l.fn.replies.items →
+    AreApplied start limit (sent ++ all_decisions_in l.fn.parcels.items) l.parcels.items l.ledger l.replies.items
 
 abbrev pub decreases-loop-parcel : goal.decreases-loop-parcel
 decreases-loop-parcel l = length l.parcels.items

@@ -2,18 +2,19 @@ use Rattle.std.proofs.Common.{ap, sym, subst, []}
 use Rattle.tb_core.specs.Front.{FrontState}
 use Rattle.tb_core.specs.Grouping.{AreWithin}
 use Rattle.tb_core.specs.Journal.{LedgerState}
+use Rattle.tb_core.specs.Ledger.{new_ledger}
 use Rattle.tb_core.specs.Run.{IsListed, Commits, IsDrained}
 use Rattle.tb_core.proofs.Runs.{run_is_listed}
 use Rattle.tb_core.proofs.list.run_list.Goals as goal
 
-done : (c : goal.After-drop) → IsDrained c.args.clock c.args.limit c.args.items.items
+done : (c : goal.After-drop) → IsDrained (new_ledger c.args.clock) c.args.limit c.args.items.items
     c.take_all_and_finish.new.self.ledger c.take_all_and_finish.new.self.replies.items
-done c = c.in-Ok-take_all_and_finish.ensures c.args.clock c.args.limit (record {
+done c = c.in-Ok-take_all_and_finish.ensures (new_ledger c.args.clock) c.args.limit (record {
   sent = [];
   under = ap (λ (f : FrontState). f.limit) c.in-Ok.ensures.front;
   passed = c.in-Ok.ensures.passes;
   goes_on = record {
-    commits = subst (Commits c.args.clock [] c.new-2.result)
+    commits = subst (Commits (new_ledger c.args.clock) [] c.new-2.result)
         (sym c.in_ok-replies.ensures.items) c.new-2.ensures.commits;
     unmarked = ap (λ (l : LedgerState). l.stopped) c.new-2.ensures.ledger;
     joined = rw c.new-2.ensures.ledger tt;

@@ -13,12 +13,12 @@ returns-clause-reported g c =
     let ended = g.C.ControlDriver.has_ended in
     let said = HasFinishedWith g.D.Driver.has_seen g.D.Driver.has_ended in
     IfOk-weaker c.scoped.result
-    (HasRun g.D.Driver.has_seen g.D.Driver.has_ended g.D.Driver.share ended opened.pipeline.clock
+    (HasRun g.D.Driver.has_seen g.D.Driver.has_ended g.D.Driver.share ended opened.pipeline.start
     opened.pipeline.intake tasks)
-    (said (ended c.args.control) opened.pipeline.clock opened.pipeline.intake opened.submitters.items opened.control)
-    (λ finished run. subst (λ before. said (ended c.args.control) opened.pipeline.clock opened.pipeline.intake before
+    (said (ended c.args.control) opened.pipeline.start opened.pipeline.intake opened.submitters.items opened.control)
+    (λ finished run. subst (λ before. said (ended c.args.control) opened.pipeline.start opened.pipeline.intake before
     opened.control finished) c.in_ok-tasks.ensures.submitters
-    (subst (λ (control : ControlTaskState _). said (ended control.driver) opened.pipeline.clock opened.pipeline.intake
+    (subst (λ (control : ControlTaskState _). said (ended control.driver) opened.pipeline.start opened.pipeline.intake
     (map task_submitter tasks.submitters) control.control finished) c.in_ok-tasks.ensures.control run.0))
     c.scoped.ensures.1
 

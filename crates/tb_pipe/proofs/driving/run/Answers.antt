@@ -1,8 +1,9 @@
-use Rattle.std.proofs.Common.{rules, ◌≡◌, ◌∙◌, ◌<◌, ℕ, List, map, length, ap, sym, subst}
+use Rattle.std.proofs.Common.{refl, rules, ◌≡◌, ◌∙◌, ◌<◌, ℕ, List, map, length, ap, sym, subst}
 use Rattle.std.proofs.lemmas.List.{length-map}
 use Rattle.std.proofs.lemmas.Simd.{map-map}
 use Rattle.std.specs.Prelude.{slice_index_or}
 use Rattle.tb_submit.specs.Ends.{EndedState, IntakeState, Seat, SenderState, end_origin, origin_of}
+use Rattle.tb_core.specs.Journal.{LedgerState}
 use Rattle.tb_drive.specs.Plan.{with_items}
 use Rattle.tb_pipe.specs.Reported.{HasReported}
 use Rattle.tb_pipe.specs.SettledRun.{run_of}
@@ -43,13 +44,14 @@ returns g c =
     λ k d within. ap (λ (seat : Seat). seat.limit) (settled.seats k d within) in
     let copied : c.of-unsettled.result.value.items ≡ ends = search rules in
     let taken : c.of-taken.result.value.intake.taken ≡ served.intake.taken = search rules in
-    let said = λ (clock : ℕ) (intake : IntakeState) (queue : List Ticket) (unsettled : List EndedState)
+    let said = λ (start : LedgerState) (intake : IntakeState) (queue : List Ticket) (unsettled : List EndedState)
     (last : SenderState).
     HasReported g.D.Driver.has_seen g.D.Driver.has_ended (run_of (record intake { taken = queue }) unsettled last
-    c.settle-report.result.ledger c.settle-report.result.ends.items) clock intake.limit before unsettled
+    start c.settle-report.result.ledger c.settle-report.result.ends.items) start intake.limit before unsettled
     c.settle-report.result.ends.items last drivers in
-    let reported : said served.clock served.intake served.intake.taken ends end = record {
+    let reported : said served.start served.intake served.intake.taken ends end = record {
       opening = settled.opening;
+      began = refl;
       own = results.own ∙ sym (map-map origin_of task_submitter tasks);
       ahead = results.front;
       settled = settled.settled;
@@ -71,11 +73,11 @@ returns g c =
       (
         control.0,
         control.2,
-        subst (λ clock. said clock c.args.pipeline.intake queue unsettled after) c.in-Ok.ensures.clock
-            (subst (λ intake. said served.clock intake queue unsettled after) c.in-Ok.ensures.intake
-            (subst (λ last. said served.clock served.intake queue unsettled last) control.1
-            (subst (λ copied. said served.clock served.intake queue copied end) (sym copied)
-            (subst (λ tickets. said served.clock served.intake tickets ends end) (sym taken) reported)))),
+        subst (λ start. said start c.args.pipeline.intake queue unsettled after) c.in-Ok.ensures.start
+            (subst (λ intake. said served.start intake queue unsettled after) c.in-Ok.ensures.intake
+            (subst (λ last. said served.start served.intake queue unsettled last) control.1
+            (subst (λ copied. said served.start served.intake queue copied end) (sym copied)
+            (subst (λ tickets. said served.start served.intake tickets ends end) (sym taken) reported)))),
       ),
       results.shares_are,
     )

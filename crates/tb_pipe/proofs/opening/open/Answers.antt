@@ -1,8 +1,9 @@
-use Rattle.std.proofs.Common.{◌∙◌, ap, arith, sym}
+use Rattle.std.proofs.Common.{◌∙◌, ap, arith, subst, sym}
+use Rattle.tb_core.specs.Journal.{LedgerState}
 use Rattle.tb_core.specs.Front.{FrontState}
 use Rattle.tb_rings.specs.Ends.{given, taken}
 use Rattle.tb_submit.specs.Ends.{IntakeState, seat_at}
-use Rattle.tb_pipe.specs.Carried.{IsBatched}
+use Rattle.tb_pipe.specs.Carried.{IsBatched, IsCommitted}
 use Rattle.tb_pipe.proofs.Fresh.{fresh_batched, fresh_committed, fresh_replies}
 use Rattle.tb_pipe.proofs.Origins.{length-origins, seat-origins}
 use Rattle.tb_pipe.proofs.opening.open.Goals as goal
@@ -33,8 +34,11 @@ invariant_of-result c =
     record {
       ready = record {
         batched = batched;
-        committed = fresh_committed c.args.clock (taken c.in-Some.rings.parcels) c.new-2.result
-            (given c.in-Some.rings.made) c.new-2.ensures.ledger empty.1 empty.2;
+        committed = subst (λ start. IsCommitted start (taken c.in-Some.rings.parcels) c.new-ledger.result
+            (given c.in-Some.rings.made)) (sym c.begin.ensures.start)
+            (fresh_committed (taken c.in-Some.rings.parcels) c.new-ledger.result (given c.in-Some.rings.made)
+            (c.begin.ensures.commits (ap (λ (ledger : LedgerState). ledger.stopped) c.new-ledger.ensures.ledger))
+            c.begin.ensures.joined empty.1 empty.2);
         replies = fresh_replies (taken c.in-Some.rings.outcomes) c.in_ok-ends.ends.outlets.items empty.3
             c.in_ok-ends.ensures.outlets.1;
       };

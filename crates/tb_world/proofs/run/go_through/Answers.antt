@@ -1,7 +1,7 @@
 use Rattle.std.proofs.Common.{◌≡◌, ◌∙◌, refl, sym, ap, subst, append_assoc, true, [], ◌∷◌, ◌++◌, List}
-use Rattle.std.specs.Prelude.{Result, Ok, Err, OnErr}
+use Rattle.std.specs.Prelude.{Result, Ok, Err, OnErr, is_some}
 use Rattle.tb_world.specs.declared.event.Event.{Event}
-use Rattle.tb_world.specs.World.{WorldState, after_event, run, takes_memory}
+use Rattle.tb_world.specs.World.{WorldState, after_event, moved, run, takes_memory}
 use Rattle.std.proofs.lemmas.List.{nil_from_length}
 use Rattle.tb_world.proofs.run.go_through.Goals as goal
 
@@ -50,7 +50,8 @@ returns-in_err-go_on-clause-memory c =
       event,
       rest,
       inv.all ∙ ap (λ (events : List Event). c.loop-event.yielded ++ events) step,
-      subst (λ (world : WorldState). takes_memory world event ≡ true) inv.so_far c.in_err-go_on.ensures.memory,
+      subst (λ (world : WorldState). is_some (moved world event) ≡ true) inv.so_far c.in_err-go_on.ensures.memory.0,
+      subst (λ (world : WorldState). takes_memory world event ≡ true) inv.so_far c.in_err-go_on.ensures.memory.1,
     )
 
 pub returns-clause-ok : goal.returns-clause-ok

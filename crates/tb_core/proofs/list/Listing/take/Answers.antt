@@ -7,7 +7,7 @@ use Rattle.tb_core.proofs.TicketDecisions.{has_taken}
 use Rattle.tb_core.proofs.list.Listing.take.Goals as goal
 
 pub returns-clause-runs : goal.returns-clause-runs
-returns-clause-runs c = λ clock limit items run.
+returns-clause-runs c = λ start limit items run.
     let ticket : Ticket = record { sender = 0; item = c.args.item } in
     let parcels = c.try_take-taken.new.parcels.items in
     let taken = has_taken false c.args.self.now.front ticket
@@ -23,5 +23,5 @@ returns-clause-runs c = λ clock limit items run.
       unstopped =
           taken.goes_on refl run.unstopped;
     })
-    (c.apply_all.ensures.applied clock limit run.sent
+    (c.apply_all.ensures.applied start limit run.sent
     (subst (λ n. AreJoinedParcels n parcels) run.under taken.lawful) run.goes_on)

@@ -1,4 +1,5 @@
 use Rattle.std.proofs.Common.{◌≡◌, ℕ, []}
+use Rattle.tb_core.specs.Journal.{LedgerState}
 use Rattle.tb_core.specs.Run.{IsRunning}
 use Rattle.tb_core.proofs.ItemList.{IsUnderWay}
 use Rattle.tb_core.proofs.list.Listing.take_all.Given as goal
@@ -6,7 +7,7 @@ use Rattle.tb_core.proofs.list.Listing.take_all.Given as goal
 abbrev pub invariant-loop-item : goal.invariant-loop-item
 invariant-loop-item l = record {
   none : l.parcels.items ≡ [];
-  runs : (clock limit : ℕ) → IsRunning clock limit [] l.initial.self.front l.initial.self.ledger
-      l.initial.self.replies.items → IsUnderWay clock limit l.fn.items.items l.item-iterator.rest.items l.self.front
+  runs : (start : LedgerState) (limit : ℕ) → IsRunning start limit [] l.initial.self.front l.initial.self.ledger
+      l.initial.self.replies.items → IsUnderWay start limit l.fn.items.items l.item-iterator.rest.items l.self.front
       l.self.ledger l.self.replies.items;
 }

@@ -22,17 +22,17 @@ invariant_of-self-3 c = record {
 }
 
 pub returns-clause-taken : goal.returns-clause-taken
-returns-clause-taken c = rw (← c.self.view_is) (λ clock items read has.
+returns-clause-taken c = rw (← c.self.view_is) (λ start items read has.
     let old = c.self.inside in
     let sent = has.sent ++ all_decisions_in c.try_take.new.parcels.items in
     record {
       sent = sent;
       passed = (taken c).passes items has.sent has.passed;
-      has_sent = subst (λ limit. HasSent clock limit sent c.apply_all.new.ledger (read ++ c.apply_all.new.unread.replies))
+      has_sent = subst (λ limit. HasSent start limit sent c.apply_all.new.ledger (read ++ c.apply_all.new.unread.replies))
           (sym (taken c).same.0)
-          (c.apply_all.ensures clock old.front.limit has.sent read (taken c).lawful
-          (subst (λ ledger. HasSent clock old.front.limit has.sent ledger (read ++ c.reserve.new.self.replies))
-          (sym c.reserve-2.ensures) (subst (HasSent clock old.front.limit has.sent old.ledger)
+          (c.apply_all.ensures start old.front.limit has.sent read (taken c).lawful
+          (subst (λ ledger. HasSent start old.front.limit has.sent ledger (read ++ c.reserve.new.self.replies))
+          (sym c.reserve-2.ensures) (subst (HasSent start old.front.limit has.sent old.ledger)
           (ap (λ replies. read ++ replies) (sym c.reserve.ensures.same)) has.has_sent)));
     })
 

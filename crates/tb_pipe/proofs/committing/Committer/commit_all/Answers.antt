@@ -1,21 +1,19 @@
-use Rattle.std.proofs.Common.{refl, ◌∙◌, subst, Bool, ◌++◌, ◌∷◌, []}
+use Rattle.std.proofs.Common.{refl, sym, ◌∙◌, subst, Bool, ◌++◌, ◌∷◌, []}
 use Rattle.tb_rings.specs.Ends.{given, taken}
-use Rattle.tb_pipe.specs.Carried.{CommittedTo}
+use Rattle.tb_pipe.specs.Carried.{AreCleared, CommittedTo, IsCommitted}
 use Rattle.tb_pipe.proofs.Cleared.{none_cleared, one_cleared}
 use Rattle.tb_pipe.proofs.committing.Committer.commit_all.Goals as goal
 
 pub loop-preserved : goal.loop-preserved
 loop-preserved g c =
     let parcel = c.clear-cleared.result in
-    let more : CommittedTo c.commit.result c.args.self.now.ledger.opening
-    (taken c.loop.self.inlet ++ parcel ∷ []) c.commit.new.ledger (given c.commit.new.outlet)
-    = c.commit.ensures.committed c.args.self.now.ledger.opening (taken c.loop.self.inlet) c.loop.invariant.committed in
     record {
       inlet = c.in-Some-take.ensures.ring ∙ c.loop.invariant.inlet;
       outlet = c.commit.ensures.ring ∙ c.loop.invariant.outlet;
-      committed = rw (c.in-Some-take.ensures.some, ← c.clear-cleared.ensures.parcel) (subst
-          (λ (b : Bool). CommittedTo b c.args.self.now.ledger.opening (taken c.loop.self.inlet ++ parcel ∷ []) c.commit.new.ledger
-          (given c.commit.new.outlet)) c.if-commit.false more);
+      committed = λ start begun. rw (c.in-Some-take.ensures.some, ← c.clear-cleared.ensures.parcel) (subst
+          (λ (b : Bool). CommittedTo b start (taken c.loop.self.inlet ++ parcel ∷ []) c.commit.new.ledger
+          (given c.commit.new.outlet)) c.if-commit.false
+          (c.commit.ensures.committed start (taken c.loop.self.inlet) (c.loop.invariant.committed start begun)));
       cleared = one_cleared (g.G.Gate.lets_through c.args.gate.now) (taken c.args.self.now.inlet) (taken c.loop.self.inlet)
           (taken c.take.new.self) c.loop.batches c.clear-cleared.new.batches c.in-Some-take.parcel
           c.loop.invariant.cleared c.in-Some-take.ensures.some c.clear-cleared.ensures.through
@@ -27,7 +25,7 @@ loop-init g c =
     record {
       inlet = refl;
       outlet = refl;
-      committed = c.requires;
+      committed = λ start begun. begun;
       cleared = none_cleared (g.G.Gate.lets_through c.args.gate.now) (taken c.args.self.now.inlet);
     }
 
@@ -41,11 +39,20 @@ returns-then-commit-clause-through g c = (
 )
 
 pub returns-then-commit-clause-all : goal.returns-then-commit-clause-all
-returns-then-commit-clause-all g c =
+returns-then-commit-clause-all g c = λ start begun.
     let parcel = c.clear-cleared.result in
-    let more : CommittedTo c.commit.result c.args.self.now.ledger.opening
-    (taken c.loop.self.inlet ++ parcel ∷ []) c.commit.new.ledger (given c.commit.new.outlet)
-    = c.commit.ensures.committed c.args.self.now.ledger.opening (taken c.loop.self.inlet) c.loop.invariant.committed in
     rw (c.in-Some-take.ensures.some, ← c.clear-cleared.ensures.parcel) (subst
-    (λ (b : Bool). CommittedTo b c.args.self.now.ledger.opening (taken c.loop.self.inlet ++ parcel ∷ []) c.commit.new.ledger
-    (given c.commit.new.outlet)) c.if-commit.true more)
+    (λ (b : Bool). CommittedTo b start (taken c.loop.self.inlet ++ parcel ∷ []) c.commit.new.ledger
+    (given c.commit.new.outlet)) c.if-commit.true
+    (c.commit.ensures.committed start (taken c.loop.self.inlet) (c.loop.invariant.committed start begun)))
+
+-- nothing was taken
+pub loop-preserved-in_default : goal.loop-preserved-in_default
+loop-preserved-in_default g c = record {
+  inlet = c.in_default.ensures.ring ∙ c.loop.invariant.inlet;
+  outlet = c.loop.invariant.outlet;
+  committed = λ start begun. subst (λ parcels. IsCommitted start parcels c.loop.self.ledger (given c.loop.self.outlet))
+      (sym c.in_default.ensures.none.0) (c.loop.invariant.committed start begun);
+  cleared = subst (λ parcels. AreCleared (g.G.Gate.lets_through c.args.gate.now) (taken c.args.self.now.inlet) parcels
+      c.loop.batches) (sym c.in_default.ensures.none.0) c.loop.invariant.cleared;
+}

@@ -1,4 +1,5 @@
 use Rattle.tb_rings.specs.Ends.{given, taken, SameInlet, SameOutlet}
+use Rattle.tb_core.specs.Journal.{LedgerState}
 use Rattle.tb_pipe.specs.Carried.{AreCleared, IsCommitted}
 use Rattle.tb_pipe.proofs.committing.Committer.commit_all.Given as goal
 
@@ -6,6 +7,7 @@ abbrev pub invariant-loop : goal.invariant-loop
 invariant-loop g l = record {
   inlet : SameInlet l.fn.self.inlet l.self.inlet;
   outlet : SameOutlet l.fn.self.outlet l.self.outlet;
-  committed : IsCommitted l.fn.self.ledger.opening (taken l.self.inlet) l.self.ledger (given l.self.outlet);
+  committed : (start : LedgerState) → IsCommitted start (taken l.fn.self.inlet) l.fn.self.ledger (given l.fn.self.outlet)
+      → IsCommitted start (taken l.self.inlet) l.self.ledger (given l.self.outlet);
   cleared : AreCleared (g.G.Gate.lets_through l.fn.gate) (taken l.fn.self.inlet) (taken l.self.inlet) l.batches;
 }

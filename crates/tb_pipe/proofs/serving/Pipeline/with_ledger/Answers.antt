@@ -1,4 +1,6 @@
+use Rattle.std.proofs.Common.{subst, sym}
 use Rattle.tb_rings.specs.Ends.{given, taken}
+use Rattle.tb_pipe.specs.Carried.{IsCommitted}
 use Rattle.tb_pipe.proofs.Fresh.{fresh_committed}
 use Rattle.tb_pipe.proofs.serving.Pipeline.with_ledger.Goals as goal
 
@@ -9,8 +11,9 @@ invariant_of-result c =
     record {
       ready = record {
         batched = is.ready.batched;
-        committed = fresh_committed c.args.ledger.opening (taken committer.inlet) c.args.ledger
-            (given committer.outlet) c.requires is.unserved.0 is.unserved.1;
+        committed = subst (λ start. IsCommitted start (taken committer.inlet) c.args.ledger (given committer.outlet))
+            (sym c.begin.ensures.start) (fresh_committed (taken committer.inlet) c.args.ledger (given committer.outlet)
+            (c.begin.ensures.commits c.requires) c.begin.ensures.joined is.unserved.0 is.unserved.1);
         replies = is.ready.replies;
       };
       unserved = is.unserved;

@@ -1,4 +1,4 @@
-use Rattle.std.proofs.Common.{ap, rules, ◌∙◌}
+use Rattle.std.proofs.Common.{ap, refl, rules, ◌∙◌}
 use Rattle.tb_rings.specs.Ends.{outlet_ring}
 use Rattle.tb_pipe.proofs.stages.Stages.run.Goals as goal
 
@@ -17,8 +17,9 @@ returns-clause-served g c =
         routed.0,
         routed.1,
       );
+      start = refl;
       intake = c.batch_all.ensures.intake;
       batched = rw c.into_outlet.ensures c.batch_all.ensures.all;
-      committed = committed.2;
+      committed = committed.2 c.args.self.start.value c.requires.committed;
       routed = routed.2;
     }

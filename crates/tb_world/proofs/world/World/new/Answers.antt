@@ -5,7 +5,7 @@ use Rattle.tb_world.proofs.world.World.new.Goals as goal
 pub returns-clause-world : goal.returns-clause-world
 returns-clause-world c =
     rw (
-      c.in-Ok.ensures.senders,
+      c.newcomers.ensures,
       c.new-2.ensures.items,
       c.in_ok-front.ensures.front,
       c.new-3.ensures,
@@ -13,14 +13,11 @@ returns-clause-world c =
       c.new-5.ensures.ledger,
       c.new-6.ensures.items,
       c.nothing.ensures,
-      c.in-Ok.ensures.mailboxes,
+      c.new-7.ensures,
     ) refl
 
 pub returns-in_err-front-clause-refusal : goal.returns-in_err-front-clause-refusal
 returns-in_err-front-clause-refusal c = search rules
-
-pub returns-in_default-clause-refusal : goal.returns-in_default-clause-refusal
-returns-in_default-clause-refusal c = search rules
 
 pub invariant_of-result : goal.invariant_of-result
 invariant_of-result c = grind (arith, common_steps)

@@ -1,7 +1,8 @@
-use Rattle.std.proofs.Common.{◌≤◌, ◌∙◌, sym, subst, All, List, length-set, arith, rules}
+use Rattle.std.proofs.Common.{◌≤◌, ◌∙◌, sym, subst, All, List, ap, length, length-set, arith, rules}
 use Rattle.std.proofs.lemmas.Grind.{common_steps}
 use Rattle.std.proofs.lemmas.List.Elements.{All-push}
 use Rattle.tb_work.specs.declared.item.Ticket.{Ticket}
+use Rattle.tb_world.specs.declared.sender.WorldSender.{WorldSender}
 use Rattle.tb_world.proofs.world.World.push.Goals as goal
 
 pub invariant_of-self : goal.invariant_of-self
@@ -14,7 +15,7 @@ invariant_of-self c =
       queued = subst (All (λ (ticket : Ticket). ticket.sender ≤ most)) (sym {A = List Ticket} c.in-Ok.ensures.items)
           (All-push (λ (ticket : Ticket). ticket.sender ≤ most) c.self.inside.queue.items
           c.args.ticket is.queued among);
-      all_senders = length-set c.self.inside.senders.items c.args.ticket.sender c.after-next.result ∙ is.all_senders;
+      all_senders = ap (length {A = WorldSender}) c.put.ensures ∙ length-set c.self.inside.senders.items c.args.ticket.sender c.after-next.result ∙ is.all_senders;
     }
 
 pub returns-then-number-len-clause-ok : goal.returns-then-number-len-clause-ok

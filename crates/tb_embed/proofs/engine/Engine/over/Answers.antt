@@ -1,0 +1,11 @@
+use Rattle.std.proofs.Common.{refl, ap}
+use Rattle.tb_core.specs.Front.{FrontState}
+use Rattle.tb_embed.proofs.Opened.{opened_over}
+use Rattle.tb_embed.proofs.engine.Engine.over.Goals as goal
+
+pub returns-clause-opened : goal.returns-clause-opened
+returns-clause-opened c =
+    let front_is = c.in-Ok.ensures.front in
+    opened_over c.args.ledger c.args.limit c.args.submitters _ c.in-Ok.front
+    (rw c.new-2.ensures refl) (ap (λ (f : FrontState). f.limit) front_is)
+    (ap (λ (f : FrontState). f.submitters) front_is) c.in-Ok.ensures.passes c.requires

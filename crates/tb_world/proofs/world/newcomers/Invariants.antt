@@ -1,0 +1,6 @@
+use Rattle.std.proofs.Common.{◌≡◌, replicate}
+use Rattle.tb_world.specs.Pushing.{newcomer}
+use Rattle.tb_world.proofs.world.newcomers.Given as goal
+
+abbrev pub invariant-loop : goal.invariant-loop
+invariant-loop l = l.senders.items ≡ replicate l.counter newcomer
