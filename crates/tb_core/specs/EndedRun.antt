@@ -11,8 +11,7 @@ use Rattle.tb_work.specs.declared.item.Ticket.{Ticket}
 use Rattle.tb_core.specs.Journal.{LedgerState, inputs}
 
 -- `queue` is as the intake popped it, `queued` what each sender queued itself. The control is the sender after the last
--- submitter. `before` is what the ledger had committed when the run began, in this and in all earlier runs: nothing if the
--- ledger was new.
+-- submitter. `before` is what earlier runs committed.
 pub record Run : Type 0 where
   pub submitters : ℕ
   pub queue : List Ticket

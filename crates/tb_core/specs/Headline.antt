@@ -22,8 +22,8 @@ abbrev pub IsIn : {X : Type 0} → X → List X → Type 0
 IsIn {X} x xs = (index : ℕ) × (slice_get xs index ≡ Some x)
 
 -- What an outcome says of its packet is true. A committed packet is at its place, which counts on from earlier runs, with
--- the answer that the state machine gives it alone after all that is before it. A stopped one is ahead of the Close and isn't committed, and one that is shut
--- down isn't ahead of the Close.
+-- the answer that the state machine gives it alone after what is before it. A stopped one is ahead of the Close and isn't
+-- committed, and one that is shut down isn't ahead of the Close.
 abbrev pub IsTrueOf : Run → Numbered → Outcome → Type 0
 IsTrueOf run packet (Committed place answer) =
     (index : ℕ) × (place ≡ length run.before + index) × (slice_get (committed_in run) index ≡ Some (input_of packet))
@@ -32,9 +32,9 @@ IsTrueOf run packet Stopped =
     IsIn (input_of packet) (ahead_in run) × (IsIn (input_of packet) (committed_in run) → ⊥)
 IsTrueOf run packet Shutdown = IsIn (input_of packet) (ahead_in run) → ⊥
 
--- The queue has what each sender queued, its end last. What was committed before the run is still the journal's head. What
--- the run committed is a prefix of what is ahead of the Close, all of it unless something stopped. Replies are one per queued
--- packet, in order, and what each says is true. The state is that of all that was ever committed.
+-- The queue has what each sender queued, its end last. The journal goes on from earlier runs. What is committed is a prefix
+-- of what is ahead of the Close, all of it unless something stopped. Replies are one per queued packet, in order, and what
+-- each says is true. The state is that of the whole journal.
 pub record Headline (run : Run) : Type 0 where
   pub queued : IsQueueOf run.submitters run.queue run.queued
   pub continues : IsPrefix run.before (inputs run.ledger)

@@ -1,11 +1,10 @@
--- What a run with threads is, as the report and the headline see it.
+-- A run with threads.
 use Rattle.std.specs.Prelude.{List}
 use Rattle.tb_core.specs.Journal.{LedgerState, inputs}
 use Rattle.tb_core.specs.EndedRun.{Run}
 use Rattle.tb_submit.specs.Ended.{EndedState, IntakeState, SenderState, queued_by, replies_of}
 
--- the run of a pipeline that was settled with these ends, with its ledger as it was at the start and after, and the ends as
--- they came back
+-- the run of a pipeline with these ends, its ledger at the start and after, and the ends as they came back
 abbrev pub run_of : IntakeState → List EndedState → SenderState → LedgerState → LedgerState → List EndedState → Run
 run_of intake ends control start ledger settled =
     record {

@@ -6,25 +6,25 @@ use Rattle.tb_work.specs.Packet.{ReplyValue}
 use Rattle.tb_work.specs.declared.item.Item.{Item}
 use Rattle.tb_work.specs.declared.item.Ticket.{Ticket}
 
--- A sender's seat: its queue, how many submitters that has, the most events of a packet, and the sender's number (the
--- control's is the one after the last submitter). A sender that was settled has left its queue.
+-- A sender's place at a queue, by its number; the control's is after the last submitter's. `limit` is the most events of a
+-- packet. A sender that was settled has left its queue.
 pub record Seat : Type 0 where
   pub queue : Option TableId
   pub submitters : ℕ
   pub limit : ℕ
   pub number : ℕ
 
--- where a submitter comes from: two ends with one origin are one end, at two moments
+-- two ends with one origin are one end, at two moments
 pub record Origin : Type 0 where
   pub seat : Seat
   pub ring : RingId
 
--- a sender, with what it queued; this is what is seen of the control and of its end
+-- the control, or its end
 pub record SenderState : Type 0 where
   pub seat : Seat
   pub queued : List Item
 
--- a submitter that has ended; once it was settled, all of its unread replies are known to be in its ring
+-- a submitter that has ended; once it was settled, all of its unread replies are in its ring
 pub record EndedState : Type 0 where
   pub origin : Origin
   pub queued : List Item
@@ -32,7 +32,7 @@ pub record EndedState : Type 0 where
   pub lying : List ReplyValue
   pub settled : Bool
 
--- the intake, with what it took, after how many tickets it saw its queue empty, and the queue's capacity
+-- the intake, with what it took, and after how many tickets it saw its queue empty
 pub record IntakeState : Type 0 where
   pub queue : TableId
   pub submitters : ℕ
@@ -41,13 +41,13 @@ pub record IntakeState : Type 0 where
   pub taken : List Ticket
   pub seen_empty : List ℕ
 
--- what each sender queued; the control is the one after the submitters
+-- what each sender queued
 abbrev pub queued_by : List EndedState → SenderState → ℕ → List Item
 queued_by [] control sender = control.queued
 queued_by (ended ∷ others) control zero = ended.queued
 queued_by (ended ∷ others) control (suc sender) = queued_by others control sender
 
--- the replies that each submitter read, and those in its ring
+-- each submitter's replies, read or not
 abbrev pub replies_of : List EndedState → ℕ → List ReplyValue
 replies_of [] sender = []
 replies_of (ended ∷ others) zero = ended.read ++ ended.lying

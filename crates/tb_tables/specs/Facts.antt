@@ -4,8 +4,8 @@ use Rattle.std.specs.List.{list_any}
 use Rattle.tb_layout.specs.declared.account.Account.{Account}
 use Rattle.tb_layout.specs.declared.transfer.Transfer.{Transfer}
 
--- Accounts, transfers and failed ids are in order of adding, a post or a void with its resolved fields. `expired` are ids
--- of transfers, in their order; `failed` are the ids that code 68 refuses.
+-- In order of adding, a post or a void with its resolved fields. `expired` are ids of transfers, in their order, `failed`
+-- the ids that code 68 refuses.
 pub record Facts : Type 0 where
   pub accounts : List Account
   pub transfers : List Transfer

@@ -6,7 +6,6 @@ use Rattle.tb_work.specs.declared.item.Item.{Item}
 use Rattle.tb_work.specs.declared.item.Item.TheVariants.{Packet, Pulse, End, Close}
 use Rattle.tb_work.specs.declared.item.Ticket.{Ticket}
 
--- whether an item is its sender's last
 abbrev pub is_end : Item → Bool
 is_end (Packet job) = false
 is_end (Pulse moment) = false
