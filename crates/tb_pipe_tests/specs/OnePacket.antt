@@ -1,6 +1,7 @@
 -- A run with one packet, from opening to its reply.
 use Rattle.std.specs.Prelude.{◌≡◌, ℕ, List, [], ◌∷◌, ◌⊎◌, length, slice_index_or}
 use Rattle.tb_core.specs.Journal.{LedgerState}
+use Rattle.tb_core.specs.Ledger.{new_ledger}
 use Rattle.tb_core.specs.Report.{LawfulReport}
 use Rattle.tb_machine.specs.Replay.{answer_of, opening}
 use Rattle.tb_submit.specs.Ends.{EndedState}
@@ -27,7 +28,7 @@ pub record IsRunOfOne (clock : ℕ) (packet : Packet) (ledger : LedgerState) (en
   pub long : length ends ≡ 1
   pub unread : (d : EndedState) → (slice_index_or ends 0 d).read ≡ []
   pub opening : ledger.opening ≡ clock
-  pub lawful : LawfulReport (run_with 1 queue queued ledger ends)
+  pub lawful : LawfulReport (run_with 1 queue queued (new_ledger clock) ledger ends)
 
 -- the packet as it was handed in, Stopped, or committed at place 0 and answered by the state that was opened
 abbrev pub IsReplyToOne : ℕ → Packet → ReplyValue → Type 0

@@ -1,7 +1,8 @@
 -- Ends that were opened together, and a run from opening to the report.
 use Rattle.std.specs.Prelude.{◌≡◌, ℕ, List, map}
 use Rattle.tb_core.specs.Grouping.{IsGrouping}
-use Rattle.tb_core.specs.Journal.{LedgerState}
+use Rattle.tb_core.specs.Journal.{LedgerState, groups_since, inputs}
+use Rattle.tb_core.specs.Ledger.{new_ledger}
 use Rattle.tb_core.specs.EndedRun.{Run}
 use Rattle.tb_core.specs.Report.{LawfulReport}
 use Rattle.tb_submit.specs.Ends.{EndedState, SubmitterState, SenderState, origin_of, control_seat, replies_of}
@@ -14,23 +15,26 @@ abbrev pub AreTogether : PipelineState → List SubmitterState → SenderState �
 AreTogether pipeline submitters control =
     (map origin_of submitters ≡ pipeline.submitters) × (control.seat ≡ control_seat pipeline.intake)
 
--- a pipeline that was opened with this clock and this limit, for this number of submitters
+-- a pipeline over a new ledger that was opened with this clock and this limit, for this number of submitters
 abbrev pub IsOpenedAs : ℕ → ℕ → ℕ → PipelineState → Type 0
 IsOpenedAs clock limit submitters pipeline =
-    (pipeline.clock ≡ clock) × (pipeline.intake.limit ≡ limit) × (pipeline.intake.submitters ≡ submitters)
+    (pipeline.start ≡ new_ledger clock) × (pipeline.intake.limit ≡ limit) × (pipeline.intake.submitters ≡ submitters)
 
-abbrev pub run_with : ℕ → List Ticket → (ℕ → List Item) → LedgerState → List EndedState → Run
-run_with submitters queue queued ledger ends =
+-- the run of these that began with this ledger and ended with that one
+abbrev pub run_with : ℕ → List Ticket → (ℕ → List Item) → LedgerState → LedgerState → List EndedState → Run
+run_with submitters queue queued start ledger ends =
     record {
       submitters = submitters;
       queue = queue;
       queued = queued;
+      before = inputs start;
       ledger = ledger;
       replies = replies_of ends;
     }
 
--- of some queue that its senders filled, the report is lawful, and the journal's groups are lawful under the limit
-abbrev pub IsRun : ℕ → ℕ → ℕ → LedgerState → List EndedState → Type 0
-IsRun clock limit submitters ledger ends =
-    (queue : List Ticket) × (queued : ℕ → List Item) × (ledger.opening ≡ clock)
-    × LawfulReport (run_with submitters queue queued ledger ends) × IsGrouping limit ledger.groups
+-- of some queue that its senders filled, the report is lawful, and the groups that were added are lawful under the limit
+abbrev pub IsRun : LedgerState → ℕ → ℕ → LedgerState → List EndedState → Type 0
+IsRun start limit submitters ledger ends =
+    (queue : List Ticket) × (queued : ℕ → List Item) × (ledger.opening ≡ start.opening)
+    × LawfulReport (run_with submitters queue queued start ledger ends)
+    × IsGrouping limit (groups_since start ledger)

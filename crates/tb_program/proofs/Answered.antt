@@ -3,7 +3,8 @@ use Rattle.std.proofs.Common.{◌≡◌, ◌∙◌, ◌<◌, ℕ, zero, suc, Boo
 use Rattle.std.specs.Prelude.{◌==◌, slice_get, if◌then◌else◌}
 use Rattle.std.proofs.lemmas.Option.{slice_get_within}
 use Rattle.tb_core.specs.Due.{outcome_at, reply_due, all_due_from, replies_to, Place, Ahead, next_place}
-use Rattle.tb_core.specs.EndedRun.{Run, committed_in}
+use Rattle.tb_core.specs.EndedRun.{Run}
+use Rattle.tb_core.specs.Journal.{LedgerState, inputs}
 use Rattle.tb_layout.specs.Events.{Input}
 use Rattle.tb_submit.specs.Ends.{EndedState, SenderState, SubmitterState, replies_of}
 use Rattle.tb_work.specs.Ahead.{items_in, part}
@@ -60,10 +61,10 @@ some_at [] k below = absurd (omega (arith, below))
 some_at (x ∷ xs) zero below = (x, refl)
 some_at (x ∷ xs) (suc k) below = some_at xs k (omega (arith, below))
 
-module _ {run : Run} {clock limit : ℕ} {before : List SubmitterState} {unsettled ends : List EndedState}
+module _ {run : Run} {start : LedgerState} {limit : ℕ} {before : List SubmitterState} {unsettled ends : List EndedState}
     {control : SenderState} {drivers : List ScriptDriver}
     (replies : run.replies ≡ replies_of ends)
-    (reported : HasReported HasSeenOf HasEndedOf run clock limit before unsettled ends control drivers) where
+    (reported : HasReported HasSeenOf HasEndedOf run start limit before unsettled ends control drivers) where
   pub all_answered : AreAllAnswered drivers ends
   all_answered k driver ended driver_is ended_is =
       let below : k < run.submitters = subst (λ n. k < n) reported.number (slice_get_within ends k ended ended_is) in
@@ -74,7 +75,8 @@ module _ {run : Run} {clock limit : ℕ} {before : List SubmitterState} {unsettl
         queued = jobs_in (run.queued k);
         seen = reported.seen k driver ended driver_is ended_is;
         number = ap (λ items. length (jobs_in items)) (sym parts)
-            ∙ as_many_due run.ledger.opening run.submitters k (committed_in run) (Ahead 0) run.queue filled.submitted
+            ∙ as_many_due run.ledger.opening run.submitters k (inputs run.ledger) (Ahead (length run.before)) run.queue
+            filled.submitted
             ∙ ap length (sym (reported.report.replied k below) ∙ ap (λ by_submitter. by_submitter k) replies
             ∙ replies_at ends k ended ended_is);
       }

@@ -84,6 +84,7 @@ pub record IsRunText (clock limit : ℕ) (shares : List (List packets.Packet)) (
   pub run : Run
   pub told : List (List Told)
   pub clock_is : run.ledger.opening ≡ clock
+  pub first : run.before ≡ []
   pub submitters_are : run.submitters ≡ length shares
   pub report : LawfulReport run
   pub grouping : IsGrouping limit run.ledger.groups

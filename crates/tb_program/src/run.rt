@@ -2,6 +2,7 @@
 
 ghost use Rattle.std.specs.Prelude.{◌≡◌, ◌≤◌, ℕ, List, [], false, true, length, map, IfOk, IfSome, IsErrOf, string_bytes};
 ghost use Rattle.std.specs.Io.KnownBytes.{Appends, Keeps};
+ghost use Rattle.tb_core.specs.Ledger.{new_ledger};
 ghost use Rattle.tb_drive.specs.Plan.{planned_items, refused_of};
 ghost use Rattle.tb_pipe.specs.Reported.{AreTogether};
 ghost use Rattle.tb_layout.specs.inside.Limits.{submitters_max};
@@ -38,7 +39,7 @@ fn open_for(alloc: Global, settings: &Settings) -> Result<Opened, NoMemory>
     requires { InBounds settings.now }
     ensures together { IfOk result (λ opened. AreTogether opened.pipeline opened.submitters.items opened.control) }
     ensures number { IfOk result (λ opened. length opened.pipeline.submitters ≡ submitters_of settings.now) }
-    ensures clock { IfOk result (λ opened. opened.pipeline.clock ≡ clock_of settings.now) }
+    ensures start { IfOk result (λ opened. opened.pipeline.start ≡ new_ledger (clock_of settings.now)) }
     ensures limit { IfOk result (λ opened. opened.pipeline.intake.limit ≡ limit_of settings.now) }
     ensures capacity { IfOk result (λ opened. opened.pipeline.intake.capacity ≡ capacity_of settings.now) }
     ensures credit { IfOk result (λ opened. HaveCredit (credit_of settings.now) opened.submitters.items) }
@@ -83,12 +84,13 @@ fn run_opened<T: Threads + Wait + Sync>(
     lines: ControlPlan,
 ) -> Result<String, ProgramFault>
     requires together { AreTogether opened.pipeline opened.submitters.items opened.control }
+    requires first { opened.pipeline.start ≡ new_ledger opened.pipeline.start.opening }
     requires number { length drivers.items ≡ length opened.pipeline.submitters }
     requires few { length drivers.items ≤ submitters_max }
     requires fresh { AreFresh opened.submitters.items }
     requires silent { opened.control.queued ≡ [] }
     requires new { AreNew drivers.items }
-    ensures { IfOk result (λ text. IsRunText opened.pipeline.clock opened.pipeline.intake.limit
+    ensures { IfOk result (λ text. IsRunText opened.pipeline.start.opening opened.pipeline.intake.limit
         (map share_of drivers.items)
         (planned_items lines.moments.items lines.shuts) (refused_of lines.moments.items) (string_bytes text)) }
 {

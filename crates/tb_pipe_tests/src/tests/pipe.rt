@@ -21,6 +21,7 @@ use tb_work::{Outcome, Packet, Refusal, Reply};
 
 mod clients;
 mod controls;
+mod days;
 mod driven;
 mod gates;
 mod memory;
@@ -243,7 +244,7 @@ fn finish<R: Threads + Wait + Sync, G: Gate>(
 ) -> Result<Report, (Intake, Refusal)>
     requires own { map end_origin ends.submitters.items ≡ pipeline.submitters }
     requires control { ends.control.seat ≡ control_seat pipeline.intake }
-    ensures { IfOk result (λ report. IsRun pipeline.clock pipeline.intake.limit pipeline.intake.submitters
+    ensures { IfOk result (λ report. IsRun pipeline.start pipeline.intake.limit pipeline.intake.submitters
         report.ledger report.ends.items) }
 {
     let served = pipeline.serve(rt, gate)?;
@@ -260,7 +261,7 @@ fn finish_lone<R: Threads + Wait + Sync + Abort, G: Gate>(
     gate: &G,
 ) -> Report
     requires { AreTogether lone.pipeline (lone.submitter ∷ []) lone.control }
-    ensures { IsRun lone.pipeline.clock lone.pipeline.intake.limit lone.pipeline.intake.submitters
+    ensures { IsRun lone.pipeline.start lone.pipeline.intake.limit lone.pipeline.intake.submitters
         result.ledger result.ends.items }
 {
     let Lone {
@@ -288,7 +289,7 @@ fn finish_started<R: Threads + Wait + Sync + Abort, G: Gate>(
 ) -> Report
     requires own { map end_origin ends.submitters.items ≡ pipeline.submitters }
     requires control { ends.control.seat ≡ control_seat pipeline.intake }
-    ensures { IsRun pipeline.clock pipeline.intake.limit pipeline.intake.submitters result.ledger result.ends.items }
+    ensures { IsRun pipeline.start pipeline.intake.limit pipeline.intake.submitters result.ledger result.ends.items }
 {
     match finish(rt, pipeline, ends, gate) {
         Ok(report) => report,

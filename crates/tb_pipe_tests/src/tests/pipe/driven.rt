@@ -288,7 +288,7 @@ pub(super) fn run<R: Threads + Wait + Sync + Abort>(
 ) -> Result<(Report, Saw), Refusal>
     requires own { map end_origin driving.ends.items ++ origin_of driving.last ∷ [] ≡ driving.pipeline.submitters }
     requires control { driving.control.seat ≡ control_seat driving.pipeline.intake }
-    ensures { IfOk result (λ run. IsRun driving.pipeline.clock driving.pipeline.intake.limit
+    ensures { IfOk result (λ run. IsRun driving.pipeline.start driving.pipeline.intake.limit
         driving.pipeline.intake.submitters run.0.ledger run.0.ends.items) }
 {
     let Driving {
@@ -303,7 +303,7 @@ pub(super) fn run<R: Threads + Wait + Sync + Abort>(
         |scope| -> Result<(Report, Saw), Refusal>
             requires own { map end_origin ends.items ++ origin_of last ∷ [] ≡ pipeline.submitters }
             requires control { control.seat ≡ control_seat pipeline.intake }
-            ensures { IfOk result (λ run. IsRun pipeline.clock pipeline.intake.limit pipeline.intake.submitters
+            ensures { IfOk result (λ run. IsRun pipeline.start pipeline.intake.limit pipeline.intake.submitters
                 run.0.ledger run.0.ends.items) }
         {
             let mut ends = ends;

@@ -2,6 +2,7 @@
 
 ghost use Rattle.std.specs.Prelude.{◌≡◌, map};
 ghost use Rattle.tb_submit.specs.Ends.{end_origin, origin_of};
+ghost use Rattle.tb_core.specs.Ledger.{new_ledger};
 ghost use Rattle.tb_pipe_tests.specs.Together.{AreTogether, IsRun};
 
 use super::{
@@ -55,7 +56,7 @@ pub(super) fn run_queued<R: Threads + Wait + Sync + Abort, G: Gate>(
     remainder: &[u8],
     gate: &G,
 ) -> Report
-    ensures { IsRun 0 4 1 result.ledger result.ends.items }
+    ensures { IsRun (new_ledger 0) 4 1 result.ledger result.ends.items }
 {
     let mut lone = open_lone(rt, alloc, 4, 64, 64);
     queue_steps(rt, alloc, &mut lone.submitter, &mut lone.control, steps);
@@ -152,7 +153,7 @@ fn submit_four<R: Wait + Abort>(rt: &R, alloc: Global, submitter: &mut Submitter
 }
 
 fn three_unread<R: Threads + Wait + Sync + Abort>(rt: &R, alloc: Global) -> Report
-    ensures { IsRun 0 4 1 result.ledger result.ends.items }
+    ensures { IsRun (new_ledger 0) 4 1 result.ledger result.ends.items }
 {
     let mut lone = open_lone(rt, alloc, 4, 8, 3);
     submit_four(rt, alloc, &mut lone.submitter);
@@ -202,7 +203,7 @@ fn end_each<R: Wait + Abort>(
 /// Has each submitter queue a packet and end, and serves them.
 fn finish_each<R: Threads + Wait + Sync + Abort>(rt: &R, alloc: Global, opened: Opened) -> Report
     requires { AreTogether opened.pipeline opened.submitters.items opened.control }
-    ensures { IsRun opened.pipeline.clock opened.pipeline.intake.limit opened.pipeline.intake.submitters
+    ensures { IsRun opened.pipeline.start opened.pipeline.intake.limit opened.pipeline.intake.submitters
         result.ledger result.ends.items }
 {
     let ends = end_each(rt, alloc, opened.submitters, opened.control);
@@ -210,7 +211,7 @@ fn finish_each<R: Threads + Wait + Sync + Abort>(rt: &R, alloc: Global, opened: 
 }
 
 fn one_of_each<R: Threads + Wait + Sync + Abort>(rt: &R, alloc: Global) -> Report
-    ensures { IsRun 0 4 16 result.ledger result.ends.items }
+    ensures { IsRun (new_ledger 0) 4 16 result.ledger result.ends.items }
 {
     match opened(alloc, 4, 64, 64, 16) {
         Ok(opened) => finish_each(rt, alloc, opened),

@@ -5,6 +5,7 @@ ghost use Rattle.tb_submit.specs.Ends.{end_origin, ended_with, control_seat, sen
 ghost use Rattle.tb_work.specs.Job.{numbered_packet};
 ghost use Rattle.tb_work.specs.declared.item.Item.TheVariants as item;
 ghost use Rattle.tb_work.specs.declared.packet.Packet.{Packet as PacketValue};
+ghost use Rattle.tb_core.specs.Ledger.{new_ledger};
 ghost use Rattle.tb_pipe_tests.specs.OnePacket.{IsReplyToOne, IsRunOfOne, one_and_end};
 
 use super::{lone_of, look_of, put, room_for_ends};
@@ -61,7 +62,7 @@ fn end_alone<R: Wait + Abort>(rt: &R, control: Control) -> ControlEnd
 fn queue_one<R: Wait + Abort>(rt: &R, alloc: Global, packet: Packet) -> Queued
     ensures own { end_origin result.ended ∷ [] ≡ result.pipeline.submitters }
     ensures control { result.control ≡ record { seat = control_seat result.pipeline.intake; queued = item.End ∷ [] } }
-    ensures opened { (result.pipeline.clock ≡ 0) × (result.pipeline.intake.submitters ≡ 1) }
+    ensures opened { (result.pipeline.start ≡ new_ledger 0) × (result.pipeline.intake.submitters ≡ 1) }
     ensures queued { (result.ended.queued ≡ one_and_end packet) × (result.ended.read ≡ []) }
 {
     match open(alloc, 0, 4, 64, 64, 1) {
@@ -92,7 +93,7 @@ fn only_end(rt: &impl Abort, alloc: Global, ended: Ended) -> Vec<Ended>
 fn settle_one<R: Threads + Wait + Sync + Abort>(rt: &R, alloc: Global, queued: Queued) -> Report
     requires own { end_origin queued.ended ∷ [] ≡ queued.pipeline.submitters }
     requires control { queued.control ≡ record { seat = control_seat queued.pipeline.intake; queued = item.End ∷ [] } }
-    requires opened { (queued.pipeline.clock ≡ 0) × (queued.pipeline.intake.submitters ≡ 1) }
+    requires opened { (queued.pipeline.start ≡ new_ledger 0) × (queued.pipeline.intake.submitters ≡ 1) }
     ensures { (packet : PacketValue) → queued.ended.queued ≡ one_and_end packet → queued.ended.read ≡ []
         → IsRunOfOne 0 packet result.ledger result.ends.items }
 {

@@ -1,6 +1,8 @@
 use Rattle.std.proofs.Common.{rules, ◌≡◌, ◌∙◌, Vec, length, ap, sym, arith}
 use Rattle.std.proofs.lemmas.List.{length-map}
 use Rattle.std.specs.declared.alloc.Global.{Global}
+use Rattle.tb_core.specs.Journal.{LedgerState}
+use Rattle.tb_core.specs.Ledger.{new_ledger}
 use Rattle.tb_program_text.specs.declared.item.Settings.{Settings}
 use Rattle.tb_program_text.specs.Script.{clock_of, items_of, limit_of, submitters_of}
 use Rattle.tb_work.specs.declared.packet.Packet.{Packet}
@@ -18,6 +20,11 @@ run_opened-requires-clause-number g c κs within =
     sym (length-map drivers share_of) ∙ ap length c.in_ok-drivers.ensures.shares
     ∙ length-map packets (λ (share : Vec Packet Global). share.items) ∙ number ∙ sym c.in-Ok.ensures.number
 
+pub run_opened-requires-clause-first : goal.run_opened-requires-clause-first
+run_opened-requires-clause-first g c κs within =
+    let start = c.in-Ok.ensures.start in
+    start ∙ ap new_ledger (sym (ap (λ (start : LedgerState). start.opening) start))
+
 pub run_opened-requires-clause-few : goal.run_opened-requires-clause-few
 run_opened-requires-clause-few g c κs within =
     omega (
@@ -33,7 +40,7 @@ returns-in-Ok g c =
     let packets = c.in_ok-packets.field-0.packets.items in
     let script = c.in_ok-settings.field-0 in
     let is = c.in_ok-settings.ensures in
-    let clock = c.in-Ok.ensures.clock ∙ ap clock_of is.settings in
+    let clock = ap (λ (start : LedgerState). start.opening) c.in-Ok.ensures.start ∙ ap clock_of is.settings in
     let limit = c.in-Ok.ensures.limit ∙ ap limit_of is.settings in
     let number : length packets ≡ submitters_of script.settings = search rules in
     let dealt : AreDealt 0 packets script.items.items = search rules in

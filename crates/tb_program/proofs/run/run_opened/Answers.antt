@@ -2,7 +2,8 @@ use Rattle.std.proofs.Common.{refl, ◌≡◌, ◌∙◌, ◌++◌, List, [], le
 use Rattle.std.proofs.lemmas.List.{length-map}
 use Rattle.std.specs.Prelude.{ℕ, Vec}
 use Rattle.std.specs.declared.alloc.Global.{Global}
-use Rattle.tb_core.specs.Journal.{inputs}
+use Rattle.tb_core.specs.Grouping.{IsGrouping}
+use Rattle.tb_core.specs.Journal.{LedgerState, groups_since, inputs, inputs_since}
 use Rattle.tb_core.specs.EachSubmitter.{moments_in, moments_queued}
 use Rattle.tb_core.specs.EndedRun.{IsPrefix}
 use Rattle.tb_pipe.specs.Reported.{run_in}
@@ -48,21 +49,27 @@ returns-in_ok-text_of-in-Ok g c =
     let all : opened.control.queued ++ items ≡ lines = ap (λ before. before ++ items) c.requires.silent ∙ all_lines in
     let replies = replies_of finished.report.ends.items in
     let shares : map share_of drivers ≡ map share_of c.args.drivers.items = c.in-Ok.ensures.shares in
+    let committed : inputs_since opened.pipeline.start ledger ≡ inputs ledger =
+    ap (λ (start : LedgerState). inputs_since start ledger) c.requires.first in
     let long = length-map c.args.drivers.items share_of ∙ c.requires.number ∙ c.requires.together.2 in
     record {
-      run = run_in opened.pipeline.intake (with_items opened.control items) finished;
+      run = run_in opened.pipeline.start opened.pipeline.intake (with_items opened.control items) finished;
       told = told;
       clock_is = reported.opening;
+      first = ap inputs c.requires.first;
       submitters_are = sym long;
       report = reported.report;
-      grouping = reported.grouping;
+      grouping = subst (λ (start : LedgerState). IsGrouping opened.pipeline.intake.limit (groups_since start ledger))
+          c.requires.first reported.grouping;
       control = reported.controlled ∙ all;
-      pulses = subst (λ controlled. IsPrefix (moments_in (inputs ledger)) (moments_queued controlled)) all
-          reported.pulses;
+      pulses = subst (λ controlled. IsPrefix (moments_in (inputs_since opened.pipeline.start ledger))
+          (moments_queued controlled)) all reported.pulses;
       number = length-map drivers told_of ∙ sym (length-map drivers share_of) ∙ ap length shares;
       handed = subst (λ all. AreHandedIn opened.pipeline.intake.limit replies all told queued) shares
           (all_handed_in refl reported c.in_ok-text_of-in-Ok.ensures.done);
-      printed = subst (λ refused. string_bytes c.in_ok-text_of-in-Ok.field-0
+      printed = subst (λ inputs. string_bytes c.in_ok-text_of-in-Ok.field-0
+          ≡ run_text told replies inputs (refused_of c.args.lines.moments.items) ledger.state) (sym committed)
+          (subst (λ refused. string_bytes c.in_ok-text_of-in-Ok.field-0
           ≡ run_text told replies (inputs ledger) refused ledger.state) counted
-          c.in_ok-text_of-in-Ok.ensures.text;
+          c.in_ok-text_of-in-Ok.ensures.text);
     }

@@ -8,5 +8,5 @@ returns g c =
     let settled = c.settle.ensures in
     is_run c.captures.pipeline c.in-Ok-serve.served
     (queued_by c.put.new.ends.items c.join-driven.result.control) c.settle.result.ledger
-    c.settle.result.ends.items served.clock served.intake settled.opening settled.report
+    c.settle.result.ends.items served.start served.intake settled.opening settled.report
     settled.grouping
