@@ -172,16 +172,17 @@ impl Driver for Noter {
     }
 }
 
-/// Runs a pipeline under limit 4 with a submitter for each driver, without a pulse or a Close.
+/// Runs a pipeline with a submitter for each driver, without a pulse or a Close.
 fn run<R: Threads + Wait + Sync + Abort>(
     rt: &R,
     alloc: Global,
+    limit: u32,
     capacity: u32,
     credit: u32,
     drivers: Vec<Noter>,
 ) -> Finished<Noter, PlanDriver> {
     let submitters = u32::try_from(drivers.len()).expect(rt, "few drivers");
-    let opened = open(alloc, 0, 4, capacity, credit, submitters).expect(rt, "it is opened");
+    let opened = open(alloc, 0, limit, capacity, credit, submitters).expect(rt, "it is opened");
     let control = ControlPlan::none(alloc).driver();
     match drive_all(rt, alloc, opened, drivers, control) {
         Ok(finished) => finished,
@@ -231,6 +232,7 @@ fn seen_in(rt: &impl Abort, alloc: Global, finished: Finished<Noter, PlanDriver>
 fn run_one<R: Threads + Wait + Sync + Abort>(
     rt: &R,
     alloc: Global,
+    limit: u32,
     capacity: u32,
     credit: u32,
     steps: &'static [Step],
@@ -239,7 +241,7 @@ fn run_one<R: Threads + Wait + Sync + Abort>(
     let mut drivers = Vec::new(alloc);
     let driver = Noter::new(alloc, steps, pause, 7);
     drivers.push(driver).expect(rt, "memory");
-    let finished = run(rt, alloc, capacity, credit, drivers);
+    let finished = run(rt, alloc, limit, capacity, credit, drivers);
     let mut seen = seen_in(rt, alloc, finished);
     seen.pop().expect(rt, "a submitter came back")
 }

@@ -133,7 +133,7 @@ impl<'s> Gate for Late<'s> {
 }
 
 /// Gives a run up after some turns.
-fn ask_later(stop: &Stop, turns: u32) {
+pub(super) fn ask_later(stop: &Stop, turns: u32) {
     for _ in 0..turns {
         thread::yield_now();
     }
