@@ -1,15 +1,16 @@
 //! A submitter, or the control, in a thread of the application's own.
 
 ghost use Rattle.std.specs.Fn.{FnOnceReturnsAtMut};
-ghost use Rattle.std.specs.Prelude.{◌≡◌, ◌<◌, ◌≤◌, [], ◌∷◌, ◌++◌, length, None, Err, OnOk, IfOk, IfErr, IfSome, IfNone, IsSomeAnd};
+ghost use Rattle.std.specs.Prelude.{◌≡◌, ◌<◌, ◌≤◌, [], ◌∷◌, ◌++◌, List, length, None, Err, OnOk, IfOk, IfErr, IfSome, IfNone, IsSomeAnd};
 ghost use Rattle.tb_layout.specs.inside.Limits.{moment_max, queued_max};
 ghost use Rattle.tb_submit.specs.Ends.{SenderState, SubmitterState, end_origin, ended_with, origin_of, sender_with, with_item};
 ghost use Rattle.tb_submit.specs.Refusals.{IsSubmitRefusal, in_flight, submit_refusal};
 ghost use Rattle.tb_work.specs.Job.{numbered_packet};
+ghost use Rattle.tb_work.specs.declared.item.Item.{Item as ItemValue};
 ghost use Rattle.tb_work.specs.declared.item.Item.TheVariants as item;
 ghost use Rattle.tb_work.specs.declared.refusal.Refusal.TheVariants as refusal;
 
-use crate::own_end::{OwnControlEnd, OwnEnd};
+use crate::own_end::{OwnEnd, OwnOpenEnd};
 use crossbeam_utils::Backoff;
 use std::alloc::Global;
 use std::marker::Model;
@@ -262,14 +263,14 @@ impl<'s> ControlClient<'s> {
         end_control(rt, self.control, true, self.stop)
     }
 
-    /// Starts a thread that does `work` with the control and then ends it. If the thread can't be started, gives the
+    /// Starts a thread that does `work` with the control and then queues its End, not the Close. If the thread can't be started, gives the
     /// run up and returns `None`.
     pub fn start<E, R: Wait + Sync, F: FnOnce(&mut ControlClient<'_>) + Send + 's>(
         self,
         scope: &Scope<'s, E>,
         rt: &'s R,
         work: F,
-    ) -> Option<PromisedHandle<Option<ControlEnd>, OwnControlEnd>>
+    ) -> Option<PromisedHandle<Option<ControlEnd>, OwnOpenEnd>>
         requires callable { F.IsAlwaysCallable work }
         requires own { (before : SenderState) (after : SenderState)
             → FnOnceReturnsAtMut F.FnOnce work before tt after → after.seat ≡ before.seat }
@@ -278,12 +279,13 @@ impl<'s> ControlClient<'s> {
         let control = self;
         let stop = control.stop;
         let started = scope.spawn_with(
-            OwnControlEnd::of(&control.control),
+            OwnOpenEnd::of(&control.control),
             move || -> Option<ControlEnd>
                 requires callable { F.IsAlwaysCallable work }
                 requires own { (before : SenderState) (after : SenderState)
                     → FnOnceReturnsAtMut F.FnOnce work before tt after → after.seat ≡ before.seat }
-                ensures { IfSome result (λ end. end.seat ≡ control.entry.seat) }
+                ensures { IfSome result (λ end. (end.seat ≡ control.entry.seat)
+                    × ((front : List ItemValue) × (end.queued ≡ front ++ item.End ∷ []))) }
             {
                 let mut control = control;
                 work(&mut control);

@@ -4,7 +4,7 @@
 //! calls wait, and return if the run is given up by `Stop::ask` (`tb_drive`), as an application does if it can't start a thread.
 //!
 //! `start` of both starts a thread that ends its sender after its work, since `serve` waits for each end. The thread's end is the
-//! sender's own (`OwnEnd`, `OwnControlEnd`), as `settle` requires.
+//! sender's own (`OwnEnd`, `OwnOpenEnd`), as `settle` requires.
 //!
 //! `crates/example_own_threads` is an example that the gate compiles.
 #![tactic(auto)]
@@ -13,4 +13,4 @@ mod client;
 mod own_end;
 
 pub use client::{Client, ControlClient};
-pub use own_end::{OwnControlEnd, OwnEnd};
+pub use own_end::{OwnControlEnd, OwnEnd, OwnOpenEnd};

@@ -44,12 +44,38 @@ impl Promise<Option<ControlEnd>> for OwnControlEnd {
     ghost kept_by = { λ p result. IfSome result (λ end. end.seat ≡ p.control.value.seat) };
 }
 
+/// Promises the same, and that the control's last item is its End, not the Close.
+#[derive(Drop)]
+pub struct OwnOpenEnd {
+    pub control: Snapshot<Control>,
+}
+
+impl Promise<Option<ControlEnd>> for OwnOpenEnd {
+    ghost use Rattle.std.specs.Prelude.{◌≡◌, ◌++◌, ◌∷◌, [], List, IfSome};
+    ghost use Rattle.tb_work.specs.declared.item.Item.{Item as ItemValue};
+    ghost use Rattle.tb_work.specs.declared.item.Item.TheVariants as item;
+
+    ghost kept_by = { λ p result. IfSome result (λ end. (end.seat ≡ p.control.value.seat)
+        × ((front : List ItemValue) × (end.queued ≡ front ++ item.End ∷ []))) };
+}
+
 impl OwnControlEnd {
     /// Returns the promise for a control that is about to be moved into a thread.
     pub fn of(control: &Control) -> OwnControlEnd
         ensures { result.control.value ≡ control.now }
     {
         OwnControlEnd {
+            control: Snapshot::of(control),
+        }
+    }
+}
+
+impl OwnOpenEnd {
+    /// Returns the promise for a control that is about to be moved into a thread.
+    pub fn of(control: &Control) -> OwnOpenEnd
+        ensures { result.control.value ≡ control.now }
+    {
+        OwnOpenEnd {
             control: Snapshot::of(control),
         }
     }

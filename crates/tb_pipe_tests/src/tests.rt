@@ -4,8 +4,10 @@
 use std::alloc::Global;
 use std::process::Abort;
 use std::sync::Wait;
+use std::sync::atomic::{AtomicBool, Ordering};
 use std::thread;
 use std::thread::Threads;
+use std::time::{Clock, Duration};
 use tb_drive::{Action, ControlPlan, Driver, PlanDriver};
 use tb_layout::{CREATE_ACCOUNTS, NoMemory};
 use tb_pipe::{Finished, drive_all, open};
@@ -22,6 +24,44 @@ mod waking;
 
 /// More replies than a submitter of these tests has packets.
 const MOST_REPLIES: u32 = 100;
+
+/// How many milliseconds a test may take that would wait for ever if what it tests is wrong.
+const MOST_MILLISECONDS: u32 = 60_000;
+
+/// Ends the test as failed if something isn't done in time.
+fn watch<R: Abort + Clock>(rt: &R, is_done: &AtomicBool) {
+    for _ in 0..MOST_MILLISECONDS {
+        if is_done.load(Ordering::SeqCst) {
+            return;
+        }
+        thread::sleep(rt, Duration::from_millis(1));
+    }
+    rt.panic("a thread waits for ever")
+}
+
+/// Does the work, which may hang; the test ends as failed if it does.
+fn in_time<R: Threads + Wait + Sync + Abort + Clock, T: Drop, F: FnOnce() -> T>(
+    rt: &R,
+    work: F,
+) -> T
+    requires { F.IsAlwaysCallable work }
+{
+    let is_done = AtomicBool::new(false);
+    let is_done = &is_done;
+    thread::scope(
+        thread::scope_env(),
+        rt,
+        |scope| -> T
+            requires { F.IsAlwaysCallable work }
+        {
+            let watcher = scope.spawn(move || watch(rt, is_done)).ok();
+            let result = work();
+            is_done.store(true, Ordering::SeqCst);
+            watcher.expect(rt, "a thread can be started").join(rt);
+            result
+        },
+    )
+}
 
 /// What a driver does next.
 #[derive(Clone, Copy)]
@@ -132,16 +172,17 @@ impl Driver for Noter {
     }
 }
 
-/// Runs a pipeline under limit 4 with a submitter for each driver, without a pulse or a Close.
+/// Runs a pipeline with a submitter for each driver, without a pulse or a Close.
 fn run<R: Threads + Wait + Sync + Abort>(
     rt: &R,
     alloc: Global,
+    limit: u32,
     capacity: u32,
     credit: u32,
     drivers: Vec<Noter>,
 ) -> Finished<Noter, PlanDriver> {
     let submitters = u32::try_from(drivers.len()).expect(rt, "few drivers");
-    let opened = open(alloc, 0, 4, capacity, credit, submitters).expect(rt, "it is opened");
+    let opened = open(alloc, 0, limit, capacity, credit, submitters).expect(rt, "it is opened");
     let control = ControlPlan::none(alloc).driver();
     match drive_all(rt, alloc, opened, drivers, control) {
         Ok(finished) => finished,
@@ -191,6 +232,7 @@ fn seen_in(rt: &impl Abort, alloc: Global, finished: Finished<Noter, PlanDriver>
 fn run_one<R: Threads + Wait + Sync + Abort>(
     rt: &R,
     alloc: Global,
+    limit: u32,
     capacity: u32,
     credit: u32,
     steps: &'static [Step],
@@ -199,7 +241,7 @@ fn run_one<R: Threads + Wait + Sync + Abort>(
     let mut drivers = Vec::new(alloc);
     let driver = Noter::new(alloc, steps, pause, 7);
     drivers.push(driver).expect(rt, "memory");
-    let finished = run(rt, alloc, capacity, credit, drivers);
+    let finished = run(rt, alloc, limit, capacity, credit, drivers);
     let mut seen = seen_in(rt, alloc, finished);
     seen.pop().expect(rt, "a submitter came back")
 }

@@ -5,7 +5,7 @@ ghost use Rattle.tb_layout.specs.inside.Limits.{batch_max};
 
 use super::made::{Made, creating, item};
 use super::push;
-use super::told::{Noted, SIX_PLACES, Told, assert_noted, assert_told};
+use super::told::{Noted, SIX_PLACES, Told, assert_noted, assert_told, told_by};
 use std::alloc::Global;
 use std::process::Abort;
 use tb_core::{Listed, run_list};
@@ -107,5 +107,59 @@ fn full_batch_then_overflow(rt: HostRuntime) {
     }
     let noted = [Noted::Batch(1), Noted::Batch(2)];
     let listed = run_listed(&rt, 4, items, &FIRST_THREE, &noted, 5);
+    drop(listed);
+}
+
+/// A full packet joins one without events ahead of it.
+#[test]
+fn full_packet_behind_an_empty_one(rt: HostRuntime) {
+    let mut items = Vec::new(rt.alloc());
+    for (number, count) in [(0, 0), (1, 8190)] {
+        push(&rt, &mut items, packet_of_accounts(&rt, number, 1, count));
+    }
+    let listed = run_listed(
+        &rt,
+        8190,
+        items,
+        &FIRST_THREE[..2],
+        &[Noted::Batch(2)],
+        8190,
+    );
+    check!(&rt; listed.ledger.machine().accounts() == 8190);
+    drop(listed);
+}
+
+/// How many items the longest list has, one in seven of them a pulse.
+const MANY: u64 = 70_000;
+
+/// Returns an item of the longest list: a pulse, or a packet that doesn't join the one before it. Some packets have three events, so that
+/// their jobs take memory.
+fn nth_item(index: u64) -> Made {
+    if index % 7 == 3 {
+        return Made::Pulse(index);
+    }
+    Made::Zeros {
+        number: index - (index + 3) / 7,
+        operation: if index % 2 == 0 { 129 } else { 130 },
+        count: if index % 100 == 0 { 3 } else { 0 },
+    }
+}
+
+/// Each item is committed at its own place, and has an entry of its own.
+#[test]
+fn seventy_thousand_items(rt: HostRuntime) {
+    let mut items = Vec::new(rt.alloc());
+    for index in 0..MANY {
+        let item = item(rt.alloc(), 0, nth_item(index)).expect(&rt, "memory");
+        push(&rt, &mut items, item);
+    }
+    let listed = run_list(rt.alloc(), 0, 1, items).expect(&rt, "memory");
+    check!(&rt; !listed.ledger.stopped() && listed.ledger.places() == MANY);
+    check!(&rt; listed.ledger.journal().len() == 70_000);
+    let packets = (0..MANY).filter(|index| index % 7 != 3);
+    check!(&rt; listed.replies.len() == 60_000);
+    for (reply, place) in listed.replies.iter().zip(packets) {
+        check!(&rt; told_by(reply) == Told::Committed(place));
+    }
     drop(listed);
 }

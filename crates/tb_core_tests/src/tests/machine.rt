@@ -11,6 +11,7 @@ use tb_machine::Machine;
 use tb_test_makers::{account_bytes, check, transfer, transfer_bytes};
 
 mod calls;
+mod many;
 mod memory;
 mod plain;
 mod rule;

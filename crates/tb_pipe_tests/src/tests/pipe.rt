@@ -19,12 +19,14 @@ use tb_submit::{Control, ControlEnd, Ended, Intake, Submitter};
 use tb_test_makers::{account, accounts_packet, check};
 use tb_work::{Outcome, Packet, Refusal, Reply};
 
+mod blocked;
 mod clients;
 mod controls;
 mod days;
 mod driven;
 mod gates;
 mod memory;
+mod narrow;
 mod openings;
 mod queued;
 mod reply;

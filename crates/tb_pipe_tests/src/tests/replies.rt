@@ -3,6 +3,7 @@
 use super::{Noter, SUBMIT, Saw, Seen, Step, run, run_one, seen_in};
 use std::alloc::Global;
 use std::process::Abort;
+use tb_layout::CREATE_ACCOUNTS;
 use tb_test_makers::check;
 
 /// Waits before there is a packet, for the one that is queued, for two of two, and after the last reply.
@@ -40,12 +41,37 @@ const WAITS_SEEN: [Saw; 15] = [
 #[test]
 fn receive_waits_for_one_reply(rt: HostRuntime) {
     for pause in [0, 1000] {
-        let seen = run_one(&rt, rt.alloc(), 64, 16, &WAITS, pause);
+        let seen = run_one(&rt, rt.alloc(), 4, 64, 16, &WAITS, pause);
         check!(&rt; seen.by_driver.as_slice() == WAITS_SEEN.as_slice());
         check!(&rt; seen.left.is_empty());
         drop(seen);
     }
 }
+
+const LARGE: Step = Step::Submit(CREATE_ACCOUNTS, 8190 * 128);
+
+/// Waits for the replies of two full packets, which take long enough that the driver sleeps.
+#[test]
+fn receive_sleeps_until_there_is_a_reply(rt: HostRuntime) {
+    let steps = &[LARGE, Step::Receive, LARGE, Step::Receive];
+    let seen = run_one(&rt, rt.alloc(), 8190, 64, 16, steps, 0);
+    check!(&rt; seen.by_driver.as_slice() == TWO_RECEIVED.as_slice());
+    check!(&rt; seen.left.is_empty());
+    drop(seen);
+}
+
+/// What a driver sees that waits for each of two replies.
+const TWO_RECEIVED: [Saw; 9] = [
+    Saw::Asked,
+    Saw::Told(Ok(0)),
+    Saw::Asked,
+    Saw::Given(0, 0, 7),
+    Saw::Asked,
+    Saw::Told(Ok(1)),
+    Saw::Asked,
+    Saw::Given(0, 1, 7),
+    Saw::Asked,
+];
 
 /// Two packets, and a wait for the first reply.
 const TWO: [Step; 3] = [SUBMIT, SUBMIT, Step::Receive];
@@ -84,7 +110,7 @@ fn sixteen(rt: &impl Abort, alloc: Global, steps: &'static [Step]) -> Vec<Noter>
 #[test]
 fn drivers_in_order(rt: HostRuntime) {
     let alloc = rt.alloc();
-    let finished = run(&rt, alloc, 64, 16, sixteen(&rt, alloc, &TWO));
+    let finished = run(&rt, alloc, 4, 64, 16, sixteen(&rt, alloc, &TWO));
     let seen = seen_in(&rt, alloc, finished);
     check!(&rt; seen.len() == 16);
     for (seen, submitter) in seen.iter().zip(0..16u32) {
@@ -111,7 +137,7 @@ fn is_one(seen: &Seen, submitter: u32) -> bool {
 #[test]
 fn not_told_of_a_full_queue(rt: HostRuntime) {
     let alloc = rt.alloc();
-    let finished = run(&rt, alloc, 1, 16, sixteen(&rt, alloc, &[SUBMIT]));
+    let finished = run(&rt, alloc, 4, 1, 16, sixteen(&rt, alloc, &[SUBMIT]));
     let seen = seen_in(&rt, alloc, finished);
     for (seen, submitter) in seen.iter().zip(0..16u32) {
         check!(&rt; is_one(seen, submitter), submitter);

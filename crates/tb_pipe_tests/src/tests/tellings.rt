@@ -27,7 +27,7 @@ const BAD_SEEN: [Saw; 9] = [
 /// A driver learns once why a packet is refused, and is asked again.
 #[test]
 fn told_why_it_is_refused(rt: HostRuntime) {
-    let seen = run_one(&rt, rt.alloc(), 64, 16, &BAD, 0);
+    let seen = run_one(&rt, rt.alloc(), 4, 64, 16, &BAD, 0);
     check!(&rt; seen.by_driver.as_slice() == BAD_SEEN.as_slice());
     check!(&rt; seen.left.as_slice() == [Some(Saw::Given(0, 0, 7))].as_slice());
     drop(seen);
@@ -55,7 +55,7 @@ const FOUR_SEEN: [Saw; 12] = [
 /// full as the submitter ended.
 #[test]
 fn not_told_of_a_used_up_credit(rt: HostRuntime) {
-    let mut seen = run_one(&rt, rt.alloc(), 1, 1, &FOUR, 0);
+    let mut seen = run_one(&rt, rt.alloc(), 4, 1, 1, &FOUR, 0);
     if seen.left.is_empty() {
         check!(&rt; seen.by_driver.pop() == Some(Saw::Given(0, 3, 7)));
     } else {

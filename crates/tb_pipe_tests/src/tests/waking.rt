@@ -80,7 +80,8 @@ impl Driver for WakingSender {
     }
 }
 
-/// Runs a driver for each of the seeds, and asserts that each was given a reply to each packet.
+/// Runs a driver for each of the seeds and a control that pulses, and asserts that each driver was given a reply to each packet, and
+/// that all of these are committed.
 fn assert_replies<R: Threads + Wait + Sync + Abort>(
     rt: &R,
     alloc: Global,
@@ -88,6 +89,7 @@ fn assert_replies<R: Threads + Wait + Sync + Abort>(
     longest: u32,
     credit: u32,
     seeds: u32,
+    pulses: u32,
 ) {
     let mut drivers = Vec::new(alloc);
     for seed in 1..=seeds {
@@ -96,30 +98,43 @@ fn assert_replies<R: Threads + Wait + Sync + Abort>(
     }
     let submitters = u32::try_from(drivers.len()).expect(rt, "few drivers");
     let opened = open(alloc, 0, 4, 8, credit, submitters).expect(rt, "it is opened");
-    let control = ControlPlan::none(alloc).driver();
-    let Ok(finished) = drive_all(rt, alloc, opened, drivers, control) else {
+    let mut control = ControlPlan::none(alloc);
+    control
+        .moments
+        .resize(pulses as usize, 1)
+        .expect(rt, "memory");
+    let Ok(finished) = drive_all(rt, alloc, opened, drivers, control.driver()) else {
         rt.panic("the run is given up")
     };
     check!(rt; finished.drivers.len() == seeds as usize);
     for driver in &finished.drivers {
         check!(rt; driver.replies == packets);
     }
+    check!(rt; finished.control.refused == 0);
+    let places = u64::from(packets) * u64::from(seeds) + u64::from(pulses);
+    check!(rt; finished.report.ledger.places() == places);
     drop(finished);
 }
 
 /// All threads sleep before most of the packets.
 #[test]
 fn ten_thousand_packets_after_idling(rt: HostRuntime) {
-    assert_replies(&rt, rt.alloc(), 10_000, 100, 1, 1);
+    assert_replies(&rt, rt.alloc(), 10_000, 100, 1, 1, 0);
 }
 
 /// Some threads go to sleep while others wake them.
 #[test]
 fn sixteen_senders_at_random_gaps(rt: HostRuntime) {
-    assert_replies(&rt, rt.alloc(), 1000, 30, 1, 16);
+    assert_replies(&rt, rt.alloc(), 1000, 30, 1, 16, 100);
 }
 
 #[test]
 fn thirty_thousand_packets_of_each_of_two(rt: HostRuntime) {
-    assert_replies(&rt, rt.alloc(), 30_000, 0, 4, 2);
+    assert_replies(&rt, rt.alloc(), 30_000, 0, 4, 2, 0);
+}
+
+/// With a credit of one each packet is a batch.
+#[test]
+fn seventy_thousand_packets_among_as_many_pulses(rt: HostRuntime) {
+    assert_replies(&rt, rt.alloc(), 70_000, 0, 1, 1, 70_000);
 }

@@ -1,9 +1,10 @@
 //! Packets made of accounts and of transfers.
 
+use crate::tests::push;
 use std::alloc::Global;
 use std::process::Abort;
 use tb_layout::{Account, AccountCode, Transfer, TransferCode, read_account, read_transfer};
-use tb_test_makers::{account, accounts_packet, check, transfers_packet};
+use tb_test_makers::{account, accounts_packet, check, transfer, transfers_packet};
 use tb_work::{Packet, Refusal, admit};
 
 /// Returns a packet of these accounts, with user word 7.
@@ -95,6 +96,41 @@ fn codes_by_number(rt: HostRuntime) {
     let code = AccountCode::of_number(21).expect(&rt, "a code");
     check!(&rt; code.name() == "exists");
     check!(&rt; AccountCode::of_number(22).is_none());
+}
+
+/// Numbers of events between a handful and the largest.
+const COUNTS: [u32; 7] = [3, 100, 1_000, 4_095, 4_096, 4_097, 8_189];
+
+/// Makes packets of accounts, of transfers and of ids, all with rising ids from 2^64 on, and reads the ids back.
+fn assert_rising(rt: &(impl Abort + Alloc<A = Global>), count: u32) {
+    let (mut accounts, mut transfers) = (Vec::new(rt.alloc()), Vec::new(rt.alloc()));
+    let mut ids = Vec::new(rt.alloc());
+    for number in 0..count {
+        let id = (1 << 64) + u128::from(number);
+        push(rt, &mut accounts, account(id, 0));
+        push(rt, &mut transfers, transfer(id, [id, id], id, 0));
+        push(rt, &mut ids, id);
+    }
+    let accounts = of_accounts(rt, &accounts);
+    let transfers = of_transfers(rt, &transfers);
+    let looked_up = Packet::of_ids(rt.alloc(), &ids, 7).expect(rt, "memory");
+    let (accounts, _) = accounts.bytes.as_slice().as_chunks::<128>();
+    let (transfers, _) = transfers.bytes.as_slice().as_chunks::<128>();
+    let (chunks, _) = looked_up.bytes.as_slice().as_chunks::<16>();
+    let lengths = [accounts.len(), transfers.len(), chunks.len()];
+    check!(rt; lengths == [count as usize; 3], count);
+    for (place, id) in ids.iter().enumerate() {
+        check!(rt; read_account(&accounts[place]) == account(*id, 0), count);
+        check!(rt; read_transfer(&transfers[place]) == transfer(*id, [*id, *id], *id, 0), count);
+        check!(rt; chunks[place] == id.to_le_bytes(), count);
+    }
+}
+
+#[test]
+fn packets_of_each_size(rt: HostRuntime) {
+    for count in COUNTS {
+        assert_rising(&rt, count);
+    }
 }
 
 #[test]

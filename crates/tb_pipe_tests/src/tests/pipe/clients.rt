@@ -61,7 +61,7 @@ pub(super) fn receive<R: Wait>(rt: &R, client: &mut Client<'_>) -> Option<Told>
 }
 
 /// Exchanges a packet with this account for the next reply. Returns its packet's place, or why it is refused.
-fn exchange<R: Wait + Abort>(
+pub(super) fn exchange<R: Wait + Abort>(
     rt: &R,
     alloc: Global,
     client: &mut Client<'_>,

@@ -25,7 +25,7 @@ use tb_work::Refusal;
 /// More nanoseconds than a pulse may have.
 const TOO_LATE: u64 = (1 << 62) + 1;
 
-fn pulse<R: Wait + Abort>(rt: &R, control: &mut ControlClient<'_>, moment: u64)
+pub(super) fn pulse<R: Wait + Abort>(rt: &R, control: &mut ControlClient<'_>, moment: u64)
     ensures { control.new.seat ≡ control.old.seat }
 {
     check!(rt; control.pulse(rt, moment) == Ok(()));

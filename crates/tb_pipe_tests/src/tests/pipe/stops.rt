@@ -5,6 +5,7 @@ ghost use Rattle.tb_submit.specs.Ends.{origin_of};
 
 use super::clients::{open_narrow, receive, submit};
 use super::{Lone, Told, end_control, opened, packet_of};
+use crate::tests::in_time;
 use std::alloc::Global;
 use std::process::Abort;
 use std::sync::Wait;
@@ -15,7 +16,8 @@ use std::thread::Threads;
 use tb_blocking::Client;
 use tb_drive::Stop;
 use tb_layout::CREATE_ACCOUNTS;
-use tb_pipe::{Gate, Open, Opened};
+use tb_pipe::{Gate, Opened};
+use tb_submit::Submitter;
 use tb_test_makers::check;
 
 /// How often a thread yields before it gives a run up, while others go to sleep.
@@ -33,81 +35,85 @@ fn waits_in_vain<R: Wait + Abort>(rt: &R, alloc: Global, client: Client<'_>) -> 
     told.is_none()
 }
 
-/// Gives a run up while three clients sleep. Returns of each whether it was woken without a reply.
-fn wake_three<R: Threads + Wait + Sync + Abort>(
+/// Gives a run up while its clients sleep. Returns how many were woken without a reply.
+fn wake_all<R: Threads + Wait + Sync + Abort>(
     rt: &R,
     alloc: Global,
-    clients: (Client<'_>, Client<'_>, Client<'_>),
+    submitters: Vec<Submitter>,
     stop: &Stop,
-) -> (bool, bool, bool) {
-    let (first, second, third) = clients;
-    thread::scope(thread::scope_env(), rt, |scope| {
-        let first = scope.spawn(move || waits_in_vain(rt, alloc, first)).ok();
-        let second = scope.spawn(move || waits_in_vain(rt, alloc, second)).ok();
-        let third = scope.spawn(move || waits_in_vain(rt, alloc, third)).ok();
-        let first = first.expect(rt, "a thread can be started");
-        let second = second.expect(rt, "a thread can be started");
-        let third = third.expect(rt, "a thread can be started");
-        for _ in 0..SLEEP_TURNS {
-            thread::yield_now();
+) -> usize {
+    thread::scope(thread::scope_env(), rt, |scope| -> usize {
+        let mut sleepers = Vec::new(alloc);
+        for submitter in submitters {
+            let client = Client::new(submitter, stop);
+            let started = scope.spawn(move || waits_in_vain(rt, alloc, client));
+            sleepers
+                .push(started.ok().expect(rt, "a thread can be started"))
+                .expect(rt, "memory");
         }
-        stop.ask();
-        (first.join(rt), second.join(rt), third.join(rt))
+        ask_later(stop, SLEEP_TURNS);
+        let mut woken = 0usize;
+        for sleeper in sleepers {
+            woken = woken.wrapping_add(usize::from(sleeper.join(rt)));
+        }
+        woken
     })
 }
 
-/// Nobody serves, so that no reply comes.
-#[test]
-fn the_first_and_the_last_of_three_are_woken(rt: HostRuntime) {
-    let opened = opened(rt.alloc(), 4, 8, 1, 3).expect(&rt, "it is opened");
-    let stop = Stop::of(rt.alloc(), &opened.submitters).expect(&rt, "memory");
+/// Opens a pipeline that nobody serves, so that no reply comes, and gives its run up. Returns how many of its clients were woken.
+fn open_and_wake<R: Threads + Wait + Sync + Abort>(rt: &R, alloc: Global, clients: u32) -> usize {
+    let opened = opened(alloc, 4, 16, 1, clients).expect(rt, "it is opened");
+    let stop = Stop::of(alloc, &opened.submitters).expect(rt, "memory");
     let Opened {
         pipeline,
-        mut submitters,
+        submitters,
         control,
     } = opened;
-    let third = Client::new(submitters.pop().expect(&rt, "a third"), &stop);
-    let second = Client::new(submitters.pop().expect(&rt, "a second"), &stop);
-    let first = Client::new(submitters.pop().expect(&rt, "a first"), &stop);
-    let woken = wake_three(&rt, rt.alloc(), (first, second, third), &stop);
-    check!(&rt; woken == (true, true, true));
+    let woken = wake_all(rt, alloc, submitters, &stop);
     drop(pipeline);
-    drop(submitters);
     drop(control);
     drop(stop);
+    woken
 }
 
-/// Exchanges packets until the run is given up.
-fn trade_on<R: Wait + Abort>(rt: &R, alloc: Global, client: &mut Client<'_>)
-    ensures { origin_of client.new ≡ origin_of client.old }
-{
-    for _ in 0..MOST_PACKETS {
-        let packet = packet_of(alloc, CREATE_ACCOUNTS, 1).expect(rt, "memory");
-        match client.exchange(rt, alloc, packet) {
-            Ok(Some(reply)) => drop(reply),
-            Ok(None) => return,
-            Err(refused) => {
-                drop(refused);
-                return;
-            }
-        }
+/// Those that are woken first look whether the run is given up while the last ones still sleep.
+#[test]
+fn all_of_three_and_of_sixteen_are_woken(rt: HostRuntime) {
+    for clients in [3u32, 16, 16, 16] {
+        check!(&rt; in_time(&rt, || open_and_wake(&rt, rt.alloc(), clients)) == clients as usize);
     }
 }
 
-/// Queues packets until one is refused.
-fn fill<R: Wait + Abort>(rt: &R, alloc: Global, client: &mut Client<'_>)
+/// How a client is busy until its run is given up, and when that is.
+#[derive(Clone, Copy)]
+struct Plan {
+    /// It waits for each reply before the next packet.
+    exchanges: bool,
+    credit: u32,
+    /// How often the thread yields that gives the run up.
+    turns: u32,
+    /// How often the gate says no once the run is given up; it says no until then, unless this is 0.
+    refusals: u64,
+}
+
+/// Queues packets until one is refused or its reply doesn't come.
+fn keep_busy<R: Wait + Abort>(rt: &R, alloc: Global, client: &mut Client<'_>, exchanges: bool)
     ensures { origin_of client.new ≡ origin_of client.old }
 {
     for _ in 0..MOST_PACKETS {
         let packet = packet_of(alloc, CREATE_ACCOUNTS, 1).expect(rt, "memory");
-        if let Err(refused) = client.submit(rt, alloc, packet) {
-            drop(refused);
+        let goes_on = if exchanges {
+            matches!(client.exchange(rt, alloc, packet), Ok(Some(_)))
+        } else {
+            client.submit(rt, alloc, packet).is_ok()
+        };
+        if !goes_on {
             return;
         }
     }
 }
 
-/// Lets no batch through until the run is given up, and then says no some times more.
+/// Lets no batch through until the run is given up, and then says no some times more. With nothing left it lets all through.
 #[derive(Drop)]
 struct Late<'s> {
     stop: &'s Stop,
@@ -118,31 +124,30 @@ impl<'s> Gate for Late<'s> {
     fn sealed(&self, _batch: u64) {}
 
     fn may_commit(&self, _batch: u64) -> bool {
-        if !self.stop.is_asked() {
-            return false;
-        }
         let left = self.left.load(SeqCst);
-        self.left.store(left.saturating_sub(1), SeqCst);
+        if left > 0 && self.stop.is_asked() {
+            self.left.store(left - 1, SeqCst);
+        }
         left == 0
     }
 }
 
 /// Gives a run up after some turns.
-fn ask_later(stop: &Stop, turns: u32) {
+pub(super) fn ask_later(stop: &Stop, turns: u32) {
     for _ in 0..turns {
         thread::yield_now();
     }
     stop.ask();
 }
 
-/// Serves a client that trades, while another thread gives the run up after some turns. Returns whether it was served, and whether
-/// the client queued its end. The control's end is in the queue's only slot at first.
-fn trade_and_stop<R: Threads + Wait + Sync + Abort>(
+/// Serves a client that is busy, while another thread gives the run up. Returns whether it was served, and whether the client
+/// queued its end. The control's end is in the queue's only slot at first.
+fn serve_and_stop<R: Threads + Wait + Sync + Abort>(
     rt: &R,
     alloc: Global,
-    turns: u32,
+    plan: Plan,
 ) -> (bool, bool) {
-    let (lone, stop) = open_narrow(rt, alloc, 1);
+    let (lone, stop) = open_narrow(rt, alloc, plan.credit);
     let Lone {
         pipeline,
         submitter,
@@ -150,14 +155,21 @@ fn trade_and_stop<R: Threads + Wait + Sync + Abort>(
     } = lone;
     let control = end_control(rt, control, false);
     let stop = &stop;
+    let gate = Late {
+        stop,
+        left: AtomicU64::new(plan.refusals),
+    };
+    let gate = &gate;
     let came = thread::scope(thread::scope_env(), rt, |scope| {
-        let trader = Client::new(submitter, stop)
-            .start(scope, rt, move |client| trade_on(rt, alloc, client))
+        let busy = Client::new(submitter, stop)
+            .start(scope, rt, move |client| {
+                keep_busy(rt, alloc, client, plan.exchanges)
+            })
             .expect(rt, "a thread can be started");
-        let stopper = scope.spawn(move || ask_later(stop, turns)).ok();
-        let is_served = pipeline.serve(rt, &Open).is_ok();
+        let stopper = scope.spawn(move || ask_later(stop, plan.turns)).ok();
+        let is_served = pipeline.serve(rt, gate).is_ok();
         stopper.expect(rt, "a thread can be started").join(rt);
-        (is_served, trader.join(rt).is_some())
+        (is_served, busy.join(rt).is_some())
     });
     drop(control);
     came
@@ -168,42 +180,25 @@ fn trade_and_stop<R: Threads + Wait + Sync + Abort>(
 #[test]
 fn serve_returns_from_a_run_that_is_given_up(rt: HostRuntime) {
     for turns in [0, 1, 3, 10, 30, 100, 300, 1_000, 3_000, 10_000] {
-        let (is_served, has_ended) = trade_and_stop(&rt, rt.alloc(), turns);
+        let plan = Plan {
+            exchanges: true,
+            credit: 1,
+            turns,
+            refusals: 0,
+        };
+        let (is_served, has_ended) = in_time(&rt, || serve_and_stop(&rt, rt.alloc(), plan));
         check!(&rt; is_served == has_ended);
     }
 }
 
-/// Serves a client that fills the queue, while another thread gives the run up. Nothing is committed until long after that. Returns
-/// whether it was served, and whether the client queued its end.
-fn fill_and_stop<R: Threads + Wait + Sync + Abort>(rt: &R, alloc: Global) -> (bool, bool) {
-    let (lone, stop) = open_narrow(rt, alloc, 200);
-    let Lone {
-        pipeline,
-        submitter,
-        control,
-    } = lone;
-    let control = end_control(rt, control, false);
-    let stop = &stop;
-    let gate = Late {
-        stop,
-        left: AtomicU64::new(10_000),
-    };
-    let gate = &gate;
-    let came = thread::scope(thread::scope_env(), rt, |scope| {
-        let filler = Client::new(submitter, stop)
-            .start(scope, rt, move |client| fill(rt, alloc, client))
-            .expect(rt, "a thread can be started");
-        let stopper = scope.spawn(move || ask_later(stop, SLEEP_TURNS)).ok();
-        let is_served = pipeline.serve(rt, gate).is_ok();
-        stopper.expect(rt, "a thread can be started").join(rt);
-        (is_served, filler.join(rt).is_some())
-    });
-    drop(control);
-    came
-}
-
-/// The client finds the queue full once the run is given up, and waits, since it is served.
+/// The client finds the queue full once the run is given up, and waits, since it is served. Nothing is committed until long after that.
 #[test]
 fn end_waits_for_a_slot_while_serve_runs(rt: HostRuntime) {
-    check!(&rt; fill_and_stop(&rt, rt.alloc()) == (true, true));
+    let plan = Plan {
+        exchanges: false,
+        credit: 200,
+        turns: SLEEP_TURNS,
+        refusals: 10_000,
+    };
+    check!(&rt; in_time(&rt, || serve_and_stop(&rt, rt.alloc(), plan)) == (true, true));
 }

@@ -1,0 +1,220 @@
+//! Calls that wait for a slot or a reply in a pipeline that nobody serves: they return once the run is given up, whenever that is.
+
+use super::clients::{exchange, receive, submit};
+use super::stops::ask_later;
+use super::{opened, packet_of};
+use crate::tests::in_time;
+use std::alloc::Global;
+use std::process::Abort;
+use std::sync::Wait;
+use std::thread;
+use std::thread::Threads;
+use tb_blocking::{Client, ControlClient};
+use tb_drive::{Action, ControlAction, ControlDriver, DriveFault, Driver, Stop, Tasks};
+use tb_layout::CREATE_ACCOUNTS;
+use tb_pipe::Opened;
+use tb_submit::{Control, Submitter};
+use tb_test_makers::check;
+use tb_work::{Refusal, Reply};
+
+/// How many slots the queue has.
+const SLOTS: [u32; 3] = [1, 6, 1_000];
+
+/// How often a thread yields before it gives the run up: the others may not have begun to wait, or sleep.
+const TURNS: [u32; 2] = [0, 3_000];
+
+/// The call of a client, or of the control, that waits.
+#[derive(Clone, Copy)]
+enum Blocked {
+    Submit,
+    Exchange,
+    Receive,
+    End,
+    Pulse,
+    ControlEnd,
+    Shut,
+}
+
+const CALLS: [Blocked; 7] = [
+    Blocked::Submit,
+    Blocked::Exchange,
+    Blocked::Receive,
+    Blocked::End,
+    Blocked::Pulse,
+    Blocked::ControlEnd,
+    Blocked::Shut,
+];
+
+/// Fills the queue with packets and pulses in turn, and then makes the call. Returns whether it says that the run is given up. A
+/// reply is waited for twice: only the first time a waker is used.
+fn gives_up<R: Wait + Abort>(
+    rt: &R,
+    alloc: Global,
+    submitter: Submitter,
+    control: Control,
+    stop: &Stop,
+    slots: u32,
+    call: Blocked,
+) -> bool {
+    let mut client = Client::new(submitter, stop);
+    let mut control = ControlClient::new(control, stop);
+    for slot in 0..slots {
+        if slot % 2 == 0 {
+            check!(rt; submit(rt, alloc, &mut client, 0) == Ok(u64::from(slot / 2)));
+        } else {
+            check!(rt; control.pulse(rt, 1) == Ok(()));
+        }
+    }
+    match call {
+        Blocked::Submit => submit(rt, alloc, &mut client, 0) == Err(Refusal::Full),
+        Blocked::Exchange => exchange(rt, alloc, &mut client, 0) == Err(Refusal::Full),
+        Blocked::Receive => {
+            receive(rt, &mut client).is_none() && receive(rt, &mut client).is_none()
+        }
+        Blocked::End => client.end(rt).is_none(),
+        Blocked::Pulse => control.pulse(rt, 1) == Err(Refusal::Full),
+        Blocked::ControlEnd => control.end(rt).is_none(),
+        Blocked::Shut => control.shut(rt).is_none(),
+    }
+}
+
+/// Makes a call in a thread of its own while another gives the run up. Returns whether the call says so.
+fn call_and_stop<R: Threads + Wait + Sync + Abort>(
+    rt: &R,
+    alloc: Global,
+    slots: u32,
+    turns: u32,
+    call: Blocked,
+) -> bool {
+    let opened = opened(alloc, 4, slots, 1_001, 1).expect(rt, "it is opened");
+    let stop = Stop::of(alloc, &opened.submitters).expect(rt, "memory");
+    let Opened {
+        pipeline,
+        mut submitters,
+        control,
+    } = opened;
+    let submitter = submitters.pop().expect(rt, "a submitter");
+    let stop = &stop;
+    let gives_up = thread::scope(thread::scope_env(), rt, |scope| -> bool {
+        let caller = scope
+            .spawn(move || gives_up(rt, alloc, submitter, control, stop, slots, call))
+            .ok()
+            .expect(rt, "a thread can be started");
+        ask_later(stop, turns);
+        caller.join(rt)
+    });
+    drop(pipeline);
+    drop(submitters);
+    gives_up
+}
+
+#[test]
+fn calls_return_once_the_run_is_given_up(rt: HostRuntime) {
+    for slots in SLOTS {
+        for turns in TURNS {
+            for call in CALLS {
+                check!(&rt; in_time(&rt, || call_and_stop(&rt, rt.alloc(), slots, turns, call)));
+            }
+        }
+    }
+}
+
+/// What a driver does after its first packet, again and again.
+#[derive(Clone, Copy)]
+enum Then {
+    Submit,
+    Receive,
+    End,
+}
+
+/// Submits packets, waits for a reply or ends. The control's pulses, ends or shuts.
+#[derive(Clone, Copy, Drop)]
+struct Busy {
+    then: Then,
+    has_begun: bool,
+}
+
+impl Driver for Busy {
+    fn next<R: Wait>(&mut self, _rt: &R, alloc: Global) -> Action {
+        if self.has_begun && matches!(self.then, Then::Receive) {
+            return Action::Receive;
+        }
+        if self.has_begun && matches!(self.then, Then::End) {
+            return Action::End;
+        }
+        self.has_begun = true;
+        packet_of(alloc, CREATE_ACCOUNTS, 0).map_or(Action::End, Action::Submit)
+    }
+
+    fn submitted(&mut self, _told: Result<u64, Refusal>) {}
+
+    fn receive(&mut self, _reply: Reply) {}
+}
+
+impl ControlDriver for Busy {
+    fn next<R: Wait>(&mut self, _rt: &R) -> ControlAction {
+        match self.then {
+            Then::Submit => ControlAction::Pulse(1),
+            Then::Receive => ControlAction::Close,
+            Then::End => ControlAction::End,
+        }
+    }
+
+    fn pulsed(&mut self, _told: Result<(), Refusal>) {}
+}
+
+/// Runs drivers in threads of their own while another gives the run up. Returns why the run gives nothing.
+fn drive_and_stop<R: Threads + Wait + Sync + Abort>(
+    rt: &R,
+    alloc: Global,
+    slots: u32,
+    turns: u32,
+    then: Then,
+) -> Option<DriveFault> {
+    let opened = opened(alloc, 4, slots, 1_001, 1).expect(rt, "it is opened");
+    let stop = Stop::of(alloc, &opened.submitters).expect(rt, "memory");
+    let Opened {
+        pipeline,
+        submitters,
+        control,
+    } = opened;
+    let busy = Busy {
+        then,
+        has_begun: false,
+    };
+    let mut drivers = Vec::new(alloc);
+    drivers.push(busy).expect(rt, "memory");
+    let tasks = Tasks::of(alloc, submitters, drivers, control, busy)
+        .ok()
+        .expect(rt, "memory");
+    let stop = &stop;
+    let fault = thread::scope(thread::scope_env(), rt, |scope| -> Option<DriveFault> {
+        let running = tasks
+            .start(scope, rt, alloc, stop)
+            .ok()
+            .expect(rt, "threads can be started");
+        ask_later(stop, turns);
+        running.join(rt).err()
+    });
+    drop(pipeline);
+    fault
+}
+
+/// Slots of the queue, each with what the drivers do; one of them at least can't end.
+const BUSY: [(u32, Then); 5] = [
+    (1, Then::Submit),
+    (1, Then::Receive),
+    (1, Then::End),
+    (6, Then::Submit),
+    (6, Then::Receive),
+];
+
+#[test]
+fn drivers_return_once_the_run_is_given_up(rt: HostRuntime) {
+    for (slots, then) in BUSY {
+        for turns in TURNS {
+            let fault = in_time(&rt, || drive_and_stop(&rt, rt.alloc(), slots, turns, then));
+            check!(&rt; fault == Some(DriveFault::NoThread));
+        }
+    }
+}
