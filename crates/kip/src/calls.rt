@@ -496,7 +496,12 @@ pub extern "C" fn kip_transfer_at(
         return CLOSED;
     };
     let found = engine.transfer_at(index);
-    let status = put_transfer(found, engine.transfer_status_at(index), transfer, pending_status);
+    let status = put_transfer(
+        found,
+        engine.transfer_status_at(index),
+        transfer,
+        pending_status,
+    );
     kip.put(engine);
     status
 }

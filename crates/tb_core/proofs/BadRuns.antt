@@ -3,7 +3,7 @@ use Rattle.std.proofs.Common.{refl, sym, ap, subst, ◌∙◌, arith, ◌≡◌,
 use Rattle.std.specs.Prelude.{slice_get}
 use Rattle.std.proofs.lemmas.Bool.{ne_eqb}
 use Rattle.tb_layout.specs.Events.{Input, Packet, Pulse}
-use Rattle.tb_work.specs.Ahead.{items_in, part}
+use Rattle.tb_work.specs.Ahead.{items_in, items_from}
 use Rattle.tb_work.specs.Queue.{AreNumbered, IsEnded}
 use Rattle.tb_work.specs.Packet.{Numbered, ReplyValue, input_of}
 use Rattle.tb_work.specs.declared.item.Item.TheVariants as item
@@ -157,12 +157,12 @@ may_stop_at_once run is =
     }
 
 closed-parts : (packet : packet.Packet) (sender : ℕ) → sender ≤ 1
-    → part sender (closed_first packet).queue ≡ (closed_first packet).queued sender
+    → items_from sender (closed_first packet).queue ≡ (closed_first packet).queued sender
 closed-parts packet zero within = refl
 closed-parts packet (suc zero) within = refl
 closed-parts packet (suc (suc sender)) within = absurd (omega (arith, within))
 
-closed-alone : (packet : packet.Packet) (sender : ℕ) → 1 < sender → part sender (closed_first packet).queue ≡ []
+closed-alone : (packet : packet.Packet) (sender : ℕ) → 1 < sender → items_from sender (closed_first packet).queue ≡ []
 closed-alone packet sender above =
     rw (ne_eqb 1 sender (λ same. absurd (omega (arith, same, above)))) (
     rw (ne_eqb 0 sender (λ same. absurd (omega (arith, same, above)))) refl

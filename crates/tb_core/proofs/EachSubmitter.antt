@@ -5,7 +5,7 @@ use Rattle.std.proofs.lemmas.Bool.{eq-eqb, cases_order}
 use Rattle.tb_layout.specs.declared.answer.Answer.{Answer}
 use Rattle.tb_layout.specs.Events.{Events, Input, Packet, Pulse}
 use Rattle.tb_work.specs.Packet.{Numbered, ReplyValue, input_of}
-use Rattle.tb_work.specs.Ahead.{ahead, items_in, part}
+use Rattle.tb_work.specs.Ahead.{ahead, items_in, items_from}
 use Rattle.tb_work.specs.Queue.{AreSubmitted, IsSubmitted}
 use Rattle.tb_work.specs.declared.outcome.Outcome.{Outcome}
 use Rattle.tb_work.specs.declared.outcome.Outcome.TheVariants.{Committed, Shutdown, Stopped}
@@ -63,15 +63,15 @@ moments-ahead (item.Close ∷ items) = (moments_queued items, refl)
 
 -- all pulses are the control's
 moments-part : (control : ℕ) (queue : List Ticket) → AreSubmitted control queue
-    → moments_queued (items_in queue) ≡ moments_queued (part control queue)
+    → moments_queued (items_in queue) ≡ moments_queued (items_from control queue)
 moments-part control [] all = refl
 moments-part control (ticket ∷ queue) all =
     one (ticket.sender == control) ticket.item refl all.0 (moments-part control queue all.1)
     ∙ ap moments_queued (sym (part-cons control ticket queue))
   where
     one : (own : Bool) (x : Item) → (ticket.sender == control) ≡ own → IsSubmitted control ticket.sender x →
-        moments_queued (items_in queue) ≡ moments_queued (part control queue) →
-        moments_queued (x ∷ items_in queue) ≡ moments_queued (part_with own x (part control queue))
+        moments_queued (items_in queue) ≡ moments_queued (items_from control queue) →
+        moments_queued (x ∷ items_in queue) ≡ moments_queued (part_with own x (items_from control queue))
     one true (item.Packet job) is own others = others
     one false (item.Packet job) is own others = others
     one true (item.Pulse moment) is own others = ap (λ moments. moment ∷ moments) others

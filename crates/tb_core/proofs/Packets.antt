@@ -4,7 +4,7 @@ use Rattle.std.specs.Prelude.{◌==◌, ◌≢◌, filter, slice_get, if◌then�
 use Rattle.std.specs.List.{AllByRecursion}
 use Rattle.tb_layout.specs.Events.{Events, Input, Packet, Pulse}
 use Rattle.tb_work.specs.Packet.{Numbered}
-use Rattle.tb_work.specs.Ahead.{items_in, part}
+use Rattle.tb_work.specs.Ahead.{items_in, items_from}
 use Rattle.tb_work.specs.Queue.{AreSubmitted, IsSubmitted, AreNumbered}
 use Rattle.tb_work.specs.declared.item.Item.{Item}
 use Rattle.tb_work.specs.declared.item.Item.TheVariants as item
@@ -18,7 +18,7 @@ abbrev pub part_with : Bool → Item → List Item → List Item
 part_with own x items = if own then x ∷ items else items
 
 pub part-cons : (sender : ℕ) (ticket : Ticket) (queue : List Ticket) →
-    part sender (ticket ∷ queue) ≡ part_with (ticket.sender == sender) ticket.item (part sender queue)
+    items_from sender (ticket ∷ queue) ≡ part_with (ticket.sender == sender) ticket.item (items_from sender queue)
 part-cons sender ticket queue = by (ticket.sender == sender) (filter (λ (t : Ticket). t.sender == sender) queue)
   where
     by : (own : Bool) (tickets : List Ticket) → map (λ (t : Ticket). t.item) (if own then ticket ∷ tickets else tickets)
@@ -38,15 +38,15 @@ jobs_of submitter (other ∷ items) = jobs_of submitter items
 
 -- packets are their senders' own
 pub jobs-part : (submitters submitter : ℕ) (queue : List Ticket) → AreSubmitted submitters queue
-    → packets_queued (part submitter queue) ≡ jobs_of submitter (items_in queue)
+    → packets_queued (items_from submitter queue) ≡ jobs_of submitter (items_in queue)
 jobs-part submitters submitter [] all = refl
 jobs-part submitters submitter (ticket ∷ queue) all =
     ap packets_queued (part-cons submitter ticket queue)
     ∙ one (ticket.sender == submitter) ticket.item refl all.0 (jobs-part submitters submitter queue all.1)
   where
     one : (own : Bool) (x : Item) → (ticket.sender == submitter) ≡ own → IsSubmitted submitters ticket.sender x →
-        packets_queued (part submitter queue) ≡ jobs_of submitter (items_in queue) →
-        packets_queued (part_with own x (part submitter queue)) ≡ jobs_of submitter (x ∷ items_in queue)
+        packets_queued (items_from submitter queue) ≡ jobs_of submitter (items_in queue) →
+        packets_queued (part_with own x (items_from submitter queue)) ≡ jobs_of submitter (x ∷ items_in queue)
     one true (item.Packet job) is own others =
         rw (ap (λ n. n == submitter) own.0 ∙ is) (ap (λ jobs. job ∷ jobs) others)
     one false (item.Packet job) is own others = rw (ap (λ n. n == submitter) own.0 ∙ is) others

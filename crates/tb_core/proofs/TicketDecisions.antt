@@ -10,7 +10,7 @@ use Rattle.std.proofs.lemmas.List.Elements.{filter-append}
 use Rattle.std.proofs.lemmas.List.Folds.{list_any-append}
 use Rattle.std.proofs.lemmas.Grind.{flat_map-append}
 use Rattle.tb_work.specs.Packet.{Numbered}
-use Rattle.tb_work.specs.Ahead.{part}
+use Rattle.tb_work.specs.Ahead.{items_from}
 use Rattle.tb_work.specs.Queue.{is_end}
 use Rattle.tb_work.specs.declared.item.Item.{Item}
 use Rattle.tb_work.specs.declared.item.Ticket.{Ticket}
@@ -212,12 +212,12 @@ module _ (P : Parcel → Type 0) (refused : Bool) (front : FrontState) (sender :
 -- ---- who has ended then
 
 pub part_push : (sender : ℕ) (queue : List Ticket) (ticket : Ticket)
-    → part sender (queue ++ ticket ∷ []) ≡ part sender queue
+    → items_from sender (queue ++ ticket ∷ []) ≡ items_from sender queue
     ++ (if ticket.sender == sender then ticket.item ∷ [] else [])
 part_push sender queue ticket =
     ap (map item_in) (filter-append is_its queue (ticket ∷ []))
     ∙ map-append item_in (filter is_its queue) (filter is_its (ticket ∷ []))
-    ∙ ap (λ items. part sender queue ++ items) (one (ticket.sender == sender))
+    ∙ ap (λ items. items_from sender queue ++ items) (one (ticket.sender == sender))
   where
     item_in : Ticket → Item
     item_in ticket = ticket.item
@@ -231,17 +231,17 @@ part_push sender queue ticket =
 
 -- one ticket more in a queue for which it is known who has ended
 ends_more : (ended : List Bool) (queue : List Ticket) (ticket : Ticket) (sender : ℕ) → ticket.sender < length ended
-    → get_or ended sender false ≡ list_any is_end (part sender queue) →
+    → get_or ended sender false ≡ list_any is_end (items_from sender queue) →
     get_or (ends_after ended ticket.sender ticket.item) sender false
-    ≡ list_any is_end (part sender (queue ++ ticket ∷ []))
+    ≡ list_any is_end (items_from sender (queue ++ ticket ∷ []))
 ends_more ended queue ticket sender within known =
     by (is_end ticket.item) (ticket.sender == sender) refl refl
     ∙ sym (ap (list_any is_end) (part_push sender queue ticket)
-    ∙ list_any-append is_end (part sender queue) (if ticket.sender == sender then ticket.item ∷ [] else []))
+    ∙ list_any-append is_end (items_from sender queue) (if ticket.sender == sender then ticket.item ∷ [] else []))
   where
     by : (end its : Bool) → is_end ticket.item ≡ end → (ticket.sender == sender) ≡ its →
         get_or (if end then slice_set ended ticket.sender true else ended) sender false
-        ≡ (list_any is_end (part sender queue) || list_any is_end (if its then ticket.item ∷ [] else []))
+        ≡ (list_any is_end (items_from sender queue) || list_any is_end (if its then ticket.item ∷ [] else []))
     by false false e i = known ∙ sym (or-false _)
     by false true e i = rw e (known ∙ sym (or-false _))
     by true false e i =

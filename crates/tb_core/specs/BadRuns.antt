@@ -4,7 +4,7 @@ use Rattle.std.specs.Prelude.{◌≡◌, ◌≢◌, ◌<◌, ◌≤◌, ℕ, tru
 use Rattle.tb_layout.specs.declared.answer.Answer.{Answer}
 use Rattle.tb_layout.specs.Events.{Events, Input, Packet, Pulse}
 use Rattle.tb_machine.specs.Replay.{replay, answer_of, opening}
-use Rattle.tb_work.specs.Ahead.{part}
+use Rattle.tb_work.specs.Ahead.{items_from}
 use Rattle.tb_work.specs.Answer.{reply_with}
 use Rattle.tb_work.specs.Packet.{Numbered, ReplyValue, events_in, input_of}
 use Rattle.tb_work.specs.declared.item.Item.{Item}
@@ -138,7 +138,7 @@ AnswersAnotherwise run =
 abbrev pub LosesAnItem : Run → Type 0
 LosesAnItem run =
     (sender : ℕ) × (one : Item) × (sender ≤ run.submitters) × IsIn one (run.queued sender)
-    × IsNotIn one (part sender run.queue)
+    × IsNotIn one (items_from sender run.queue)
 
 abbrev pub Excludes : (Run → Type 0) → Type 0
 Excludes IsBad = (run : Run) → Headline run → IsBad run → ⊥

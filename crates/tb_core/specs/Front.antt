@@ -3,7 +3,7 @@ use Rattle.std.specs.Prelude.{◌≡◌, ℕ, ◌+◌, ◌≤◌, Bool, true, fa
 use Rattle.std.specs.List.{list_all, list_any, flat_map}
 use Rattle.tb_layout.specs.inside.Limits.{batch_max, submitters_max}
 use Rattle.tb_work.specs.Packet.{Numbered}
-use Rattle.tb_work.specs.Ahead.{part}
+use Rattle.tb_work.specs.Ahead.{items_from}
 use Rattle.tb_work.specs.Queue.{is_end}
 use Rattle.tb_work.specs.declared.item.Ticket.{Ticket}
 use Rattle.tb_work.specs.declared.item.Item.{Item}
@@ -131,8 +131,8 @@ ends_after ended sender item = if is_end item then slice_set ended sender true e
 -- the front knows of each sender whether its End or Close is in this queue
 abbrev pub KnowsEnds : List Ticket → FrontState → Type 0
 KnowsEnds queue front =
-    (sender : ℕ) → sender ≤ front.submitters → get_or front.ended sender false ≡ list_any is_end (part sender queue)
+    (sender : ℕ) → sender ≤ front.submitters → get_or front.ended sender false ≡ list_any is_end (items_from sender queue)
 
 -- an End or Close of each sender is in it
 abbrev pub HaveAllEnded : ℕ → List Ticket → Type 0
-HaveAllEnded submitters queue = (sender : ℕ) → sender ≤ submitters → list_any is_end (part sender queue) ≡ true
+HaveAllEnded submitters queue = (sender : ℕ) → sender ≤ submitters → list_any is_end (items_from sender queue) ≡ true

@@ -5,7 +5,7 @@ use Rattle.std.proofs.lemmas.List.{get_or-set_same, map-append}
 use Rattle.std.proofs.lemmas.List.Folds.{list_all-append}
 use Rattle.std.proofs.lemmas.Bool.{cases_eq, eq-eqb, ne_eqb}
 use Rattle.tb_work.specs.Packet.{Numbered}
-use Rattle.tb_work.specs.Ahead.{items_in, part}
+use Rattle.tb_work.specs.Ahead.{items_in, items_from}
 use Rattle.tb_work.specs.Queue.{is_end, IsUnended, IsSubmitted, AreSubmitted, AreNumbered, IsQueueOf}
 use Rattle.tb_work.specs.declared.item.Item.{Item}
 use Rattle.tb_work.specs.declared.item.Item.TheVariants as item
@@ -59,25 +59,25 @@ queued_more sender next items x is has = record {
 -- ---- a queue with one ticket more
 
 part_own : (sender : ℕ) (queue : List Ticket) (x : Item)
-    → part sender (queue ++ ticket_of sender x ∷ []) ≡ part sender queue ++ x ∷ []
+    → items_from sender (queue ++ ticket_of sender x ∷ []) ≡ items_from sender queue ++ x ∷ []
 part_own sender queue x = part_push sender queue (ticket_of sender x) ∙ rw (eq-eqb sender sender refl) refl
 
 part_other : (sender other : ℕ) (queue : List Ticket) (x : Item) → other ≢ sender
-    → part sender (queue ++ ticket_of other x ∷ []) ≡ part sender queue
+    → items_from sender (queue ++ ticket_of other x ∷ []) ≡ items_from sender queue
 part_other sender other queue x is =
-    part_push sender queue (ticket_of other x) ∙ rw (ne_eqb other sender is) (append-nil (part sender queue))
+    part_push sender queue (ticket_of other x) ∙ rw (ne_eqb other sender is) (append-nil (items_from sender queue))
 
 module _ (submitters : ℕ) (queue : List Ticket) (numbers : List ℕ) (shut : Bool)
     (are : AreQueued submitters queue numbers shut) where
   -- what another sender queued stays as it is
   others : (sender other next : ℕ) (ended : Bool) (x : Item) → other ≢ sender
-      → HasQueued sender next ended (part sender queue)
-      → HasQueued sender next ended (part sender (queue ++ ticket_of other x ∷ []))
+      → HasQueued sender next ended (items_from sender queue)
+      → HasQueued sender next ended (items_from sender (queue ++ ticket_of other x ∷ []))
   others sender other next ended x is has =
       subst (HasQueued sender next ended) (sym (part_other sender other queue x is)) has
 
   no_other_sender_stays : (other : ℕ) (x : Item) → other ≤ submitters
-      → (sender : ℕ) → submitters < sender → part sender (queue ++ ticket_of other x ∷ []) ≡ []
+      → (sender : ℕ) → submitters < sender → items_from sender (queue ++ ticket_of other x ∷ []) ≡ []
   no_other_sender_stays other x among sender beyond =
       part_other sender other queue x (λ same. absurd (omega (arith, same, among, beyond))) ∙ are.no_other_sender sender beyond
 
@@ -91,19 +91,19 @@ module _ (submitters : ℕ) (queue : List Ticket) (numbers : List ℕ) (shut : B
       let x = item.Packet job in
       let next = slice_set numbers submitter (number + 1) in
       let Each : ℕ → Type 0 = λ sender. HasQueued sender (get_or next sender 0) false
-      (part sender (queue ++ ticket_of submitter x ∷ [])) in
+      (items_from sender (queue ++ ticket_of submitter x ∷ [])) in
       let own : Each submitter =
-      subst (λ n. HasQueued submitter n false (part submitter (queue ++ ticket_of submitter x ∷ [])))
+      subst (λ n. HasQueued submitter n false (items_from submitter (queue ++ ticket_of submitter x ∷ [])))
       (omega arith ∙ sym (get_or-set_same numbers submitter (number + 1) 0 (omega (arith, among, long))))
       (subst (HasQueued submitter (number + 1) false) (sym (part_own submitter queue x))
-      (queued_more submitter number (part submitter queue) x (refl, refl) (are.each submitter among))) in
+      (queued_more submitter number (items_from submitter queue) x (refl, refl) (are.each submitter among))) in
       record {
         submitted = all-push (λ (t : Ticket). IsSubmitted submitters t.sender t.item) queue (ticket_of submitter x)
             are.submitted (refl, among);
         no_other_sender = no_other_sender_stays submitter x (omega (arith, among));
         each = λ sender below. ⊎_elim (λ (same : submitter ≡ sender). subst Each same own)
             (λ (other : submitter ≢ sender). subst
-            (λ n. HasQueued sender n false (part sender (queue ++ ticket_of submitter x ∷ [])))
+            (λ n. HasQueued sender n false (items_from sender (queue ++ ticket_of submitter x ∷ [])))
             (sym (get_or-set_other numbers submitter sender (number + 1) 0 (λ same. other (sym same))))
             (others sender submitter (get_or numbers sender 0) false x other (are.each sender below)))
             (cases_eq submitter sender);
@@ -119,10 +119,10 @@ module _ (submitters : ℕ) (queue : List Ticket) (numbers : List ℕ) (shut : B
     no_other_sender = no_other_sender_stays submitters x (omega arith);
     each = λ sender below. others sender submitters (get_or numbers sender 0) false x
         (λ same. absurd (omega (arith, same, below))) (are.each sender below);
-    control = subst (λ n. HasQueued submitters n (is_end x) (part submitters (queue ++ ticket_of submitters x ∷ []))) none
+    control = subst (λ n. HasQueued submitters n (is_end x) (items_from submitters (queue ++ ticket_of submitters x ∷ []))) none
         (subst (HasQueued submitters (0 + packets_in (x ∷ [])) (is_end x)) (sym (part_own submitters queue x))
-        (queued_more submitters 0 (part submitters queue) x is
-        (subst (λ b. HasQueued submitters 0 b (part submitters queue)) on are.control)));
+        (queued_more submitters 0 (items_from submitters queue) x is
+        (subst (λ b. HasQueued submitters 0 b (items_from submitters queue)) on are.control)));
   }
 
 -- ---- a run that ends
@@ -133,21 +133,21 @@ more_ends count queue = sym (append_assoc queue (ends_of count) (ticket_of count
 
 -- who has no End among them queued what it had
 part_beyond : (sender count : ℕ) (queue : List Ticket) → count ≤ sender
-    → part sender (queue ++ ends_of count) ≡ part sender queue
-part_beyond sender zero queue beyond = ap (part sender) (append-nil queue)
+    → items_from sender (queue ++ ends_of count) ≡ items_from sender queue
+part_beyond sender zero queue beyond = ap (items_from sender) (append-nil queue)
 part_beyond sender (suc count) queue beyond =
-    ap (part sender) (more_ends count queue)
+    ap (items_from sender) (more_ends count queue)
     ∙ part_other sender count (queue ++ ends_of count) item.End (λ same. absurd (omega (arith, same, beyond)))
     ∙ part_beyond sender count queue (omega (arith, beyond))
 
 -- each other has its End last
 part_within : (sender count : ℕ) (queue : List Ticket) → sender < count
-    → part sender (queue ++ ends_of count) ≡ part sender queue ++ item.End ∷ []
+    → items_from sender (queue ++ ends_of count) ≡ items_from sender queue ++ item.End ∷ []
 part_within sender zero queue within = absurd (omega (arith, within))
 part_within sender (suc count) queue within =
-    ap (part sender) (more_ends count queue) ∙ ⊎_elim
+    ap (items_from sender) (more_ends count queue) ∙ ⊎_elim
     (λ (same : count ≡ sender). subst
-    (λ s. part s ((queue ++ ends_of count) ++ ticket_of count item.End ∷ []) ≡ part s queue ++ item.End ∷ []) same
+    (λ s. items_from s ((queue ++ ends_of count) ++ ticket_of count item.End ∷ []) ≡ items_from s queue ++ item.End ∷ []) same
     (part_own count (queue ++ ends_of count) item.End
     ∙ ap (λ items. items ++ item.End ∷ []) (part_beyond count count queue (omega arith))))
     (λ (other : count ≢ sender). part_other sender count (queue ++ ends_of count) item.End other
@@ -177,7 +177,7 @@ submitted_ended submitters (suc count) queue are =
 -- with an End of each sender that hasn't ended the queue is whole
 pub queue_ended : (submitters : ℕ) (queue : List Ticket) (numbers : List ℕ) (shut : Bool)
     → AreQueued submitters queue numbers shut →
-    IsQueueOf submitters (ended_queue submitters shut queue) (λ sender. part sender (ended_queue submitters shut queue))
+    IsQueueOf submitters (ended_queue submitters shut queue) (λ sender. items_from sender (ended_queue submitters shut queue))
 queue_ended submitters queue numbers shut are = record {
   parts = λ sender among. refl;
   no_other_sender = λ sender beyond. part_beyond sender count queue (above shut sender beyond) ∙ are.no_other_sender sender beyond;
@@ -194,30 +194,30 @@ queue_ended submitters queue numbers shut are = record {
     above false sender beyond = omega (arith, beyond)
 
     -- a sender that hadn't ended
-    by_end : (sender next : ℕ) → sender < count → HasQueued sender next false (part sender queue)
-        → HasQueued sender (next + 0) true (part sender (queue ++ ends_of count))
+    by_end : (sender next : ℕ) → sender < count → HasQueued sender next false (items_from sender queue)
+        → HasQueued sender (next + 0) true (items_from sender (queue ++ ends_of count))
     by_end sender next within has =
         subst (HasQueued sender (next + 0) true) (sym (part_within sender count queue within))
-        (queued_more sender next (part sender queue) item.End tt has)
+        (queued_more sender next (items_from sender queue) item.End tt has)
 
     below : (b : Bool) (sender : ℕ) → sender < submitters → sender < (if b then submitters else submitters + 1)
     below true sender among = among
     below false sender among = omega (arith, among)
 
-    control : (b : Bool) → shut ≡ b → HasQueued submitters 0 true (part submitters (queue ++ ends_of count))
+    control : (b : Bool) → shut ≡ b → HasQueued submitters 0 true (items_from submitters (queue ++ ends_of count))
     control true is =
         subst (HasQueued submitters 0 true)
         (sym (part_beyond submitters count queue (rw is (omega arith))))
-        (subst (λ b. HasQueued submitters 0 b (part submitters queue)) is are.control)
+        (subst (λ b. HasQueued submitters 0 b (items_from submitters queue)) is are.control)
     control false is =
         by_end submitters 0 (rw is (omega arith))
-        (subst (λ b. HasQueued submitters 0 b (part submitters queue)) is are.control)
+        (subst (λ b. HasQueued submitters 0 b (items_from submitters queue)) is are.control)
 
     each : (sender : ℕ) → sender ≤ submitters
-        → (next : ℕ) × HasQueued sender next true (part sender (queue ++ ends_of count))
+        → (next : ℕ) × HasQueued sender next true (items_from sender (queue ++ ends_of count))
     each sender among = ⊎_elim
         (λ (same : submitters ≡ sender). subst
-        (λ s. (next : ℕ) × HasQueued s next true (part s (queue ++ ends_of count))) same (0, control shut refl))
+        (λ s. (next : ℕ) × HasQueued s next true (items_from s (queue ++ ends_of count))) same (0, control shut refl))
         (λ (other : submitters ≢ sender). let within : sender < submitters = omega (arith, among, other) in (
           get_or numbers sender 0 + 0,
           by_end sender (get_or numbers sender 0) (below shut sender within)

@@ -3,7 +3,7 @@ use Rattle.std.specs.Prelude.{◌≡◌, ◌≤◌, ◌==◌, ◌⊎◌, ◌^◌
 use Rattle.tb_layout.specs.inside.Limits.{batch_max, moment_max, submitters_max}
 use Rattle.tb_machine.specs.Replay.{State, replay}
 use Rattle.tb_work.specs.Admission.{admission_of}
-use Rattle.tb_work.specs.Ahead.{ahead, items_in, part}
+use Rattle.tb_work.specs.Ahead.{ahead, items_in, items_from}
 use Rattle.tb_work.specs.Packet.{ReplyValue}
 use Rattle.tb_work.specs.declared.item.Item.{Item}
 use Rattle.tb_work.specs.declared.item.Ticket.{Ticket}
@@ -151,7 +151,7 @@ run_of start queue read engine ledger =
     record {
       submitters = engine.front.submitters;
       queue = whole;
-      queued = λ sender. part sender whole;
+      queued = λ sender. items_from sender whole;
       before = inputs start;
       ledger = ledger;
       replies = replies_to read;

@@ -1,7 +1,7 @@
 -- What the senders of an engine queued.
 use Rattle.std.specs.Prelude.{◌≡◌, ◌<◌, ℕ, zero, suc, ◌+◌, Bool, true, false, if◌then◌else◌, List, [], ◌∷◌, ◌++◌, get_or}
 use Rattle.tb_work.specs.Job.{numbered_packet}
-use Rattle.tb_work.specs.Ahead.{part}
+use Rattle.tb_work.specs.Ahead.{items_from}
 use Rattle.tb_work.specs.Queue.{AreNumbered, AreSubmitted, IsEnded, IsUnended}
 use Rattle.tb_work.specs.declared.item.Item.{Item}
 use Rattle.tb_work.specs.declared.item.Item.TheVariants as item
@@ -27,10 +27,10 @@ pub record HasQueued (sender next : ℕ) (ended : Bool) (items : List Item) : Ty
 -- what submitters and their control queued: no submitter has ended, and the control has if it is shut
 pub record AreQueued (submitters : ℕ) (queue : List Ticket) (numbers : List ℕ) (shut : Bool) : Type 0 where
   pub submitted : AreSubmitted submitters queue
-  pub no_other_sender : (sender : ℕ) → submitters < sender → part sender queue ≡ []
+  pub no_other_sender : (sender : ℕ) → submitters < sender → items_from sender queue ≡ []
   pub each : (sender : ℕ) → sender < submitters
-      → HasQueued sender (get_or numbers sender 0) false (part sender queue)
-  pub control : HasQueued submitters 0 shut (part submitters queue)
+      → HasQueued sender (get_or numbers sender 0) false (items_from sender queue)
+  pub control : HasQueued submitters 0 shut (items_from submitters queue)
 
 abbrev pub ticket_of : ℕ → Item → Ticket
 ticket_of sender item = record { sender = sender; item = item }

@@ -6,7 +6,7 @@ use Rattle.std.proofs.lemmas.Bool.{eq-eqb, ne_eqb}
 use Rattle.tb_layout.specs.Events.{Input}
 use Rattle.tb_layout.specs.Events as input
 use Rattle.tb_work.specs.Job.{numbered_packet}
-use Rattle.tb_work.specs.Ahead.{items_in, ahead, part}
+use Rattle.tb_work.specs.Ahead.{items_in, ahead, items_from}
 use Rattle.tb_work.specs.Packet.{ReplyValue, input_of}
 use Rattle.tb_work.specs.Answer.{reply_with}
 use Rattle.tb_work.specs.declared.item.Item.{Item}
@@ -29,10 +29,10 @@ abbrev AreEnds : List Item → Type 0
 AreEnds items = AllByRecursion (λ x. x ≡ item.End) items
 
 abbrev OthersEnd : List Ticket → Type 0
-OthersEnd queue = (sender : ℕ) → 0 < sender → AreEnds (part sender queue)
+OthersEnd queue = (sender : ℕ) → 0 < sender → AreEnds (items_from sender queue)
 
 behind_one : (b : Bool) (ticket : Ticket) (sender : ℕ) (queue : List Ticket)
-    → AreEnds (part_if b ticket sender queue) → AreEnds (part sender queue)
+    → AreEnds (part_if b ticket sender queue) → AreEnds (items_from sender queue)
 behind_one true ticket sender queue all = all.1
 behind_one false ticket sender queue all = all
 
@@ -53,8 +53,8 @@ past_end Behind = refl
 -- what one ticket more adds to the part of sender 0
 abbrev Adds : Ticket → List Ticket → Type 0
 Adds ticket queue =
-    ((ticket.sender ≡ 0) × (part 0 (ticket ∷ queue) ≡ ticket.item ∷ part 0 queue))
-    ⊎ ((0 < ticket.sender) × (part 0 (ticket ∷ queue) ≡ part 0 queue))
+    ((ticket.sender ≡ 0) × (items_from 0 (ticket ∷ queue) ≡ ticket.item ∷ items_from 0 queue))
+    ⊎ ((0 < ticket.sender) × (items_from 0 (ticket ∷ queue) ≡ items_from 0 queue))
 
 adds : (ticket : Ticket) (queue : List Ticket) (k : ℕ) → ticket.sender ≡ k → Adds ticket queue
 adds ticket queue zero is = inl (is, ap (λ b. part_if b ticket 0 queue) (eq-eqb ticket.sender 0 is))
@@ -66,10 +66,10 @@ adds ticket queue (suc k) is =
     )
 
 pub due_to_first : (clock : ℕ) (done : List Input) (place : Place) (queue : List Ticket) → OthersEnd queue
-    → all_due_from clock done place (items_in queue) ≡ all_due_from clock done place (part 0 queue)
+    → all_due_from clock done place (items_in queue) ≡ all_due_from clock done place (items_from 0 queue)
 due_to_first clock done place [] others = refl
 due_to_first clock done place (ticket ∷ queue) others =
-    let rest : (p : Place) → all_due_from clock done p (items_in queue) ≡ all_due_from clock done p (part 0 queue)
+    let rest : (p : Place) → all_due_from clock done p (items_in queue) ≡ all_due_from clock done p (items_from 0 queue)
     = λ p. due_to_first clock done p queue (others_behind ticket queue others) in
     elim (adds ticket queue ticket.sender refl) [
       | inl mine ↦ ap (λ more. reply_due (outcome_at clock done place) ticket.item ++ more)
@@ -86,7 +86,7 @@ ahead_after (item.Pulse moment) same = ap (λ inputs. input.Pulse moment ∷ inp
 ahead_after item.End same = same
 ahead_after item.Close same = refl
 
-pub ahead_of_first : (queue : List Ticket) → OthersEnd queue → ahead (items_in queue) ≡ ahead (part 0 queue)
+pub ahead_of_first : (queue : List Ticket) → OthersEnd queue → ahead (items_in queue) ≡ ahead (items_from 0 queue)
 ahead_of_first [] others = refl
 ahead_of_first (ticket ∷ queue) others =
     let rest = ahead_of_first queue (others_behind ticket queue others) in
@@ -117,7 +117,7 @@ one_reply clock done packet = reply_with (outcome_at clock done (Ahead 0)) (numb
 pub replies_to_one : (clock : ℕ) (packet : Packet) (ledger : LedgerState) (ends : List EndedState)
     → IsRunOfOne clock packet ledger ends → replies_of ends 0 ≡ one_reply ledger.opening (inputs ledger) packet ∷ []
 replies_to_one clock packet ledger ends run =
-    let first : part 0 run.queue ≡ one_and_end packet = run.lawful.filled.parts 0 (omega arith) ∙ run.submitted in
+    let first : items_from 0 run.queue ≡ one_and_end packet = run.lawful.filled.parts 0 (omega arith) ∙ run.submitted in
     run.lawful.replied 0 (omega arith)
     ∙ ap (λ replies. replies_to replies 0) (due_to_first ledger.opening (inputs ledger) (Ahead 0) run.queue
     (others_end clock packet ledger ends run) ∙ ap (all_due_from ledger.opening (inputs ledger) (Ahead 0)) first)
@@ -131,7 +131,7 @@ reply_where clock packet done (inr all) = inr (ap (λ d. one_reply clock d packe
 pub is_reply : (clock : ℕ) (packet : Packet) (ledger : LedgerState) (ends : List EndedState)
     → IsRunOfOne clock packet ledger ends → IsReplyToOne ledger.opening packet (one_reply ledger.opening (inputs ledger) packet)
 is_reply clock packet ledger ends run =
-    let first : part 0 run.queue ≡ one_and_end packet = run.lawful.filled.parts 0 (omega arith) ∙ run.submitted in
+    let first : items_from 0 run.queue ≡ one_and_end packet = run.lawful.filled.parts 0 (omega arith) ∙ run.submitted in
     reply_where ledger.opening packet (inputs ledger) (front_of_one (inputs ledger) run.lawful.committed.0
     (input_of (numbered_packet 0 0 packet))
     (run.lawful.committed.1 ∙ ahead_of_first run.queue (others_end clock packet ledger ends run) ∙ ap ahead first))

@@ -7,7 +7,7 @@ use Rattle.tb_core.specs.EndedRun.{Run}
 use Rattle.tb_core.specs.Journal.{LedgerState, inputs}
 use Rattle.tb_layout.specs.Events.{Input}
 use Rattle.tb_submit.specs.Ends.{EndedState, SenderState, SubmitterState, replies_of}
-use Rattle.tb_work.specs.Ahead.{items_in, part}
+use Rattle.tb_work.specs.Ahead.{items_in, items_from}
 use Rattle.tb_work.specs.Queue.{AreSubmitted, IsSubmitted}
 use Rattle.tb_work.specs.declared.item.Item.{Item}
 use Rattle.tb_work.specs.declared.item.Item.TheVariants as item
@@ -24,14 +24,14 @@ use Rattle.tb_program.specs.declared.run.driver.ScriptDriver.{ScriptDriver}
 use Rattle.tb_program.specs.declared.run.notes.Told.{Told}
 
 first_part : (submitter : ℕ) (ticket : Ticket) (queue : List Ticket) (own : Bool) → (ticket.sender == submitter) ≡ own
-    → part submitter (ticket ∷ queue) ≡ (if own then ticket.item ∷ part submitter queue else part submitter queue)
+    → items_from submitter (ticket ∷ queue) ≡ (if own then ticket.item ∷ items_from submitter queue else items_from submitter queue)
 first_part submitter ticket queue true is = rw is refl
 first_part submitter ticket queue false is = rw is refl
 
 -- a packet of a submitter has one reply due to it, and nothing else has
 as_many_due : (clock submitters submitter : ℕ) (committed : List Input) (place : Place) (queue : List Ticket)
     → AreSubmitted submitters queue
-    → length (jobs_in (part submitter queue)) ≡ length
+    → length (jobs_in (items_from submitter queue)) ≡ length
     (replies_to (all_due_from clock committed place (items_in queue)) submitter)
 as_many_due clock submitters submitter committed place [] all = refl
 as_many_due clock submitters submitter committed place (ticket ∷ queue) all =
@@ -40,9 +40,9 @@ as_many_due clock submitters submitter committed place (ticket ∷ queue) all =
     (as_many_due clock submitters submitter committed (next_place place ticket.item) queue all.1)
   where
     one : (x : Item) (own : Bool) → (ticket.sender == submitter) ≡ own → IsSubmitted submitters ticket.sender x
-        → length (jobs_in (part submitter queue)) ≡ length
+        → length (jobs_in (items_from submitter queue)) ≡ length
         (replies_to (all_due_from clock committed (next_place place x) (items_in queue)) submitter)
-        → length (jobs_in (if own then x ∷ part submitter queue else part submitter queue))
+        → length (jobs_in (if own then x ∷ items_from submitter queue else items_from submitter queue))
         ≡ length (replies_to (reply_due (outcome_at clock committed place) x
         ++ all_due_from clock committed (next_place place x) (items_in queue)) submitter)
     one (item.Packet job) true own is others = rw (ap (λ n. n == submitter) is.0 ∙ own) (ap suc others)
@@ -69,7 +69,7 @@ module _ {run : Run} {start : LedgerState} {limit : ℕ} {before : List Submitte
   all_answered k driver ended driver_is ended_is =
       let below : k < run.submitters = subst (λ n. k < n) reported.number (slice_get_within ends k ended ended_is) in
       let filled = reported.report.filled in
-      let parts : part k run.queue ≡ run.queued k = filled.parts k (omega (arith, below)) in
+      let parts : items_from k run.queue ≡ run.queued k = filled.parts k (omega (arith, below)) in
       record {
         limit = limit;
         queued = jobs_in (run.queued k);

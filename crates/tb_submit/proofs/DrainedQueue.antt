@@ -4,7 +4,7 @@ use Rattle.std.specs.Prelude.{◌==◌, ◌||◌, ◌&&◌, not, filter, if◌th
 use Rattle.std.specs.List.{list_any, AllByRecursion}
 use Rattle.std.proofs.lemmas.Bool.{eq-eqb}
 use Rattle.std.proofs.lemmas.Bool.Decides.{nat_tests}
-use Rattle.tb_work.specs.Ahead.{part}
+use Rattle.tb_work.specs.Ahead.{items_from}
 use Rattle.tb_work.specs.Queue.{is_end, IsUnended, IsEnded, IsSubmitted, IsQueueOf}
 use Rattle.tb_work.specs.declared.item.Item.{Item}
 use Rattle.tb_work.specs.declared.item.Ticket.{Ticket}
@@ -82,12 +82,12 @@ part_if b ticket sender queue =
     else filter (λ (t : Ticket). t.sender == sender) queue)
 
 all_after : (P : Item → Type 0) (b : Bool) (ticket : Ticket) (sender : ℕ) (queue : List Ticket)
-    → AllByRecursion P (part_if b ticket sender queue) → AllByRecursion P (part sender queue)
+    → AllByRecursion P (part_if b ticket sender queue) → AllByRecursion P (items_from sender queue)
 all_after P true ticket sender queue all = all.1
 all_after P false ticket sender queue all = all
 
 all_of_parts : (P : ℕ → Item → Type 0) (queue : List Ticket)
-    → ((sender : ℕ) → AllByRecursion (P sender) (part sender queue))
+    → ((sender : ℕ) → AllByRecursion (P sender) (items_from sender queue))
     → AllByRecursion (λ (ticket : Ticket). P ticket.sender ticket.item) queue
 all_of_parts P [] each = tt
 all_of_parts P (ticket ∷ queue) each = (
@@ -113,7 +113,7 @@ within_or_above n m = by (nat_lt m n) refl
 
 -- a sender's part was taken whole
 abbrev IsDrained : IntakeState → ℕ → List Item → Type 0
-IsDrained intake sender items = (part sender intake.taken ≡ items) × IsCompleteQueue intake.limit intake.submitters sender items
+IsDrained intake sender items = (items_from sender intake.taken ≡ items) × IsCompleteQueue intake.limit intake.submitters sender items
 
 -- all have ended, and the end of each was taken
 pub record AreSettled (intake : IntakeState) (ends : List EndedState) (control : SenderState) : Type 0 where
@@ -127,18 +127,18 @@ pub record AreSettled (intake : IntakeState) (ends : List EndedState) (control :
   pub items : List Ticket
   pub whole : IsWhole (map entry_of ends ++ entry control.seat.number control.queued ∷ []) intake.taken
       (intake.submitters + 1) items
-  pub finished : (sender : ℕ) → sender ≤ intake.submitters → list_any is_end (part sender intake.taken) ≡ true
+  pub finished : (sender : ℕ) → sender ≤ intake.submitters → list_any is_end (items_from sender intake.taken) ≡ true
 
 drained : (intake : IntakeState) (items : List Ticket) (number : ℕ) (seat : Seat) (queued : List Item)
     → seat ≡ seat_at intake number → IsCompleteQueue seat.limit seat.submitters seat.number queued →
-    part seat.number (intake.taken ++ items) ≡ queued → list_any is_end (part number intake.taken) ≡ true
+    items_from seat.number (intake.taken ++ items) ≡ queued → list_any is_end (items_from number intake.taken) ≡ true
     → IsDrained intake number queued
 drained intake items number seat queued seat_is filed is has =
     let mine : IsCompleteQueue intake.limit intake.submitters number queued = subst
     (λ (s : Seat). IsCompleteQueue s.limit s.submitters s.number queued) seat_is filed in
-    let all : part number (intake.taken ++ items)
-    ≡ queued = subst (λ (s : Seat). part s.number (intake.taken ++ items) ≡ queued) seat_is is in (
-      whole_part queued (part number intake.taken) (part number items) mine.ended
+    let all : items_from number (intake.taken ++ items)
+    ≡ queued = subst (λ (s : Seat). items_from s.number (intake.taken ++ items) ≡ queued) seat_is is in (
+      whole_part queued (items_from number intake.taken) (items_from number items) mine.ended
           (sym (part_append number intake.taken items) ∙ all) has,
       mine,
     )
@@ -147,7 +147,7 @@ all_drained : (intake : IntakeState) (ends : List EndedState) (control : SenderS
     → AreSettled intake ends control → (sender : ℕ) → sender ≤ intake.submitters
     → IsDrained intake sender (queued_by ends control sender)
 all_drained intake ends control is sender below =
-    let IsPart : PassEntry → Type 0 = λ e. part e.number (intake.taken ++ is.items) ≡ e.pushed in
+    let IsPart : PassEntry → Type 0 = λ e. items_from e.number (intake.taken ++ is.items) ≡ e.pushed in
     let last = entry control.seat.number control.queued in
     by_number (IsDrained intake) ends control
     (λ k d within. drained intake is.items k (get_or ends k d).origin.seat (get_or ends k d).queued
@@ -159,16 +159,16 @@ all_drained intake ends control is sender below =
     sender (omega (arith, below, is.long))
 
 none_above : (intake : IntakeState) (ends : List EndedState) (control : SenderState)
-    → AreSettled intake ends control → (sender : ℕ) → intake.submitters < sender → part sender intake.taken ≡ []
+    → AreSettled intake ends control → (sender : ℕ) → intake.submitters < sender → items_from sender intake.taken ≡ []
 none_above intake ends control is sender above =
-    before_nothing (part sender intake.taken) (part sender is.items)
+    before_nothing (items_from sender intake.taken) (items_from sender is.items)
     (sym (part_append sender intake.taken is.items) ∙ is.whole.1 sender (omega (arith, above)))
 
 -- what holds of all that each sender queued holds of what was taken
 each_part : (P : ℕ → Item → Type 0) (intake : IntakeState) (ends : List EndedState) (control : SenderState)
     → AreSettled intake ends control →
     ((sender : ℕ) (items : List Item) → IsCompleteQueue intake.limit intake.submitters sender items
-    → AllByRecursion (P sender) items) → (sender : ℕ) → AllByRecursion (P sender) (part sender intake.taken)
+    → AllByRecursion (P sender) items) → (sender : ℕ) → AllByRecursion (P sender) (items_from sender intake.taken)
 each_part P intake ends control is each sender = ⊎_elim
     (λ (below : sender ≤ intake.submitters). let own = all_drained intake ends control is sender below in subst
     (AllByRecursion (P sender)) (sym own.0) (each sender _ own.1))

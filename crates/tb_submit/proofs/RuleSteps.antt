@@ -9,7 +9,7 @@ use mathlib.Core.Option.{some, some-injective, some-ne-none}
 use lib.ListN.{get_elem?}
 use Rattle.crossbeam_queue.specs.Fifo.{Pushes, Pops, Forks, Merges, Learns}
 use Rattle.crossbeam_queue.proofs.Lists.{at_set, set_else, at_longer, at_last}
-use Rattle.tb_work.specs.Ahead.{part}
+use Rattle.tb_work.specs.Ahead.{items_from}
 use Rattle.tb_work.specs.declared.item.Item.{Item}
 use Rattle.tb_work.specs.declared.item.Ticket.{Ticket}
 use Rattle.tb_submit.specs.declared.rule.PassEntry.{PassEntry}
@@ -57,27 +57,27 @@ stands_right : (s : ℕ) (xs ys : List PassEntry) → Stands s ys → Stands s (
 stands_right s [] ys h = h
 stands_right s (x ∷ xs) ys h = inr (stands_right s xs ys h)
 
-pub part_append : (s : ℕ) (xs ys : List Ticket) → part s (xs ++ ys) ≡ part s xs ++ part s ys
+pub part_append : (s : ℕ) (xs ys : List Ticket) → items_from s (xs ++ ys) ≡ items_from s xs ++ items_from s ys
 part_append s xs ys = ap (map (λ (t : Ticket). t.item)) (filter-append (λ (t : Ticket). t.sender == s) xs ys)
     ∙ map-append (λ (t : Ticket). t.item) (filter (λ (t : Ticket). t.sender == s) xs)
     (filter (λ (t : Ticket). t.sender == s) ys)
 
-pub part_one : (s : ℕ) (x : Ticket) → x.sender ≡ s → part s (x ∷ []) ≡ x.item ∷ []
+pub part_one : (s : ℕ) (x : Ticket) → x.sender ≡ s → items_from s (x ∷ []) ≡ x.item ∷ []
 part_one s x e = ap (λ (b : Bool). map (λ (t : Ticket). t.item) (cond b (x ∷ []) [])) (eq-eqb x.sender s e)
 
-part_other : (s : ℕ) (x : Ticket) → x.sender ≢ s → part s (x ∷ []) ≡ []
+part_other : (s : ℕ) (x : Ticket) → x.sender ≢ s → items_from s (x ∷ []) ≡ []
 part_other s x n = ap (λ (b : Bool). map (λ (t : Ticket). t.item) (cond b (x ∷ []) [])) (ne_eqb x.sender s n)
 
 -- a list with one more ticket at its end
 part_more : (s : ℕ) (got items : List Ticket) (x : Ticket)
-    → part s (got ++ (items ++ x ∷ [])) ≡ part s (got ++ items) ++ part s (x ∷ [])
-part_more s got items x = ap (part s) (sym (append_assoc got items (x ∷ []))) ∙ part_append s (got ++ items) (x ∷ [])
+    → items_from s (got ++ (items ++ x ∷ [])) ≡ items_from s (got ++ items) ++ items_from s (x ∷ [])
+part_more s got items x = ap (items_from s) (sym (append_assoc got items (x ∷ []))) ∙ part_append s (got ++ items) (x ∷ [])
 
 part_same : (s : ℕ) (got items : List Ticket) (x : Ticket) → x.sender ≢ s
-    → part s (got ++ (items ++ x ∷ [])) ≡ part s (got ++ items)
+    → items_from s (got ++ (items ++ x ∷ [])) ≡ items_from s (got ++ items)
 part_same s got items x n =
-    part_more s got items x ∙ ap (λ l. part s (got ++ items) ++ l) (part_other s x n)
-    ∙ append-nil (part s (got ++ items))
+    part_more s got items x ∙ ap (λ l. items_from s (got ++ items) ++ l) (part_other s x n)
+    ∙ append-nil (items_from s (got ++ items))
 
 -- a pass whose view loses no number keeps every number in its place
 in_set : (views : List View) (pass : ℕ) (v w : View) → get_elem? views pass ≡ some v
@@ -158,15 +158,15 @@ nothing_in [] ys y e = cc
 nothing_in (x ∷ xs) ys y e = cc
 
 -- a number that has no part in the list isn't the sender of one in it
-stands_in : (got items : List Ticket) (x : Ticket) → part x.sender (got ++ x ∷ items) ≡ [] → ⊥
+stands_in : (got items : List Ticket) (x : Ticket) → items_from x.sender (got ++ x ∷ items) ≡ [] → ⊥
 stands_in got items x e =
-    nothing_in (part x.sender got) (part x.sender items) x.item
-    (ap (λ l. part x.sender got ++ l) (sym (part_append x.sender (x ∷ []) items
-    ∙ ap (λ l. l ++ part x.sender items) (part_one x.sender x refl)))
+    nothing_in (items_from x.sender got) (items_from x.sender items) x.item
+    (ap (λ l. items_from x.sender got ++ l) (sym (part_append x.sender (x ∷ []) items
+    ∙ ap (λ l. l ++ items_from x.sender items) (part_one x.sender x refl)))
     ∙ sym (part_append x.sender got (x ∷ items)) ∙ e)
 
 given_out : (got items : List Ticket) (x : Ticket) (count : ℕ)
-    → ((s : ℕ) → count ≤ s → part s (got ++ x ∷ items) ≡ []) → x.sender < count
+    → ((s : ℕ) → count ≤ s → items_from s (got ++ x ∷ items) ≡ []) → x.sender < count
 given_out got items x count none = by (nat_lt x.sender count) refl
   where
     below : nat_lt x.sender count ≡ true → x.sender < count
@@ -204,7 +204,7 @@ takes_here pass es got n seen x items views h at =
             ));
         stands = λ s below. in_set views pass (intake es got n seen) w at (λ t stands. stands)
             (h.pass_of s) s (h.stands s below);
-        no_other_sender = λ s above. ap (part s) same ∙ h.no_other_sender s above;
+        no_other_sender = λ s above. ap (items_from s) same ∙ h.no_other_sender s above;
       },
       (refl, omega (arith, mine.1.2, given_out h.taken items x h.count h.no_other_sender)),
     )
@@ -389,9 +389,9 @@ learns_here pass es got n seen items views h at =
     let mine = h.fits pass (intake es got n seen) at in
     let same : h.taken ++ items ≡ got ++ items = ap (λ g. g ++ items) (sym mine.1.1) in (
       each_map (FitsEntry h.pass_of h.count (h.taken ++ items) pass)
-          (λ (e : PassEntry). part e.number (got ++ items) ≡ e.pushed) es
-          (λ e f. ap (part e.number) (sym same) ∙ f.2) mine.0,
-      (λ s above. ap (part s) (sym same) ∙ h.no_other_sender s (omega (arith, mine.1.2))),
+          (λ (e : PassEntry). items_from e.number (got ++ items) ≡ e.pushed) es
+          (λ e f. ap (items_from e.number) (sym same) ∙ f.2) mine.0,
+      (λ s above. ap (items_from s) (sym same) ∙ h.no_other_sender s (omega (arith, mine.1.2))),
     )
 
 pub learns : (pass : ℕ) (v : View) (es : List PassEntry) (got : List Ticket) (n : ℕ) (seen : List ℕ)

@@ -3,7 +3,7 @@ use Rattle.std.specs.Prelude.{◌≡◌, ℕ, ◌+◌, ◌<◌, ◌≤◌, ◌�
 use Rattle.std.specs.List.{AllByRecursion}
 use mathlib.Core.Option.{some}
 use lib.ListN.{get_elem?}
-use Rattle.tb_work.specs.Ahead.{part}
+use Rattle.tb_work.specs.Ahead.{items_from}
 use Rattle.tb_work.specs.declared.item.Item.{Item}
 use Rattle.tb_work.specs.declared.item.Ticket.{Ticket}
 use Rattle.tb_submit.specs.declared.rule.PassEntry.{PassEntry}
@@ -87,7 +87,7 @@ Stands number (e ∷ entries) = (e.number ≡ number) ⊎ Stands number entries
 
 -- An entry's number was given out, it is only in this pass, and what was pushed is its sender's part of all.
 abbrev pub FitsEntry : (ℕ → ℕ) → ℕ → List Ticket → ℕ → PassEntry → Type 0
-FitsEntry pass_of count all pass e = (e.number < count) × (pass_of e.number ≡ pass) × (part e.number all ≡ e.pushed)
+FitsEntry pass_of count all pass e = (e.number < count) × (pass_of e.number ≡ pass) × (items_from e.number all ≡ e.pushed)
 
 -- Only the reader's pass has the mark, with what was taken and how many numbers were given out.
 abbrev pub FitsMark : ℕ → ℕ → List Ticket → ℕ → Option IntakeMark → Type 0
@@ -111,15 +111,15 @@ pub record QueueInvariant (items : List Ticket) (views : List View) : Type 0 whe
   pub fits : (pass : ℕ) (view : View) → get_elem? views pass ≡ some view
       → Fits pass_of reader count taken items pass view
   pub stands : (number : ℕ) → number < count → InView views (pass_of number) number
-  pub no_other_sender : (number : ℕ) → count ≤ number → part number (taken ++ items) ≡ []
+  pub no_other_sender : (number : ℕ) → count ≤ number → items_from number (taken ++ items) ≡ []
 
 -- ---- what the intake's pass learns of what is queued
 
 -- of each number in the pass, taken and queued together are what was pushed
 abbrev pub IsWhole : List PassEntry → List Ticket → ℕ → List Ticket → Type 0
 IsWhole entries taken count items =
-    AllByRecursion (λ (e : PassEntry). part e.number (taken ++ items) ≡ e.pushed) entries
-    × ((number : ℕ) → count ≤ number → part number (taken ++ items) ≡ [])
+    AllByRecursion (λ (e : PassEntry). items_from e.number (taken ++ items) ≡ e.pushed) entries
+    × ((number : ℕ) → count ≤ number → items_from number (taken ++ items) ≡ [])
 
 abbrev pub TellsMark : List PassEntry → Option IntakeMark → List Ticket → Type 0
 TellsMark entries None items = ⊤

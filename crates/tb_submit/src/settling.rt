@@ -7,7 +7,7 @@ ghost use Rattle.tb_rings.specs.declared.Outlet.{Outlet as OutletValue};
 ghost use Rattle.tb_submit.specs.Ends.{EndedState, IntakeState, control_seat, end_origin, origins, queued_by, replies_of, seat_at};
 ghost use Rattle.tb_submit.specs.Inside.{entry_of};
 ghost use Rattle.tb_submit.specs.Lists.{AreWithin, IsCompleteQueue};
-ghost use Rattle.tb_work.specs.Ahead.{part};
+ghost use Rattle.tb_work.specs.Ahead.{items_from};
 ghost use Rattle.tb_work.specs.Queue.{IsQueueOf, is_end};
 ghost use Rattle.tb_work.specs.Packet.{ReplyValue};
 
@@ -55,7 +55,7 @@ pub fn settle_queue(
     requires ends { map end_origin ends.items ≡ origins intake outlets.items }
     requires number { length outlets.items ≡ intake.submitters }
     requires control { control.seat ≡ control_seat intake }
-    requires finished { (sender : ℕ) → sender ≤ intake.submitters → list_any is_end (part sender intake.taken) ≡ true }
+    requires finished { (sender : ℕ) → sender ≤ intake.submitters → list_any is_end (items_from sender intake.taken) ≡ true }
     ensures queue { IsQueueOf intake.submitters intake.taken (queued_by ends.items control) }
     ensures within { AreWithin intake.limit intake.taken }
     ensures long { length result.items ≡ intake.submitters }

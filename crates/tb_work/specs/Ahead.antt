@@ -10,8 +10,8 @@ use Rattle.tb_work.specs.declared.item.Ticket.{Ticket}
 abbrev pub items_in : List Ticket → List Item
 items_in queue = map (λ (ticket : Ticket). ticket.item) queue
 
-abbrev pub part : ℕ → List Ticket → List Item
-part sender queue = items_in (filter (λ (ticket : Ticket). ticket.sender == sender) queue)
+abbrev pub items_from : ℕ → List Ticket → List Item
+items_from sender queue = items_in (filter (λ (ticket : Ticket). ticket.sender == sender) queue)
 
 -- the packets and pulses that are ahead of the Close
 abbrev pub ahead : List Item → List Input

@@ -1,7 +1,7 @@
 -- Queues of tickets, as their senders fill them.
 use Rattle.std.specs.Prelude.{◌≡◌, ◌<◌, ◌≤◌, ℕ, ◌+◌, Bool, true, false, not, List, [], ◌∷◌, ◌++◌}
 use Rattle.std.specs.List.{list_all, AllByRecursion}
-use Rattle.tb_work.specs.Ahead.{part}
+use Rattle.tb_work.specs.Ahead.{items_from}
 use Rattle.tb_work.specs.declared.item.Item.{Item}
 use Rattle.tb_work.specs.declared.item.Item.TheVariants.{Packet, Pulse, End, Close}
 use Rattle.tb_work.specs.declared.item.Ticket.{Ticket}
@@ -44,8 +44,8 @@ AreNumbered sender number (other ∷ items) = AreNumbered sender number items
 -- Senders 0 to `submitters`, the control being the last, put exactly what each of them queued into the queue, in order
 -- and its end last. Packets are numbered from 0.
 pub record IsQueueOf (submitters : ℕ) (queue : List Ticket) (queued : ℕ → List Item) : Type 0 where
-  pub parts : (sender : ℕ) → sender ≤ submitters → part sender queue ≡ queued sender
-  pub no_other_sender : (sender : ℕ) → submitters < sender → part sender queue ≡ []
+  pub parts : (sender : ℕ) → sender ≤ submitters → items_from sender queue ≡ queued sender
+  pub no_other_sender : (sender : ℕ) → submitters < sender → items_from sender queue ≡ []
   pub submitted : AreSubmitted submitters queue
   pub numbered : (sender : ℕ) → sender ≤ submitters → AreNumbered sender 0 (queued sender)
   pub ended : (sender : ℕ) → sender ≤ submitters → IsEnded (queued sender)

@@ -1,7 +1,7 @@
 -- Every order of pushes and pops.
 use Rattle.std.specs.Prelude.{◌≡◌, ◌<◌, ◌≤◌, ℕ, Bool, true, false, if◌then◌else◌, List, [], ◌∷◌, ◌++◌, None}
 use Rattle.std.specs.List.{list_any}
-use Rattle.tb_work.specs.Ahead.{ahead, items_in, part}
+use Rattle.tb_work.specs.Ahead.{ahead, items_in, items_from}
 use Rattle.tb_work.specs.Queue.{AreSubmitted, AreNumbered}
 use Rattle.tb_work.specs.declared.item.Ticket.{Ticket}
 use Rattle.tb_world.specs.declared.event.Event.{Event}
@@ -40,7 +40,7 @@ is_refused other = false
 pub record IsLawfulSoFar (clock submitters : ℕ) (queue : List Ticket) (world : WorldState) : Type 0 where
   pub opening : world.ledger.opening ≡ clock
   pub submitted : AreSubmitted submitters queue
-  pub numbered : (sender : ℕ) → sender ≤ submitters → AreNumbered sender 0 (part sender queue)
+  pub numbered : (sender : ℕ) → sender ≤ submitters → AreNumbered sender 0 (items_from sender queue)
   pub committed : IsPrefix (inputs world.ledger) (ahead (items_in queue))
   pub received : (submitter : ℕ) → submitter < submitters
       → IsPrefix (received_of world submitter) (due clock 0 queue (inputs world.ledger) submitter)
@@ -56,7 +56,7 @@ Reports submitters queue world =
     LawfulReport (record {
       submitters = submitters;
       queue = queue;
-      queued = λ sender. part sender queue;
+      queued = λ sender. items_from sender queue;
       before = [];
       ledger = world.ledger;
       replies = received_of world;

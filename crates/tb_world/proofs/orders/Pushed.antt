@@ -4,7 +4,7 @@ use Rattle.std.specs.List.{list_all, list_any}
 use Rattle.std.proofs.lemmas.List.{get_or-set_same}
 use Rattle.std.proofs.lemmas.List.Folds.{list_all-append}
 use Rattle.std.proofs.lemmas.Bool.{and_parts, cases_eq, eq-eqb, eqb-true, leb-true, ltb-true, ne_eqb, not-true}
-use Rattle.tb_work.specs.Ahead.{part}
+use Rattle.tb_work.specs.Ahead.{items_from}
 use Rattle.tb_work.specs.Queue.{is_end, IsUnended, IsEnded, IsSubmitted, AreSubmitted, AreNumbered, IsQueueOf}
 use Rattle.tb_work.specs.declared.item.Item.{Item}
 use Rattle.tb_work.specs.declared.item.Item.TheVariants as item
@@ -131,8 +131,8 @@ pushed_more number sender items x goes next has =
 pub record HavePushed (submitters : ℕ) (pushed : List Ticket) (senders : List WorldSender) : Type 0 where
   pub long : length senders ≡ submitters + 1
   pub submitted : AreSubmitted submitters pushed
-  pub no_other_sender : (sender : ℕ) → submitters < sender → part sender pushed ≡ []
-  pub each : (sender : ℕ) → sender ≤ submitters → HasPushed sender (sender_at senders sender) (part sender pushed)
+  pub no_other_sender : (sender : ℕ) → submitters < sender → items_from sender pushed ≡ []
+  pub each : (sender : ℕ) → sender ≤ submitters → HasPushed sender (sender_at senders sender) (items_from sender pushed)
 
 pub none_pushed : (submitters : ℕ) (senders : List WorldSender) → length senders ≡ submitters + 1
     → ((sender : ℕ) → sender ≤ submitters → sender_at senders sender ≡ newcomer) → HavePushed submitters [] senders
@@ -146,9 +146,9 @@ none_pushed submitters senders long new =
     }
 
 part_of_others : (sender : ℕ) (queue : List Ticket) (ticket : Ticket) → ticket.sender ≢ sender
-    → part sender (queue ++ ticket ∷ []) ≡ part sender queue
+    → items_from sender (queue ++ ticket ∷ []) ≡ items_from sender queue
 part_of_others sender queue ticket other =
-    part_push sender queue ticket ∙ rw (ne_eqb ticket.sender sender other) (append-nil (part sender queue))
+    part_push sender queue ticket ∙ rw (ne_eqb ticket.sender sender other) (append-nil (items_from sender queue))
 
 pub push_counted : (limit submitters : ℕ) (pushed : List Ticket) (senders : List WorldSender) (ticket : Ticket)
     → may_push limit submitters ticket.sender (sender_at senders ticket.sender) ticket.item ≡ true
@@ -160,16 +160,16 @@ push_counted limit submitters pushed senders ticket lawful have =
     let both = and_parts (not old.ended) (may_push_item limit submitters ticket.sender old ticket.item) lawful in
     let is = may limit submitters ticket.sender old ticket.item both.1 in
     let Each : ℕ → Type 0 = λ sender. HasPushed sender (sender_at (senders_after senders ticket) sender)
-    (part sender (pushed ++ ticket ∷ [])) in
+    (items_from sender (pushed ++ ticket ∷ [])) in
     let its : Each ticket.sender =
-    subst (λ s. HasPushed ticket.sender s (part ticket.sender (pushed ++ ticket ∷ [])))
+    subst (λ s. HasPushed ticket.sender s (items_from ticket.sender (pushed ++ ticket ∷ [])))
     (sym (get_or-set_same senders ticket.sender new newcomer (omega (arith, have.long, is.among))))
     (subst (HasPushed ticket.sender new) (sym (part_push ticket.sender pushed ticket
     ∙ rw (eq-eqb ticket.sender ticket.sender refl) refl))
-    (pushed_more ticket.sender old (part ticket.sender pushed) ticket.item (not-true old.ended both.0) is.next
+    (pushed_more ticket.sender old (items_from ticket.sender pushed) ticket.item (not-true old.ended both.0) is.next
     (have.each ticket.sender is.among))) in
     let others : (sender : ℕ) → sender ≤ submitters → ticket.sender ≢ sender → Each sender = λ sender among other.
-    subst (λ s. HasPushed sender s (part sender (pushed ++ ticket ∷ [])))
+    subst (λ s. HasPushed sender s (items_from sender (pushed ++ ticket ∷ [])))
     (sym (get_or-set_other senders ticket.sender sender new newcomer (λ same. other (sym same))))
     (subst (HasPushed sender (sender_at senders sender)) (sym (part_of_others sender pushed ticket other))
     (have.each sender among)) in
@@ -201,18 +201,18 @@ has_ended number sender items has any = by sender.ended refl
 
 pub numbered_by : (submitters : ℕ) (pushed : List Ticket) (senders : List WorldSender)
     → HavePushed submitters pushed senders → (sender : ℕ) → sender ≤ submitters
-    → AreNumbered sender 0 (part sender pushed)
+    → AreNumbered sender 0 (items_from sender pushed)
 numbered_by submitters pushed senders have sender among = (have.each sender among).numbered
 
 pub queue_of_all : (submitters : ℕ) (pushed : List Ticket) (senders : List WorldSender)
     → HavePushed submitters pushed senders → HaveAllEnded submitters pushed
-    → IsQueueOf submitters pushed (λ sender. part sender pushed)
+    → IsQueueOf submitters pushed (λ sender. items_from sender pushed)
 queue_of_all submitters pushed senders have over =
     record {
       parts = λ sender among. refl;
       no_other_sender = have.no_other_sender;
       submitted = have.submitted;
       numbered = numbered_by submitters pushed senders have;
-      ended = λ sender among. has_ended sender (sender_at senders sender) (part sender pushed)
+      ended = λ sender among. has_ended sender (sender_at senders sender) (items_from sender pushed)
           (have.each sender among) (over sender among);
     }

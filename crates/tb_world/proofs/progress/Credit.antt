@@ -6,7 +6,7 @@ use Rattle.std.proofs.lemmas.Bool.{cases_eq, cases_lt}
 use Rattle.std.proofs.lemmas.List.{length-map, get_or-set_same, set_past, get_or-replicate, get_or_past, length-replicate}
 use Rattle.tb_layout.specs.Events.{Input}
 use Rattle.tb_work.specs.Packet.{ReplyValue}
-use Rattle.tb_work.specs.Ahead.{items_in, part}
+use Rattle.tb_work.specs.Ahead.{items_in, items_from}
 use Rattle.tb_work.specs.Queue.{AreSubmitted}
 use Rattle.tb_work.specs.declared.item.Item.{Item}
 use Rattle.tb_work.specs.declared.item.Item.TheVariants as item
@@ -124,14 +124,14 @@ counted (item.Packet job ∷ items) = omega (arith, counted items)
 counted (x ∷ items) = counted items
 
 as_many : (clock n s : ℕ) (journal : List Input) (queue : List Ticket) → AreSubmitted n queue
-    → length (replies_to (all_due clock 0 (items_in queue) journal) s) ≡ packets_in (part s queue)
+    → length (replies_to (all_due clock 0 (items_in queue) journal) s) ≡ packets_in (items_from s queue)
 as_many clock n s journal queue all =
     let replies = replies_to (all_due clock 0 (items_in queue) journal) s in
     omega (
       arith,
       length-map replies numbered_of,
       ap length (one-each clock s journal (Ahead 0) (items_in queue) ∙ sym (jobs-part n s queue all)),
-      counted (part s queue),
+      counted (items_from s queue),
     )
 
 -- ---- the room
