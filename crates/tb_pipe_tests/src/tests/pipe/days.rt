@@ -185,9 +185,10 @@ fn run_clerks<R: Threads + Wait + Sync + Abort>(
     check!(rt; !ledger.stopped());
     let clerks = clerks(rt, alloc, ledger.places());
     check!(rt; clerks.len() == 16);
-    let mut opened = open(alloc, 0, 8190, 64, 32, CLERKS)
-        .ok()
-        .expect(rt, "it is opened");
+    let mut opened = match open(alloc, 0, 8190, 64, 32, CLERKS) {
+        Ok(opened) => opened,
+        Err(_) => rt.panic("it isn't opened"),
+    };
     opened.pipeline = opened.pipeline.with_ledger(ledger);
     let accounts = accounts_packet(alloc, &[account(1, 0), account(2, 0)]).expect(rt, "memory");
     let queued = submit_ahead(rt, alloc, &mut opened, 0, accounts);
