@@ -12,6 +12,8 @@ use Rattle.tb_work.specs.Job.{numbered_packet}
 use Rattle.tb_work.specs.Ahead.{ahead}
 use Rattle.tb_machine.specs.Replay.{replay}
 use Rattle.tb_core.specs.Due.{due}
+use Rattle.tb_core.specs.EndedRun.{Run, committed_in}
+use Rattle.tb_core.specs.Journal.{inputs}
 
 -- an account's event with this id, in ledger 1 with code 1
 abbrev event : ℕ → List ℕ
@@ -73,3 +75,17 @@ own_replies = refl
 other_replies : outcomes (due 0 0 doubled (ahead (items doubled)) 1)
     ≡ Committed 1 (Failures (record { index = 0; code = 21 } ∷ [])) ∷ []
 other_replies = refl
+
+-- ---- runs that go on
+
+-- what a first run committed is the whole journal
+first_run : (run : Run) → committed_in (record run { before = [] }) ≡ inputs run.ledger
+first_run run = refl
+
+-- a second run over a ledger that committed the first packet: places count on, and that account exists
+abbrev next_day : List Ticket
+next_day = packet first ∷ packet (job 0 1 (event 2)) ∷ []
+
+goes_on : outcomes (due 0 1 next_day (input_of first ∷ ahead (items next_day)) 0)
+    ≡ Committed 1 (Failures (record { index = 0; code = 21 } ∷ [])) ∷ Committed 2 (Failures []) ∷ []
+goes_on = refl

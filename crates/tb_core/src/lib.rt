@@ -21,7 +21,8 @@
 //!
 //! The report on any run is one record (`specs/Report.antt`), and the law `headline` says what it means for each submitter
 //! (`specs/Headline.antt`). `run_is_lawful` leads there from what a front and a ledger took, also if an allocation failed;
-//! `each_part_is_lawful` says what holds on the way.
+//! `each_part_is_lawful` says what holds on the way. A run may go on with the ledger of another (`Ledger::begin`), and
+//! `two_runs_are_one` says of both what holds of one.
 #![tactic(auto)]
 
 mod bare_ledger;
@@ -39,6 +40,7 @@ pub use journal::Entry;
 pub use laws::{
     bad_runs_are_excluded, committed_are_answered, committed_of_each_submitter,
     each_part_is_lawful, headline, pulses_are_the_controls, run_is_lawful, two_bad_runs_remain,
+    two_runs_are_one,
 };
 pub use ledger::Ledger;
 pub use list::{Listed, run_list};

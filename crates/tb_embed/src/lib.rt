@@ -5,6 +5,8 @@
 //! `serving_is_lawful` leads from any sequence of calls to the lawful report of that run. After a `flush` as many calls of
 //! `reply` as packets have unread replies return all of these (`replies_come`).
 //!
+//! An engine that holds nothing yields its ledger (`Engine::into_ledger`), and another goes on with it (`Engine::over`).
+//!
 //! `calls_in_a_row` in tb_core_tests is an example that the gate compiles.
 #![tactic(auto)]
 

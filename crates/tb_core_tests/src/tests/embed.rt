@@ -143,6 +143,46 @@ fn calls_in_a_row(rt: HostRuntime) {
     drop(engine);
 }
 
+/// Queues an account, commits it, and returns what its reply says.
+fn commit_one(rt: &impl Abort, engine: &mut Engine, alloc: Global) -> Got {
+    check!(rt; got_by(engine, alloc, Call::Submit(0, CREATE_ACCOUNTS, 128)) == Got::Number(0));
+    check!(rt; got_by(engine, alloc, Call::Flush) == Got::Done);
+    got_by(engine, alloc, Call::Read)
+}
+
+/// The second engine goes on with the ledger of the first: its packet is numbered from 0 again, and committed at place 1.
+#[test]
+fn engine_over_the_ledger_of_another(rt: HostRuntime) {
+    let mut first = Engine::new(rt.alloc(), 0, 2, 3)
+        .ok()
+        .expect(&rt, "it is opened");
+    check!(&rt; commit_one(&rt, &mut first, rt.alloc()) == Got::Committed(0, 0, 0));
+    let ledger = first.into_ledger().ok().expect(&rt, "nothing is held");
+    check!(&rt; !ledger.stopped());
+    let mut second = Engine::over(rt.alloc(), ledger, 2, 3)
+        .ok()
+        .expect(&rt, "it is opened");
+    check!(&rt; commit_one(&rt, &mut second, rt.alloc()) == Got::Committed(0, 0, 1));
+    drop(second);
+}
+
+/// An engine that holds a packet keeps its ledger.
+#[test]
+fn engine_that_holds_a_packet_keeps_its_ledger(rt: HostRuntime) {
+    let mut engine = Engine::new(rt.alloc(), 0, 2, 3)
+        .ok()
+        .expect(&rt, "it is opened");
+    let queued = got_by(
+        &mut engine,
+        rt.alloc(),
+        Call::Submit(0, CREATE_ACCOUNTS, 128),
+    );
+    check!(&rt; queued == Got::Number(0));
+    let engine = engine.into_ledger().err();
+    check!(&rt; engine.is_some());
+    drop(engine);
+}
+
 /// Reserves capacity, then more than memory has.
 #[test]
 fn calls_in_a_row_with_a_seed_after_refused_reservations(rt: HostRuntime) {

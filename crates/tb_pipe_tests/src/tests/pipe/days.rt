@@ -39,7 +39,10 @@ fn place_and_code(reply: Reply) -> Option<(u64, u32)> {
         Outcome::Committed { place, answer } => match answer {
             Answer::Failures(failures) => Some((
                 place,
-                failures.as_slice().first().map_or(0, |failure| failure.code),
+                failures
+                    .as_slice()
+                    .first()
+                    .map_or(0, |failure| failure.code),
             )),
             Answer::Accounts(_) => None,
         },
@@ -108,7 +111,7 @@ struct Clerk {
 }
 
 /// Returns a clerk whose ids nobody else uses, and who expects places from this one on.
-fn clerk(number: u32, first: u64) -> Clerk {
+fn new_clerk(number: u32, first: u64) -> Clerk {
     let next = Transfer {
         id: u128::from(number) * 1_000_000 + 1,
         debit_account_id: 1,
@@ -165,7 +168,9 @@ impl Driver for Clerk {
 fn clerks(rt: &impl Abort, alloc: Global, first: u64) -> Vec<Clerk> {
     let mut clerks = Vec::with_capacity(alloc, CLERKS as usize).expect(rt, "memory");
     for number in 0..CLERKS {
-        clerks.push(clerk(number, first)).expect(rt, "there is room");
+        clerks
+            .push(new_clerk(number, first))
+            .expect(rt, "there is room");
     }
     clerks
 }
@@ -180,9 +185,10 @@ fn run_clerks<R: Threads + Wait + Sync + Abort>(
     check!(rt; !ledger.stopped());
     let clerks = clerks(rt, alloc, ledger.places());
     check!(rt; clerks.len() == 16);
-    let mut opened = open(alloc, 0, 8190, 64, 32, CLERKS)
-        .ok()
-        .expect(rt, "it is opened");
+    let mut opened = match open(alloc, 0, 8190, 64, 32, CLERKS) {
+        Ok(opened) => opened,
+        Err(_) => rt.panic("it isn't opened"),
+    };
     opened.pipeline = opened.pipeline.with_ledger(ledger);
     let accounts = accounts_packet(alloc, &[account(1, 0), account(2, 0)]).expect(rt, "memory");
     let queued = submit_ahead(rt, alloc, &mut opened, 0, accounts);
@@ -192,7 +198,9 @@ fn run_clerks<R: Threads + Wait + Sync + Abort>(
         .ok()
         .expect(rt, "it ran");
     let Finished {
-        report, drivers, ..
+        report,
+        drivers,
+        ..
     } = finished;
     let Report { ledger, .. } = report;
     let (mut made, mut existing) = (0_u32, 0_u32);

@@ -43,5 +43,5 @@ returns-in-Ok-clause-fresh c = are_fresh _ _ _ c.in-Ok.ensures.submitters
 pub returns-in-Ok-clause-credit : goal.returns-in-Ok-clause-credit
 returns-in-Ok-clause-credit c = rw (c.credit.ensures) at (have_credit _ _ _ c.in-Ok.ensures.submitters)
 
-pub returns-in-Ok-clause-clock : goal.returns-in-Ok-clause-clock
-returns-in-Ok-clause-clock c = search rules
+pub returns-in-Ok-clause-start : goal.returns-in-Ok-clause-start
+returns-in-Ok-clause-start c = search rules
