@@ -180,7 +180,7 @@ fn commit_chain(
     failures_of(rt, machine, CREATE_TRANSFERS, &body).expect(rt, "memory")
 }
 
-/// The whole chain fails and moves nothing. Its events succeed then, but for the one whose id is among the failed ones.
+/// Asserts that the whole chain fails and moves nothing. Its events succeed then, but for the one whose id is among the failed ones.
 fn assert_chain(rt: &(impl Abort + Alloc<A = Global>), chain: Chain) {
     let mut machine = Machine::new(rt.alloc(), 0);
     make_accounts(
