@@ -139,7 +139,7 @@ fn nth_item(index: u64) -> Made {
         return Made::Pulse(index);
     }
     Made::Zeros {
-        number: index - (index + 3) / 7,
+        number: index.saturating_sub(index.saturating_add(3) / 7),
         operation: if index % 2 == 0 { 129 } else { 130 },
         count: if index % 100 == 0 { 3 } else { 0 },
     }

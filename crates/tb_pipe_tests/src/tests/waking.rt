@@ -80,8 +80,8 @@ impl Driver for WakingSender {
     }
 }
 
-/// Runs a driver for each of the seeds and a control that pulses, and asserts that each driver was given a reply to each packet, and
-/// that all of these are committed.
+/// Runs a driver for each of the seeds and a control that pulses. Asserts that each driver was given a reply to each packet, and that
+/// all packets and pulses are committed.
 fn assert_replies<R: Threads + Wait + Sync + Abort>(
     rt: &R,
     alloc: Global,

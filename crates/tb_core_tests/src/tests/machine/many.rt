@@ -70,8 +70,8 @@ fn transfers_between_nine_thousand_accounts(rt: HostRuntime) {
         transfer_on(&rt, &mut machine, first, count);
     }
     check!(&rt; machine.accounts() == 9_000 && machine.clock() == 27_000);
-    for id in 1..=9_000u128 {
-        check!(&rt; posted(&machine, id) == Some((2, 2)));
+    for number in 0..9_000 {
+        check!(&rt; posted(&machine, nth(number)) == Some((2, 2)));
     }
     drop(machine);
 }
@@ -180,7 +180,7 @@ fn commit_chain(
     failures_of(rt, machine, CREATE_TRANSFERS, &body).expect(rt, "memory")
 }
 
-/// The whole chain fails and moves nothing. Its events succeed then, but for the one whose id is among the failed ones.
+/// Asserts that the whole chain fails and moves nothing. Its events succeed then, but for the one whose id is among the failed ones.
 fn assert_chain(rt: &(impl Abort + Alloc<A = Global>), chain: Chain) {
     let mut machine = Machine::new(rt.alloc(), 0);
     make_accounts(
@@ -200,7 +200,7 @@ fn assert_chain(rt: &(impl Abort + Alloc<A = Global>), chain: Chain) {
         code: IdAlreadyFailed.number(),
     };
     check!(rt; again.as_slice() == [only].as_slice());
-    check!(rt; posted(&machine, 1) == Some((u128::from(chain.length - 1), 0)));
+    check!(rt; posted(&machine, 1) == Some((u128::from(chain.length.saturating_sub(1)), 0)));
     drop(machine);
 }
 

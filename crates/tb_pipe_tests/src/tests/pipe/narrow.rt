@@ -5,6 +5,7 @@ ghost use Rattle.tb_submit.specs.Ends.{origin_of};
 
 use super::clients::{exchange, open_narrow, receive, submit};
 use super::controls::pulse;
+use super::stops::give_way;
 use super::{Lone, Told, opened};
 use crate::tests::in_time;
 use std::alloc::Global;
@@ -41,9 +42,7 @@ fn pulse_often<R: Wait + Abort>(rt: &R, control: &mut ControlClient<'_>, pulses:
     ensures { control.new.seat ≡ control.old.seat }
 {
     for moment in 0..pulses {
-        for _ in 0..gap {
-            thread::yield_now();
-        }
+        give_way(gap);
         pulse(rt, control, moment);
     }
 }

@@ -132,11 +132,16 @@ impl<'s> Gate for Late<'s> {
     }
 }
 
-/// Gives a run up after some turns.
-pub(super) fn ask_later(stop: &Stop, turns: u32) {
+/// Yields this often.
+pub(super) fn give_way(turns: u32) {
     for _ in 0..turns {
         thread::yield_now();
     }
+}
+
+/// Gives a run up after some turns.
+pub(super) fn ask_later(stop: &Stop, turns: u32) {
+    give_way(turns);
     stop.ask();
 }
 
