@@ -1,0 +1,6 @@
+mod Cutting
+mod RowLemmas
+mod StoreLemmas
+mod Applied
+mod Journals
+mod Recovered

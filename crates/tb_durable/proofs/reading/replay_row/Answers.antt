@@ -1,0 +1,17 @@
+use Rattle.std.proofs.Common.{◌≡◌, rules, subst, ◌++◌, true, [], ◌∷◌}
+use Rattle.sqlite_trees.specs.View.{Advances}
+use Rattle.tb_durable.proofs.Journals.{one_more}
+use Rattle.tb_durable.proofs.StoreLemmas.{reads_one}
+use Rattle.tb_durable.proofs.reading.replay_row.Goals as goal
+
+pub returns-clause-more : goal.returns-clause-more
+returns-clause-more g c = λ is clean replaying.
+    let found : c.in_ok-next.field-0 ≡ true = search rules in
+    let row = c.next.new.self.row in
+    let next = subst (Advances (g.S.Store.view c.args.table.now.store) (g.S.Store.view c.next.new.self.store) 0 row) found
+    (c.in_ok-next.ensures.ok clean) in (
+      replaying.0 ++ row ∷ [],
+      reads_one _ _ replaying.0 replaying.1 row next,
+      one_more replaying.0 row c.args.replaying.now.ledger c.row.new.self.ledger replaying.2 c.in_ok-row.ensures.group
+          c.in_ok-row.ensures.some c.in_ok-row.ensures.place,
+    )
