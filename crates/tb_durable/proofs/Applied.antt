@@ -1,5 +1,5 @@
 -- What was committed of a parcel.
-use Rattle.std.proofs.Common.{◌≡◌, ◌+◌, ℕ, Bool, true, false, List, [], ◌∷◌, ◌++◌, refl, sym, ap, subst, ◌∙◌, append-nil, length, map, None}
+use Rattle.std.proofs.Common.{◌≡◌, ◌+◌, ℕ, Bool, true, false, List, [], ◌∷◌, ◌++◌, refl, sym, ap, subst, append-nil, length, map, None}
 use Rattle.std.specs.Prelude.{if◌then◌else◌, ◌||◌, nat_lt}
 use Rattle.tb_layout.specs.Events.{Input, Pulse}
 use Rattle.tb_layout.specs.inside.Limits.{places_max}
@@ -7,13 +7,12 @@ use Rattle.tb_work.specs.Answer.{reply_with}
 use Rattle.tb_work.specs.Packet.{Numbered, input_of}
 use Rattle.tb_work.specs.declared.outcome.Outcome.TheVariants as outcome
 use Rattle.tb_core.specs.declared.parcel.Cause.{Cause}
-use Rattle.tb_core.specs.declared.parcel.Parcel.{Parcel}
 use Rattle.tb_core.specs.declared.parcel.Parcel.TheVariants as parcel
 use Rattle.tb_core.specs.declared.outcomes.Outcomes.{Outcomes}
 use Rattle.tb_core.specs.declared.outcomes.Outcomes.TheVariants.{Cut, One, Nothing, Last}
 use Rattle.tb_core.specs.inside.Decision.{cause_outcome}
 use Rattle.tb_core.specs.Journal.{LedgerState, inputs}
-use Rattle.tb_core.specs.Ledger.{Applied, apply_result, apply_step, must_stop, step_of_batch, with_entry, with_stop}
+use Rattle.tb_core.specs.Ledger.{Applied, apply_result, must_stop, step_of_batch, with_entry, with_stop}
 use Rattle.tb_core.specs.BareLedger.{BareLedgerState, HasCommitted, Applies, with_journal, groups_in}
 use Rattle.tb_durable.specs.Durable.{AddsGroup}
 

@@ -1,5 +1,5 @@
 -- A batch's row stands for its packets. (The first half is that of tb_core, whose module isn't public.)
-use Rattle.std.proofs.Common.{refl, sym, ap, subst, ◌∙◌, arith, ◌≡◌, ◌≤◌, ℕ, zero, suc, ◌+◌, ◌*◌, ◌/◌, Bool, true, false, List, [], ◌∷◌, ◌++◌, map, drop, length, length-append, Some, None}
+use Rattle.std.proofs.Common.{refl, sym, ap, subst, ◌∙◌, arith, ◌≡◌, ℕ, ◌*◌, ◌/◌, Bool, true, false, List, [], ◌∷◌, map, length, Some, None}
 use Rattle.std.specs.Prelude.{◌==◌, IsOk, unwrap_or, if◌then◌else◌}
 use Rattle.std.proofs.Math.Seq.{take-append_seam, drop-append_seam}
 use Rattle.std.proofs.lemmas.Bool.{eqb-true, and_parts}

@@ -1,5 +1,5 @@
 -- What opening finds after a crash.
-use Rattle.std.proofs.Common.{◌≡◌, ◌⊎◌, inl, inr, ℕ, List, [], ◌∷◌, ◌++◌, refl, sym, ap, subst, ◌∙◌, append-nil, append_assoc, map}
+use Rattle.std.proofs.Common.{◌≡◌, inl, inr, ℕ, List, [], ◌∷◌, ◌++◌, sym, ap, subst, ◌∙◌, append-nil, append_assoc, map}
 use Rattle.std.specs.List.{flat_map}
 use Rattle.std.proofs.lemmas.Grind.{flat_map-append}
 use Rattle.std.proofs.lemmas.List.{map-append}
@@ -9,10 +9,9 @@ use Rattle.sqlite_trees.specs.Tree.{Trees}
 use Rattle.tb_layout.specs.Events.{Input}
 use Rattle.tb_core.specs.BareLedger.{BareLedgerState, HasCommitted}
 use Rattle.tb_core.specs.EachSubmitter.{is_packet_of, packets_of}
-use Rattle.tb_core.specs.EndedRun.{IsPrefix}
 use Rattle.tb_durable.specs.Rows.{group_in, clock_in}
 use Rattle.tb_durable.specs.Durable.{IsJournal}
-use Rattle.tb_durable.specs.Recovery.{AreOfQueued, IsRecovered, LeavesOneOf, RecoversFromCrashes, groups_of}
+use Rattle.tb_durable.specs.Recovery.{AreOfQueued, RecoversFromCrashes, groups_of}
 
 abbrev inputs_of : List (List Input) → List Input
 inputs_of groups = flat_map (λ group. group) groups

@@ -1,4 +1,4 @@
-use Rattle.std.proofs.Common.{◌≡◌, arith, sym, ap, subst, ◌∙◌, true, false, []}
+use Rattle.std.proofs.Common.{◌≡◌, arith, sym, subst, ◌∙◌, true, false, []}
 use Rattle.sqlite_trees.specs.View.{Advances, IsClean}
 use Rattle.tb_durable.specs.Durable.{IsReading}
 use Rattle.tb_durable.proofs.StoreLemmas.{advances_same, reads_all, reads_one}

@@ -1,6 +1,5 @@
 use Rattle.std.proofs.Common.{◌≡◌, ◌⊎◌, arith, sym, ap, subst, ◌∙◌, ◌++◌, pos, [], ◌∷◌}
 use Rattle.sqlite_value.specs.declared.value.Value.TheVariants.{Int}
-use Rattle.tb_layout.specs.Events.{Pulse}
 use Rattle.sqlite_trees.specs.View.{IsClean, doubt}
 use Rattle.tb_durable.specs.Rows.{pulse_row}
 use Rattle.tb_durable.specs.Durable.{IsJournal, IsSettled}
