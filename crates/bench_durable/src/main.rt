@@ -64,7 +64,13 @@ fn run_over<S: Store + Drop>(
     request: &Request,
     start: Instant,
 ) -> Result<bool, OpenFault> {
-    let mut ledger = DurableLedger::over(rt.alloc(), store, SETTINGS, Seed::default())?;
+    let mut ledger = match DurableLedger::over(rt.alloc(), store, SETTINGS, Seed::default()) {
+        Ok(ledger) => ledger,
+        Err((fault, store)) => {
+            drop(store);
+            return Err(fault);
+        }
+    };
     let opened = match start.elapsed(rt) {
         Ok(duration) => duration.as_micros(),
         Err(_) => 0,

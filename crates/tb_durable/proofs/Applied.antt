@@ -1,16 +1,14 @@
 -- What was committed of a parcel.
-use Rattle.std.proofs.Common.{◌≡◌, ◌+◌, ℕ, Bool, true, false, List, [], ◌∷◌, ◌++◌, refl, sym, ap, subst, append-nil, length, map, None}
+use Rattle.std.proofs.Common.{◌≡◌, ◌+◌, ℕ, Bool, true, false, List, [], ◌∷◌, ◌++◌, refl, ap, subst, length, map}
 use Rattle.std.specs.Prelude.{if◌then◌else◌, ◌||◌, nat_lt}
 use Rattle.tb_layout.specs.Events.{Input, Pulse}
 use Rattle.tb_layout.specs.inside.Limits.{places_max}
 use Rattle.tb_work.specs.Answer.{reply_with}
 use Rattle.tb_work.specs.Packet.{Numbered, input_of}
 use Rattle.tb_work.specs.declared.outcome.Outcome.TheVariants as outcome
-use Rattle.tb_core.specs.declared.parcel.Cause.{Cause}
 use Rattle.tb_core.specs.declared.parcel.Parcel.TheVariants as parcel
 use Rattle.tb_core.specs.declared.outcomes.Outcomes.{Outcomes}
-use Rattle.tb_core.specs.declared.outcomes.Outcomes.TheVariants.{Cut, One, Nothing, Last}
-use Rattle.tb_core.specs.inside.Decision.{cause_outcome}
+use Rattle.tb_core.specs.declared.outcomes.Outcomes.TheVariants.{Cut, Nothing}
 use Rattle.tb_core.specs.Journal.{LedgerState, inputs}
 use Rattle.tb_core.specs.Ledger.{Applied, apply_result, must_stop, step_of_batch, with_entry, with_stop}
 use Rattle.tb_core.specs.BareLedger.{BareLedgerState, HasCommitted, Applies, with_journal, groups_in}
@@ -61,21 +59,3 @@ module _ (old new : BareLedgerState) (outcomes : Outcomes) where
       stops (with_journal old groups) (with_journal new (groups ++ groups_in applied.1)) (map input_of jobs) outcomes
       (Cut (map (reply_with outcome.Stopped) jobs)) (step_of_batch (with_journal old groups) jobs).outcomes
       old.stopped (applied.0 || nat_lt places_max (length (inputs (with_journal old groups)) + length jobs)) refl done.1 stop
-
--- a parcel that commits nothing
-module _ (bare : BareLedgerState) where
-  same_groups : (groups : List (List Input)) → HasCommitted bare groups → HasCommitted bare (groups ++ [])
-  same_groups groups = subst (HasCommitted bare) (sym (append-nil groups))
-
-  pub applies_return : (job : Numbered) (cause : Cause)
-      → Applies (parcel.Return job cause) bare (One (reply_with (cause_outcome cause) job)) bare
-  applies_return job cause = (
-    false,
-    None,
-    λ e. absurd (cc),
-    λ groups has.
-        (same_groups groups has, ap (λ all. apply_result (with_journal bare all) (One (reply_with (cause_outcome cause) job))) (append-nil groups)),
-  )
-
-  pub applies_last : Applies parcel.Last bare Last bare
-  applies_last = (false, None, λ e. absurd (cc), λ groups has. (same_groups groups has, ap (λ all. apply_result (with_journal bare all) Last) (append-nil groups)))

@@ -1,6 +1,5 @@
 -- What opening finds after a crash.
 use Rattle.std.proofs.Common.{◌≡◌, inl, inr, ℕ, List, [], ◌∷◌, ◌++◌, sym, ap, subst, ◌∙◌, append-nil, append_assoc, map}
-use Rattle.std.specs.List.{flat_map}
 use Rattle.std.proofs.lemmas.Grind.{flat_map-append}
 use Rattle.std.proofs.lemmas.List.{map-append}
 use Rattle.std.proofs.lemmas.List.Elements.{filter-append}
@@ -9,12 +8,10 @@ use Rattle.sqlite_trees.specs.Tree.{Trees}
 use Rattle.tb_layout.specs.Events.{Input}
 use Rattle.tb_core.specs.BareLedger.{BareLedgerState, HasCommitted}
 use Rattle.tb_core.specs.EachSubmitter.{is_packet_of, packets_of}
+use Rattle.tb_core.specs.EndedRun.{IsPrefix}
 use Rattle.tb_durable.specs.Rows.{group_in, clock_in}
 use Rattle.tb_durable.specs.Durable.{IsJournal}
-use Rattle.tb_durable.specs.Recovery.{AreOfQueued, RecoversFromCrashes, groups_of}
-
-abbrev inputs_of : List (List Input) → List Input
-inputs_of groups = flat_map (λ group. group) groups
+use Rattle.tb_durable.specs.Recovery.{AreOfQueued, RecoversFromCrashes, groups_of, inputs_of}
 
 packets-append : (submitter : ℕ) (groups more : List (List Input))
     → packets_of submitter (inputs_of (groups ++ more)) ≡ packets_of submitter (inputs_of groups) ++ packets_of submitter (inputs_of more)
@@ -22,15 +19,21 @@ packets-append submitter groups more =
     ap (packets_of submitter) (flat_map-append (λ (group : List Input). group) groups more)
     ∙ filter-append (is_packet_of submitter) (inputs_of groups) (inputs_of more)
 
--- fewer groups are of what was queued too
+-- a part of a prefix is a prefix
+shorter : (front others came : List Input) → IsPrefix (front ++ others) came → IsPrefix front came
+shorter front others came whole = (others ++ whole.0, sym (append_assoc front others whole.0) ∙ whole.1)
+
+-- fewer groups are of what came, and of what was queued, too
+fewer_came : (came : List Input) (groups more : List (List Input)) → IsPrefix (inputs_of (groups ++ more)) came
+    → IsPrefix (inputs_of groups) came
+fewer_came came groups more whole =
+    shorter (inputs_of groups) (inputs_of more) came
+    (subst (λ front. IsPrefix front came) (flat_map-append (λ (group : List Input). group) groups more) whole)
+
 fewer : (queued : ℕ → List Input) (groups more : List (List Input)) → AreOfQueued queued (groups ++ more) → AreOfQueued queued groups
 fewer queued groups more are submitter =
-    let whole = are submitter in
-    let others = packets_of submitter (inputs_of more) in (
-      others ++ whole.0,
-      sym (append_assoc (packets_of submitter (inputs_of groups)) others whole.0)
-          ∙ ap (λ front. front ++ whole.0) (sym (packets-append submitter groups more)) ∙ whole.1,
-    )
+    shorter (packets_of submitter (inputs_of groups)) (packets_of submitter (inputs_of more)) (queued submitter)
+    (subst (λ front. IsPrefix front (queued submitter)) (packets-append submitter groups more) (are submitter))
 
 abbrev clock_of : List Row → ℕ
 clock_of [] = 0
@@ -64,6 +67,8 @@ recovered recovers rows last old found db j leaves left k =
             one_of = inl all;
             committed = found_committed rows [] (db 0) old found j k is;
             opened = found_opened rows [] (db 0) old found j k is;
+            whole = λ came is_prefix.
+                subst (λ all. IsPrefix (inputs_of all) came) (sym all) (fewer_came came (groups_of rows) (map group_in last) is_prefix);
             each = λ queued are.
                 subst (AreOfQueued queued) (sym all) (fewer queued (groups_of rows) (map group_in last) are);
           }
@@ -75,6 +80,7 @@ recovered recovers rows last old found db j leaves left k =
             one_of = inr all;
             committed = found_committed rows last (db 0) old found j k more;
             opened = found_opened rows last (db 0) old found j k more;
+            whole = λ came is_prefix. subst (λ all. IsPrefix (inputs_of all) came) (sym all) is_prefix;
             each = λ queued are. subst (AreOfQueued queued) (sym all) are;
           }
     ]

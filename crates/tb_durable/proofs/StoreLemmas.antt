@@ -96,7 +96,7 @@ reads_none old new key empty at_rest is =
     reads old new (from_key order key (old.trees 0)) is [] at_rest (sym all)
 
 module _ (old new : View) (read : List Row) (reading : IsReading old read) where
-  left_is : (left : List Row) → old.cursors 0 ≡ Some left → reading.left ≡ left
+  pub left_is : (left : List Row) → old.cursors 0 ≡ Some left → reading.left ≡ left
   left_is left is = ap (λ (rows : Option (List Row)). unwrap_or rows []) (sym reading.cursor ∙ is)
 
   -- a row more was read

@@ -15,20 +15,25 @@ use Rattle.tb_durable.specs.Durable.{IsJournal}
 abbrev pub LeavesOneOf : (Trees → Type 0) → List Row → List Row → Type 0
 LeavesOneOf recovers rows last = (db : Trees) → recovers db → (db 0 ≡ rows) ⊎ (db 0 ≡ rows ++ last)
 
+abbrev pub inputs_of : List (List Input) → List Input
+inputs_of groups = flat_map (λ group. group) groups
+
 -- each submitter's packets in these groups are a prefix of those that it queued
 abbrev pub AreOfQueued : (ℕ → List Input) → List (List Input) → Type 0
 AreOfQueued queued groups =
-    (submitter : ℕ) → IsPrefix (packets_of submitter (flat_map (λ group. group) groups)) (queued submitter)
+    (submitter : ℕ) → IsPrefix (packets_of submitter (inputs_of groups)) (queued submitter)
 
 -- A ledger had committed the released groups, and a last one, or none, was being stored. The ledger found has committed the
 -- released groups in order, and after them nothing or the last one. Its state is their replay, from the same opening
--- clock. If each submitter's packets were a prefix of what it queued, they still are: none is lost, doubled or overtaken.
+-- clock. If all of it was a prefix of what came to the ledger, or each submitter's packets were a prefix of what it queued,
+-- they still are: none is lost, doubled or overtaken.
 pub record IsRecovered (released last : List (List Input)) (old found : BareLedgerState) : Type 0 where
   pub groups : List (List Input)
   pub kept : IsPrefix released groups
   pub one_of : (groups ≡ released) ⊎ (groups ≡ released ++ last)
   pub committed : HasCommitted found groups
   pub opened : found.opening ≡ old.opening
+  pub whole : (came : List Input) → IsPrefix (inputs_of (released ++ last)) came → IsPrefix (inputs_of groups) came
   pub each : (queued : ℕ → List Input) → AreOfQueued queued (released ++ last) → AreOfQueued queued groups
 
 -- a journal's groups: those of its entries

@@ -45,6 +45,11 @@ impl fmt::Display for OpenFault {
 impl Error for OpenFault {}
 
 impl From<StoreError> for OpenFault {
+    ghost use Rattle.std.specs.Prelude.{◌≡◌};
+    ghost use Rattle.tb_durable.specs.declared.fault.OpenFault.TheVariants as fault;
+
+    ghost from_gives = { λ error given. given ≡ fault.Store error };
+
     fn from(error: StoreError) -> OpenFault {
         OpenFault::Store(error)
     }

@@ -107,6 +107,7 @@ impl<S: Store + Drop> DurableLedger<S> {
     ghost use Rattle.tb_core.specs.declared.parcel.Parcel.TheVariants as parcel;
     ghost use Rattle.tb_core.specs.BareLedger.{Applies};
     ghost use Rattle.tb_durable.specs.Durable.{IsJournal, IsStored, IsRefused, LeavesWith, opened_rows, rows_of};
+    ghost use Rattle.tb_durable.specs.Faults.{IsCause};
     ghost use Rattle.tb_durable.specs.Recovery.{RecoversFromCrashes};
 
     /// Opens the ledger of a store. If its table is empty, the ledger is new, and the given settings are stored. Otherwise
@@ -115,18 +116,20 @@ impl<S: Store + Drop> DurableLedger<S> {
     /// # Errors
     ///
     /// Each row must be an entry at the next place (`OutOfPlace`, `BadEntry`), and the first must have settings
-    /// (`BadSettings`, `OtherVersion`). If the store or memory fails, so does opening.
+    /// (`BadSettings`, `OtherVersion`). If the store or memory fails, so does opening. The store comes with the error.
     pub fn over(
         alloc: Global,
         store: S,
         settings: Settings,
         seed: Seed,
-    ) -> Result<DurableLedger<S>, OpenFault>
+    ) -> Result<DurableLedger<S>, (OpenFault, S)>
         requires { settings.clock ≤ clock_max }
         ensures stored { IfOk result (λ ledger. IsStored (S.Store.view ledger.table.store) ledger.stopped ledger.bare) }
         ensures rows { IfOk result (λ ledger. IsClean (S.Store.view ledger.table.store)
             → (S.Store.view ledger.table.store).committed 0 ≡ opened_rows settings ((S.Store.view store).committed 0)) }
         ensures goes_on { IfOk result (λ ledger. (ledger.stopped ≡ false) × (ledger.in_doubt ≡ false)) }
+        ensures fault { IfErr result (λ refused. IsClean (S.Store.view refused.1)
+            → IsCause (opened_rows settings ((S.Store.view store).committed 0)) refused.0) }
     {
         let mut table = Table {
             store,
@@ -147,10 +150,7 @@ impl<S: Store + Drop> DurableLedger<S> {
                     fault: None,
                 })
             }
-            Err(fault) => {
-                drop(table);
-                Err(fault)
-            }
+            Err(fault) => Err((fault, table.into_store())),
         }
     }
 

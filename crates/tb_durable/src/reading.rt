@@ -1,10 +1,12 @@
 //! A ledger read from its table.
 
-ghost use Rattle.std.specs.Prelude.{◌≡◌, ◌≤◌, ◌∷◌, [], true, false, Ok, IsSome, IfOk, OnOk};
+ghost use Rattle.std.specs.Prelude.{◌≡◌, ◌≤◌, ◌∷◌, [], true, false, Ok, List, IsSome, IfOk, OnOk, IfErr};
 ghost use Rattle.tb_layout.specs.Limits.{clock_max};
 ghost use Rattle.sqlite_trees.specs.View.{IsClean, doubt};
 ghost use Rattle.tb_durable.specs.Rows.{settings_row};
 ghost use Rattle.tb_durable.specs.Durable.{IsReading, IsReplaying, IsSettled, IsStored, IsJournal, IsFirst, opened_rows};
+ghost use Rattle.tb_durable.specs.Faults.{IsCause, IsFirstFault};
+ghost use Rattle.sqlite_value.specs.Order.{Row};
 
 use crate::fault::OpenFault;
 use crate::replaying::Replaying;
@@ -21,6 +23,7 @@ use tb_layout::CLOCK_MAX;
 fn settings_of(row: &Row) -> Result<Settings, OpenFault>
     ensures clock { IfOk result (λ settings. settings.clock ≤ clock_max) }
     ensures first { IfOk result (λ settings. IsFirst row.now settings.clock) }
+    ensures fault { IfErr result (IsFirstFault row.now) }
 {
     let ValueRef::Int(-1) = row.get(0) else {
         return Err(OpenFault::BadSettings);
@@ -38,6 +41,7 @@ fn settings_of(row: &Row) -> Result<Settings, OpenFault>
 
 /// Reads the first row, if there is one.
 fn read_first<S: Store>(table: &mut Table<S>) -> Result<bool, OpenFault>
+    ensures fault { IfErr result (λ fault. (rows : List Row) → IsCause rows fault) }
     ensures row { result ≡ Ok true → IsClean (S.Store.view table.new.store)
         → IsReading (S.Store.view table.new.store) (table.new.row ∷ []) }
     ensures none { result ≡ Ok false → IsClean (S.Store.view table.new.store)
@@ -54,6 +58,7 @@ fn read_first<S: Store>(table: &mut Table<S>) -> Result<bool, OpenFault>
 /// Writes the first row of an empty table with these settings, and reads it.
 fn write_settings<S: Store>(table: &mut Table<S>, settings: Settings) -> Result<(), OpenFault>
     requires { settings.clock ≤ clock_max }
+    ensures fault { IfErr result (λ fault. (rows : List Row) → IsCause rows fault) }
     ensures row { OnOk result (IsClean (S.Store.view table.new.store) → IsReading (S.Store.view table.new.store) (table.new.row ∷ [])) }
     ensures rows { OnOk result (IsClean (S.Store.view table.new.store) → IsReading (S.Store.view table.old.store) []
         → (S.Store.view table.old.store).committed 0 ≡ []
@@ -73,6 +78,8 @@ fn write_settings<S: Store>(table: &mut Table<S>, settings: Settings) -> Result<
 /// Reads the first row, or writes it with these settings if there is none, and returns the settings in it.
 fn read_settings<S: Store>(table: &mut Table<S>, settings: Settings) -> Result<Settings, OpenFault>
     requires { settings.clock ≤ clock_max }
+    ensures fault { IfErr result (λ fault. IsClean (S.Store.view table.new.store)
+        → IsCause (opened_rows settings ((S.Store.view table.old.store).committed 0)) fault) }
     ensures clock { IfOk result (λ settings. settings.clock ≤ clock_max) }
     ensures rows { OnOk result (IsClean (S.Store.view table.new.store) → (S.Store.view table.new.store).committed 0
         ≡ opened_rows settings ((S.Store.view table.old.store).committed 0)) }
@@ -94,6 +101,9 @@ fn read_settings<S: Store>(table: &mut Table<S>, settings: Settings) -> Result<S
 /// Applies the next row, if there is one.
 fn replay_row<S: Store>(table: &mut Table<S>, replaying: &mut Replaying) -> Result<bool, OpenFault>
     requires { IsSome ((S.Store.view table.old.store).cursors 0) }
+    ensures fault { IsClean (S.Store.view table.new.store)
+        → IsReplaying (S.Store.view table.old.store) replaying.old.ledger
+        → IfErr result (IsCause ((S.Store.view table.old.store).committed 0)) }
     ensures more { result ≡ Ok true → IsClean (S.Store.view table.new.store)
         → IsReplaying (S.Store.view table.old.store) replaying.old.ledger
         → IsReplaying (S.Store.view table.new.store) replaying.new.ledger }
@@ -116,6 +126,9 @@ fn replay_row<S: Store>(table: &mut Table<S>, replaying: &mut Replaying) -> Resu
 /// Applies the rows that are left.
 fn replay_rows<S: Store>(table: &mut Table<S>, replaying: &mut Replaying) -> Result<(), OpenFault>
     requires { IsSome ((S.Store.view table.old.store).cursors 0) }
+    ensures fault { IsClean (S.Store.view table.new.store)
+        → IsReplaying (S.Store.view table.old.store) replaying.old.ledger
+        → IfErr result (IsCause ((S.Store.view table.old.store).committed 0)) }
     ensures journal { OnOk result (IsClean (S.Store.view table.new.store)
         → IsReplaying (S.Store.view table.old.store) replaying.old.ledger
         → IsSettled (S.Store.view table.new.store)
@@ -129,7 +142,8 @@ fn replay_rows<S: Store>(table: &mut Table<S>, replaying: &mut Replaying) -> Res
             return Ok(());
         }
     }
-    Err(OpenFault::OutOfPlace(u64::MAX))
+    // A table of so many rows fits no memory.
+    Err(OpenFault::NoMemory)
 }
 
 /// A ledger that was read, and the settings that it was opened with at first.
@@ -146,6 +160,8 @@ pub(crate) fn read_ledger<S: Store>(
     seed: Seed,
 ) -> Result<Read, OpenFault>
     requires { settings.clock ≤ clock_max }
+    ensures fault { IfErr result (λ fault. IsClean (S.Store.view table.new.store)
+        → IsCause (opened_rows settings ((S.Store.view table.old.store).committed 0)) fault) }
     ensures stored { IfOk result (λ read. IsStored (S.Store.view table.new.store) false read.replaying.ledger) }
     ensures rows { OnOk result (IsClean (S.Store.view table.new.store) → (S.Store.view table.new.store).committed 0
         ≡ opened_rows settings ((S.Store.view table.old.store).committed 0)) }

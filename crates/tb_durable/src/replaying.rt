@@ -1,6 +1,6 @@
 //! The rows of the table, applied in order.
 
-ghost use Rattle.std.specs.Prelude.{◌≡◌, ◌≢◌, ◌≤◌, ◌<◌, ◌++◌, List, [], ◌∷◌, map, pos, length, IfSome, OnOk, IfOk};
+ghost use Rattle.std.specs.Prelude.{◌≡◌, ◌≢◌, ◌⊎◌, ◌≤◌, ◌<◌, ◌++◌, List, [], ◌∷◌, map, pos, length, IfSome, OnOk, IfOk, IfErr};
 ghost use Rattle.tb_layout.specs.Events.{Pulse as PulseInput};
 ghost use Rattle.tb_work.specs.Packet.{input_of};
 ghost use Rattle.tb_work.specs.Job.{numbered_packet};
@@ -10,6 +10,8 @@ ghost use Rattle.sqlite_value.specs.declared.value.Value.TheVariants.{Int as Int
 ghost use Rattle.sqlite_trees.specs.Tree.{rowid};
 ghost use Rattle.tb_durable.specs.Rows.{stubs_in, group_in};
 ghost use Rattle.tb_durable.specs.Durable.{AddsGroup};
+ghost use Rattle.tb_durable.specs.Faults.{IsEntryFault, IsRowFault};
+ghost use Rattle.tb_durable.specs.declared.fault.OpenFault.TheVariants.{BadEntry as BadEntryFault, NoMemory as NoMemoryFault};
 
 use crate::fault::OpenFault;
 use crate::rows::{blob_in, number_in, stub_at};
@@ -64,7 +66,8 @@ fn event_size(operation: u8) -> Option<usize>
 
 /// Puts a job into the batch that is held. A job that can't join it gives the fault.
 fn join(batcher: &mut Batcher, job: Job, fault: OpenFault) -> Result<(), OpenFault>
-    ensures { OnOk result (batcher.new.jobs ≡ batcher.old.jobs ++ job ∷ []) }
+    ensures fault { IfErr result (λ error. (error ≡ NoMemoryFault) ⊎ (error ≡ fault)) }
+    ensures joined { OnOk result (batcher.new.jobs ≡ batcher.old.jobs ++ job ∷ []) }
 {
     match batcher.offer(job) {
         Offered::Joined => Ok(()),
@@ -81,7 +84,8 @@ fn join(batcher: &mut Batcher, job: Job, fault: OpenFault) -> Result<(), OpenFau
 
 /// Returns the job of a packet.
 fn job_of(alloc: Global, stub: Stub, packet: Packet, fault: OpenFault) -> Result<Job, OpenFault>
-    ensures { IfOk result (λ job. job ≡ numbered_packet stub.submitter stub.number packet) }
+    ensures fault { IfErr result (λ error. (error ≡ NoMemoryFault) ⊎ (error ≡ fault)) }
+    ensures job { IfOk result (λ job. job ≡ numbered_packet stub.submitter stub.number packet) }
 {
     match Job::new(alloc, stub.submitter, stub.number, BATCH_MAX, packet) {
         Ok(job) => Ok(job),
@@ -110,13 +114,16 @@ impl Replaying {
     }
 
     /// Returns that the next row is no entry.
-    fn bad_entry(&self) -> OpenFault {
+    fn bad_entry(&self) -> OpenFault
+        ensures { result ≡ BadEntryFault self.now.ledger.places }
+    {
         OpenFault::BadEntry(self.ledger.places())
     }
 
     /// Counts a packet, which must have its submitter's next number.
     fn count(&mut self, stub: Stub) -> Result<(), OpenFault>
-        ensures { self.new.ledger ≡ self.old.ledger }
+        ensures fault { IfErr result (IsEntryFault self.old.ledger.places) }
+        ensures same { self.new.ledger ≡ self.old.ledger }
     {
         let submitter = stub.submitter as usize;
         if submitter >= 16 || self.numbers[submitter] != stub.number || stub.number == u64::MAX {
@@ -133,7 +140,8 @@ impl Replaying {
         stub: Stub,
         body: &'a [u8],
     ) -> Result<(Job, &'a [u8]), OpenFault>
-        ensures { IfOk result (λ first. (stubs : List Stub) → batch_packets operation body.now (stub ∷ stubs)
+        ensures fault { IfErr result (IsEntryFault self.now.ledger.places) }
+        ensures first { IfOk result (λ first. (stubs : List Stub) → batch_packets operation body.now (stub ∷ stubs)
             ≡ input_of first.0 ∷ batch_packets operation first.1.now stubs) }
     {
         let Some(size) = event_size(operation) else {
@@ -156,6 +164,7 @@ impl Replaying {
 
     /// Returns the batch of a row.
     fn batch_in(&mut self, columns: BatchColumns<'_>) -> Result<Batch, OpenFault>
+        ensures fault { IfErr result (IsEntryFault self.old.ledger.places) }
         ensures same { self.new.ledger ≡ self.old.ledger }
         ensures packets { IfOk result (λ batch. map input_of batch
             ≡ batch_packets columns.entry.operation columns.entry.body.now (stubs_in columns.entry.stubs.now)) }
@@ -181,7 +190,8 @@ impl Replaying {
 
     /// Applies a batch.
     fn batch(&mut self, columns: BatchColumns<'_>) -> Result<(), OpenFault>
-        ensures { let group = batch_packets columns.entry.operation columns.entry.body.now (stubs_in columns.entry.stubs.now) in
+        ensures fault { IfErr result (IsEntryFault self.old.ledger.places) }
+        ensures group { let group = batch_packets columns.entry.operation columns.entry.body.now (stubs_in columns.entry.stubs.now) in
             OnOk result (AddsGroup self.old.ledger self.new.ledger group × (0 < length group)) }
     {
         let batch = self.batch_in(columns)?;
@@ -194,7 +204,8 @@ impl Replaying {
 
     /// Applies a pulse.
     fn pulse(&mut self, nanoseconds: u64) -> Result<(), OpenFault>
-        ensures { OnOk result (AddsGroup self.old.ledger self.new.ledger (PulseInput nanoseconds ∷ [])) }
+        ensures fault { IfErr result (IsEntryFault self.old.ledger.places) }
+        ensures group { OnOk result (AddsGroup self.old.ledger self.new.ledger (PulseInput nanoseconds ∷ [])) }
     {
         if nanoseconds > MOMENT_MAX {
             return Err(self.bad_entry());
@@ -208,6 +219,7 @@ impl Replaying {
 
     /// Applies a row, which must be at the next place.
     pub(crate) fn row(&mut self, row: &Row) -> Result<(), OpenFault>
+        ensures fault { IfErr result (IsRowFault self.old.ledger.places row.now) }
         ensures place { OnOk result (rowid row.now ≡ IntValue (pos self.old.ledger.places)) }
         ensures group { OnOk result (AddsGroup self.old.ledger self.new.ledger (group_in row.now)) }
         ensures some { OnOk result (0 < length (group_in row.now)) }

@@ -6,7 +6,7 @@
 //! | of the first packet | 129 to 131 | 0 | 16 bytes a packet | the events |
 //! | of the pulse | 0 | its nanoseconds | empty | empty |
 
-ghost use Rattle.std.specs.Prelude.{◌≡◌, ◌≤◌, ◌<◌, ◌++◌, map, pos, negsuc, length, IfOk, OnOk, IfSome};
+ghost use Rattle.std.specs.Prelude.{◌≡◌, ◌≢◌, ◌≤◌, ◌<◌, ◌++◌, map, pos, negsuc, length, ℕ, IfOk, OnOk, IfSome, IfNone};
 ghost use Rattle.tb_layout.specs.Bytes.{little_endian};
 ghost use Rattle.tb_layout.specs.Limits.{clock_max};
 ghost use Rattle.tb_layout.specs.inside.Limits.{places_max};
@@ -173,7 +173,8 @@ pub(crate) fn fill_settings(row: &mut Row, settings: Settings) -> Result<(), NoM
 
 /// Returns the whole number in a column; None if there is none.
 pub(crate) fn number_in(row: &Row, column: usize) -> Option<u64>
-    ensures { IfSome result (λ number. column_of row.now column ≡ IntValue (pos number)) }
+    ensures some { IfSome result (λ number. column_of row.now column ≡ IntValue (pos number)) }
+    ensures none { IfNone result ((number : ℕ) → column_of row.now column ≢ IntValue (pos number)) }
 {
     match row.get(column) {
         ValueRef::Int(number) => u64::try_from(number).ok(),

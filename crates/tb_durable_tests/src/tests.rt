@@ -30,7 +30,9 @@ fn empty_store(rt: &(impl Abort + Alloc<A = Global>)) -> MemStore {
         reals: 0,
         sql: None,
     };
-    MemStore::new(rt.alloc(), &[table]).ok().expect(rt, "memory")
+    MemStore::new(rt.alloc(), &[table])
+        .ok()
+        .expect(rt, "memory")
 }
 
 fn opened(rt: &(impl Abort + Alloc<A = Global>), store: MemStore) -> DurableLedger<MemStore> {
@@ -45,8 +47,12 @@ fn batch_of(
     number: u64,
     packet: Packet,
 ) -> Batch {
-    let mut batcher = Batcher::new(rt.alloc(), BATCH_MAX).ok().expect(rt, "a limit");
-    let job = job(rt.alloc(), submitter, number, packet).ok().expect(rt, "a packet");
+    let mut batcher = Batcher::new(rt.alloc(), BATCH_MAX)
+        .ok()
+        .expect(rt, "a limit");
+    let job = job(rt.alloc(), submitter, number, packet)
+        .ok()
+        .expect(rt, "a packet");
     drop(batcher.offer(job));
     batcher.seal().expect(rt, "a batch")
 }
@@ -75,14 +81,21 @@ fn largest_packet(rt: &(impl Abort + Alloc<A = Global>)) -> Packet {
     let mut events: Vec<Transfer> = Vec::new(rt.alloc());
     let mut id = 1u128 << 127;
     for _ in 0..8190 {
-        events.push(transfer(id, [1, 2], 1, 0)).ok().expect(rt, "memory");
+        events
+            .push(transfer(id, [1, 2], 1, 0))
+            .ok()
+            .expect(rt, "memory");
         id = id.wrapping_add(1);
     }
-    transfers_packet(rt.alloc(), events.as_slice()).ok().expect(rt, "memory")
+    transfers_packet(rt.alloc(), events.as_slice())
+        .ok()
+        .expect(rt, "memory")
 }
 
 fn two_accounts(rt: &(impl Abort + Alloc<A = Global>)) -> Packet {
-    accounts_packet(rt.alloc(), &[account(1, 0), account(2, 0)]).ok().expect(rt, "memory")
+    accounts_packet(rt.alloc(), &[account(1, 0), account(2, 0)])
+        .ok()
+        .expect(rt, "memory")
 }
 
 /// What a test compares of a ledger: places, clock, debits of account 1, credits of account 2.
@@ -142,13 +155,20 @@ fn fault_with_row(
     row.push(ValueRef::Blob(&[])).ok().expect(rt, "memory");
     put(rt, &mut store, &row);
     drop(row);
-    let ledger = DurableLedger::over(rt.alloc(), store, SETTINGS, Seed::default());
-    ledger.err()
+    match DurableLedger::over(rt.alloc(), store, SETTINGS, Seed::default()) {
+        Ok(ledger) => {
+            drop(ledger);
+            None
+        }
+        Err((fault, store)) => {
+            drop(store);
+            Some(fault)
+        }
+    }
 }
 
 /// Puts a row and commits it.
-fn put(rt: &impl Abort, store: &mut MemStore, row: &Row)
-{
+fn put(rt: &impl Abort, store: &mut MemStore, row: &Row) {
     store.put(0, row).ok().expect(rt, "memory");
     store.commit().ok().expect(rt, "memory");
 }
