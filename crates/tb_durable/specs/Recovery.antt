@@ -41,8 +41,8 @@ abbrev pub groups_of : List Row → List (List Input)
 groups_of [] = []
 groups_of (first ∷ entries) = map group_in entries
 
--- If a crash of a store leaves a journal's rows, or these and what was being stored, then the ledger that is opened on any of
--- what it leaves is recovered.
+-- A crash of a store leaves a journal's rows, or these and what was being stored. Then the ledger that is opened on what it
+-- leaves is recovered.
 abbrev pub RecoversFromCrashes : (Trees → Type 0) → Type 0
 RecoversFromCrashes recovers =
     (rows last : List Row) (old found : BareLedgerState) (db : Trees) → IsJournal rows old

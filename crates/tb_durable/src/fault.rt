@@ -19,9 +19,12 @@ pub enum OpenFault {
     OtherVersion(u64),
     /// The row that should be at this place isn't: it is missing, or another is there.
     OutOfPlace(u64),
-    /// The row at this place is no entry. Its operation is unknown, a column has a value of another type, its stubs aren't 16
-    /// bytes each or don't fit its body, its packets couldn't be in one batch, a packet hasn't its submitter's next number,
-    /// or its moment is above `MOMENT_MAX`.
+    /// The row at this place is no entry:
+    ///
+    /// - its operation is unknown, or a column has a value of another type;
+    /// - it has no stubs, these aren't 16 bytes each, or they don't fit its body;
+    /// - its packets couldn't be in one batch, or a packet doesn't have its submitter's next number;
+    /// - it is a pulse whose moment is above `MOMENT_MAX`.
     BadEntry(u64),
 }
 

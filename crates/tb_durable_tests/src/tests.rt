@@ -98,7 +98,7 @@ fn two_accounts(rt: &(impl Abort + Alloc<A = Global>)) -> Packet {
         .expect(rt, "memory")
 }
 
-/// What a test compares of a ledger: places, clock, debits of account 1, credits of account 2.
+/// Returns what a test compares of a ledger: places, clock, debits of account 1, credits of account 2.
 fn facts(ledger: &DurableLedger<MemStore>) -> Option<[u128; 4]> {
     let debits = ledger.machine().account(1)?.debits_posted;
     let credits = ledger.machine().account(2)?.credits_posted;
