@@ -1,0 +1,61 @@
+-- What was committed of a parcel.
+use Rattle.std.proofs.Common.{◌≡◌, ◌+◌, ℕ, Bool, true, false, List, [], ◌∷◌, ◌++◌, refl, ap, subst, length, map}
+use Rattle.std.specs.Prelude.{if◌then◌else◌, ◌||◌, nat_lt}
+use Rattle.tb_layout.specs.Events.{Input, Pulse}
+use Rattle.tb_layout.specs.inside.Limits.{places_max}
+use Rattle.tb_work.specs.Answer.{reply_with}
+use Rattle.tb_work.specs.Packet.{Numbered, input_of}
+use Rattle.tb_work.specs.declared.outcome.Outcome.TheVariants as outcome
+use Rattle.tb_core.specs.declared.parcel.Parcel.TheVariants as parcel
+use Rattle.tb_core.specs.declared.outcomes.Outcomes.{Outcomes}
+use Rattle.tb_core.specs.declared.outcomes.Outcomes.TheVariants.{Cut, Nothing}
+use Rattle.tb_core.specs.Journal.{LedgerState, inputs}
+use Rattle.tb_core.specs.Ledger.{Applied, apply_result, must_stop, step_of_batch, with_entry, with_stop}
+use Rattle.tb_core.specs.BareLedger.{BareLedgerState, HasCommitted, Applies, with_journal, groups_in}
+use Rattle.tb_durable.specs.Durable.{AddsGroup}
+
+module _ (before after : LedgerState) (group : List Input) (outcomes refusal answers : Outcomes) where
+  -- a ledger that didn't stop has the group
+  goes_on : (stop : Bool) → apply_result after outcomes
+      ≡ (if stop then apply_result (with_stop before) refusal else apply_result (with_entry before group) answers)
+      → after.stopped ≡ false → after ≡ with_entry before group
+  goes_on true is on = absurd (let stop = ap (λ (a : Applied). a.ledger.stopped) is in cc)
+  goes_on false is on = ap (λ (a : Applied). a.ledger) is
+
+  -- one that stopped gave the refusal
+  stops : (was rest : Bool) → before.stopped ≡ was → apply_result after outcomes
+      ≡ (if was || rest then apply_result (with_stop before) refusal else apply_result (with_entry before group) answers)
+      → after.stopped ≡ true → outcomes ≡ refusal
+  stops true rest e is stop = ap (λ (a : Applied). a.outcomes) is
+  stops false true e is stop = ap (λ (a : Applied). a.outcomes) is
+  stops false false e is stop = absurd (let same = ap (λ (a : Applied). a.ledger.stopped) is in cc)
+
+module _ (old new : BareLedgerState) (outcomes : Outcomes) where
+  pub adds_batch : (jobs : List Numbered) → Applies (parcel.Batch jobs) old outcomes new → new.stopped ≡ false
+      → AddsGroup old new (map input_of jobs)
+  adds_batch jobs applied on groups has =
+      let done = applied.3 groups has in
+      let same = goes_on (with_journal old groups) (with_journal new (groups ++ groups_in applied.1)) (map input_of jobs)
+      outcomes (Cut (map (reply_with outcome.Stopped) jobs)) (step_of_batch (with_journal old groups) jobs).outcomes
+      (must_stop applied.0 (with_journal old groups) (length jobs)) done.1 on in (
+        subst (HasCommitted new) (ap (λ (l : LedgerState). l.groups) same) done.0,
+        ap (λ (l : LedgerState). l.opening) same,
+      )
+
+  pub adds_pulse : (moment : ℕ) → Applies (parcel.Pulse moment) old outcomes new → new.stopped ≡ false
+      → AddsGroup old new (Pulse moment ∷ [])
+  adds_pulse moment applied on groups has =
+      let done = applied.3 groups has in
+      let same = goes_on (with_journal old groups) (with_journal new (groups ++ groups_in applied.1)) (Pulse moment ∷ [])
+      outcomes Nothing Nothing (must_stop applied.0 (with_journal old groups) 1) done.1 on in (
+        subst (HasCommitted new) (ap (λ (l : LedgerState). l.groups) same) done.0,
+        ap (λ (l : LedgerState). l.opening) same,
+      )
+
+  pub refuses_batch : (jobs : List Numbered) (groups : List (List Input)) → HasCommitted old groups
+      → Applies (parcel.Batch jobs) old outcomes new → new.stopped ≡ true → outcomes ≡ Cut (map (reply_with outcome.Stopped) jobs)
+  refuses_batch jobs groups has applied stop =
+      let done = applied.3 groups has in
+      stops (with_journal old groups) (with_journal new (groups ++ groups_in applied.1)) (map input_of jobs) outcomes
+      (Cut (map (reply_with outcome.Stopped) jobs)) (step_of_batch (with_journal old groups) jobs).outcomes
+      old.stopped (applied.0 || nat_lt places_max (length (inputs (with_journal old groups)) + length jobs)) refl done.1 stop

@@ -1,0 +1,114 @@
+-- A journal with one row more.
+use Rattle.std.proofs.Common.{◌≡◌, ◌<◌, ◌+◌, ◌⊎◌, inl, inr, ℕ, pos, Bool, false, List, [], ◌∷◌, ◌++◌, refl, sym, ap, subst, ◌∙◌, arith, length, length-append, append-nil, map}
+use Rattle.std.specs.List.{flat_map}
+use Rattle.std.proofs.lemmas.Grind.{flat_map-append}
+use Rattle.std.proofs.lemmas.List.{length-map, map-append}
+use Rattle.sqlite_value.specs.declared.value.Value.TheVariants.{Int}
+use Rattle.sqlite_value.specs.Order.{Row, value_cmp}
+use Rattle.sqlite_trees.specs.Tree.{Trees, rowid, put_row}
+use Rattle.sqlite_trees.specs.View.{View}
+use Rattle.tb_layout.specs.Events.{Input}
+use Rattle.tb_work.specs.Packet.{Numbered, input_of}
+use Rattle.tb_core.specs.declared.outcomes.Outcomes.{Outcomes}
+use Rattle.tb_core.specs.declared.parcel.Parcel.TheVariants as parcel
+use Rattle.tb_core.specs.BareLedger.{Applies, BareLedgerState, HasCommitted, new_bare_ledger}
+use Rattle.tb_durable.specs.Rows.{group_in, jobs_row}
+use Rattle.tb_durable.specs.Durable.{IsBelow, IsFirst, IsJournal, IsSettled, IsStored, Adds, IsAdded, AddsGroup, LeavesWith}
+use Rattle.tb_durable.proofs.Applied.{adds_batch}
+use Rattle.tb_durable.proofs.RowLemmas.{all_below_later, all_below_push, first-Less, put_row-last, place-Less}
+
+abbrev all_in : List (List Input) → List Input
+all_in groups = flat_map (λ group. group) groups
+
+length-all_in : (groups : List (List Input)) (group : List Input)
+    → length (all_in (groups ++ group ∷ [])) ≡ length (all_in groups) + length group
+length-all_in groups group =
+    ap length (flat_map-append (λ (group : List Input). group) groups (group ∷ []))
+    ∙ length-append (all_in groups) (group ++ [])
+    ∙ ap (λ one. length (all_in groups) + length one) (append-nil group)
+
+-- the journal of a ledger that has committed nothing
+pub new_journal : (row : Row) (clock : ℕ) (bare : BareLedgerState) → IsFirst row clock → bare ≡ new_bare_ledger clock
+    → IsJournal (row ∷ []) bare
+new_journal row clock bare first is =
+    subst (IsJournal (row ∷ [])) (sym is)
+    (record {
+      first = row;
+      entries = [];
+      is = refl;
+      opened = sym first.starts;
+      committed = record { machine = refl; counted = refl };
+      below = (ap (λ v. value_cmp v (Int (pos 0))) first.place ∙ first-Less, tt);
+    })
+
+-- the group of a row at the next place was committed too
+pub one_more : (rows : List Row) (row : Row) (old new : BareLedgerState) → IsJournal rows old
+    → AddsGroup old new (group_in row) → 0 < length (group_in row) → rowid row ≡ Int (pos old.places)
+    → IsJournal (rows ++ row ∷ []) new
+one_more rows row old new j adds some at =
+    let groups = map group_in j.entries in
+    let next = adds groups j.committed in
+    let more : old.places < new.places = omega (
+      arith,
+      j.committed.counted,
+      next.0.counted,
+      some,
+      length-all_in groups (group_in row),
+    ) in
+    let place : IsBelow new.places row = ap (λ v. value_cmp v (Int (pos new.places))) at ∙ place-Less old.places new.places more in
+    record {
+      first = j.first;
+      entries = j.entries ++ row ∷ [];
+      is = ap (λ all. all ++ row ∷ []) j.is;
+      opened = next.1 ∙ j.opened;
+      committed = subst (HasCommitted new) (sym (map-append group_in j.entries (row ∷ []))) next.0;
+      below = all_below_push new.places rows row (all_below_later old.places new.places rows more j.below) place;
+    }
+
+-- ---- over a store
+
+module _ (old : View) (row : Row) (before : BareLedgerState) (at_rest : IsSettled old)
+    (j : IsJournal (old.committed 0) before) (at : rowid row ≡ Int (pos before.places)) where
+  last : put_row row (old.trees 0) ≡ old.committed 0 ++ row ∷ []
+  last = ap (λ (t : Trees). put_row row (t 0)) at_rest.same ∙ put_row-last row before.places (old.committed 0) at j.below
+
+  -- the row is stored
+  pub added_last : (new : View) → Adds old new row → new.committed 0 ≡ old.committed 0 ++ row ∷ []
+  added_last new adds = adds.rows ∙ last
+
+  -- and its group is committed
+  pub stored_more : (new : View) (after : BareLedgerState) → Adds old new row → AddsGroup before after (group_in row)
+      → 0 < length (group_in row) → IsSettled new × IsJournal (new.committed 0) after
+  stored_more new after adds group some = (
+    adds.settled,
+    subst (λ rows. IsJournal rows after) (sym (added_last new adds))
+        (one_more (old.committed 0) row before after j group some at),
+  )
+
+  pub left_last : (db : Trees) → IsAdded old row db → db 0 ≡ old.committed 0 ++ row ∷ []
+  left_last db added = added.rows ∙ last
+
+-- a crash leaves the row after the others, or what it could leave before
+pub leaves_with_row : (old : View) (row : Row) (before : BareLedgerState) (stopped : Bool) → IsStored old stopped before
+    → stopped ≡ false → rowid row ≡ Int (pos before.places) → (was now : Trees → Type 0)
+    → ((db : Trees) → now db → was db ⊎ IsAdded old row db) → LeavesWith was now (old.committed 0) (row ∷ [])
+leaves_with_row old row before stopped has goes_on at was now crash db left =
+    elim (crash db left) [
+      | inl there ↦ inl there
+      | inr added ↦
+          let at_rest = has added.clean goes_on in
+          inr (left_last old row before at_rest.0 at_rest.1 at db added)
+    ]
+
+-- a batch was stored and applied
+pub batch_stored : (old new : View) (before middle after : BareLedgerState) (outcomes : Outcomes) (jobs batch : List Numbered)
+    → IsSettled old → IsJournal (old.committed 0) before → middle ≡ before → batch ≡ jobs → 0 < length jobs
+    → Adds old new (jobs_row before.places jobs) → group_in (jobs_row before.places jobs) ≡ map input_of jobs
+    → Applies (parcel.Batch batch) middle outcomes after → after.stopped ≡ false
+    → IsSettled new × IsJournal (new.committed 0) after
+batch_stored old new before middle after outcomes jobs batch at_rest j same is some adds says applied on =
+    let group : AddsGroup before after (map input_of batch) = subst (λ was. AddsGroup was after (map input_of batch)) same
+    (adds_batch middle after outcomes batch applied on) in
+    stored_more old (jobs_row before.places jobs) before at_rest j refl new after adds
+    (subst (AddsGroup before after) (ap (map input_of) is ∙ sym says) group)
+    (subst (λ inputs. 0 < length inputs) (sym says) (omega (arith, some, length-map jobs input_of)))

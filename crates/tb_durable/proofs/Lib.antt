@@ -1,0 +1,7 @@
+mod Cutting
+mod RowLemmas
+mod StoreLemmas
+mod FaultLemmas
+mod Applied
+mod Journals
+mod Recovered

@@ -1,0 +1,86 @@
+-- What opening finds after a crash.
+use Rattle.std.proofs.Common.{◌≡◌, inl, inr, ℕ, List, [], ◌∷◌, ◌++◌, sym, ap, subst, ◌∙◌, append-nil, append_assoc, map}
+use Rattle.std.proofs.lemmas.Grind.{flat_map-append}
+use Rattle.std.proofs.lemmas.List.{map-append}
+use Rattle.std.proofs.lemmas.List.Elements.{filter-append}
+use Rattle.sqlite_value.specs.Order.{Row}
+use Rattle.sqlite_trees.specs.Tree.{Trees}
+use Rattle.tb_layout.specs.Events.{Input}
+use Rattle.tb_core.specs.BareLedger.{BareLedgerState, HasCommitted}
+use Rattle.tb_core.specs.EachSubmitter.{is_packet_of, packets_of}
+use Rattle.tb_core.specs.EndedRun.{IsPrefix}
+use Rattle.tb_durable.specs.Rows.{group_in, clock_in}
+use Rattle.tb_durable.specs.Durable.{IsJournal}
+use Rattle.tb_durable.specs.Recovery.{AreOfQueued, RecoversFromCrashes, groups_of, inputs_of}
+
+packets-append : (submitter : ℕ) (groups more : List (List Input))
+    → packets_of submitter (inputs_of (groups ++ more)) ≡ packets_of submitter (inputs_of groups) ++ packets_of submitter (inputs_of more)
+packets-append submitter groups more =
+    ap (packets_of submitter) (flat_map-append (λ (group : List Input). group) groups more)
+    ∙ filter-append (is_packet_of submitter) (inputs_of groups) (inputs_of more)
+
+-- a part of a prefix is a prefix
+shorter : (front others came : List Input) → IsPrefix (front ++ others) came → IsPrefix front came
+shorter front others came whole = (others ++ whole.0, sym (append_assoc front others whole.0) ∙ whole.1)
+
+-- fewer groups are of what came, and of what was queued, too
+fewer_came : (came : List Input) (groups more : List (List Input)) → IsPrefix (inputs_of (groups ++ more)) came
+    → IsPrefix (inputs_of groups) came
+fewer_came came groups more whole =
+    shorter (inputs_of groups) (inputs_of more) came
+    (subst (λ front. IsPrefix front came) (flat_map-append (λ (group : List Input). group) groups more) whole)
+
+fewer : (queued : ℕ → List Input) (groups more : List (List Input)) → AreOfQueued queued (groups ++ more) → AreOfQueued queued groups
+fewer queued groups more are submitter =
+    shorter (packets_of submitter (inputs_of groups)) (packets_of submitter (inputs_of more)) (queued submitter)
+    (subst (λ front. IsPrefix front (queued submitter)) (packets-append submitter groups more) (are submitter))
+
+abbrev clock_of : List Row → ℕ
+clock_of [] = 0
+clock_of (first ∷ entries) = clock_in first
+
+module _ (rows rest found_rows : List Row) (old found : BareLedgerState) (j : IsJournal rows old)
+    (k : IsJournal found_rows found) (left : found_rows ≡ rows ++ rest) where
+  same_first : found_rows ≡ j.first ∷ (j.entries ++ rest)
+  same_first = left ∙ ap (λ all. all ++ rest) j.is
+
+  found_groups : groups_of found_rows ≡ groups_of rows ++ map group_in rest
+  found_groups =
+      ap groups_of same_first ∙ map-append group_in j.entries rest
+      ∙ ap (λ groups. groups ++ map group_in rest) (sym (ap groups_of j.is))
+
+  found_committed : HasCommitted found (groups_of found_rows)
+  found_committed = subst (HasCommitted found) (sym (ap groups_of k.is)) k.committed
+
+  found_opened : found.opening ≡ old.opening
+  found_opened = k.opened ∙ ap clock_of (sym k.is ∙ same_first) ∙ sym j.opened
+
+pub recovered : (recovers : Trees → Type 0) → RecoversFromCrashes recovers
+recovered recovers rows last old found db j leaves left k =
+    elim (leaves db left) [
+      | inl same ↦
+          let is : db 0 ≡ rows ++ [] = same ∙ sym (append-nil rows) in
+          let all : groups_of (db 0) ≡ groups_of rows = ap groups_of same in
+          record {
+            groups = groups_of (db 0);
+            kept = ([], append-nil (groups_of rows) ∙ sym all);
+            one_of = inl all;
+            committed = found_committed rows [] (db 0) old found j k is;
+            opened = found_opened rows [] (db 0) old found j k is;
+            whole = λ came is_prefix.
+                subst (λ all. IsPrefix (inputs_of all) came) (sym all) (fewer_came came (groups_of rows) (map group_in last) is_prefix);
+            each = λ queued are.
+                subst (AreOfQueued queued) (sym all) (fewer queued (groups_of rows) (map group_in last) are);
+          }
+      | inr more ↦
+          let all : groups_of (db 0) ≡ groups_of rows ++ map group_in last = found_groups rows last (db 0) old found j k more in
+          record {
+            groups = groups_of (db 0);
+            kept = (map group_in last, sym all);
+            one_of = inr all;
+            committed = found_committed rows last (db 0) old found j k more;
+            opened = found_opened rows last (db 0) old found j k more;
+            whole = λ came is_prefix. subst (λ all. IsPrefix (inputs_of all) came) (sym all) is_prefix;
+            each = λ queued are. subst (AreOfQueued queued) (sym all) are;
+          }
+    ]

@@ -1,0 +1,58 @@
+use Rattle.std.proofs.Common.{◌≡◌, ◌⊎◌, arith, sym, ap, subst, ◌∙◌, ◌++◌, pos, [], ◌∷◌}
+use Rattle.sqlite_value.specs.declared.value.Value.TheVariants.{Int}
+use Rattle.sqlite_trees.specs.View.{IsClean, doubt}
+use Rattle.tb_durable.specs.Rows.{pulse_row}
+use Rattle.tb_durable.specs.Durable.{IsJournal, IsSettled}
+use Rattle.tb_durable.proofs.Applied.{adds_pulse}
+use Rattle.tb_durable.proofs.Journals.{added_last, leaves_with_row, stored_more}
+use Rattle.tb_durable.proofs.ledger.DurableLedger.apply_pulse.Goals as goal
+
+pub put_pulse-requires : goal.put_pulse-requires
+put_pulse-requires g c = omega (arith, c.if-place-ge-PLACES_MAX.false)
+
+pub returns-in-Ok-clause-kept : goal.returns-in-Ok-clause-kept
+returns-in-Ok-clause-kept g c = λ has clean goes_on.
+    let same = c.follow.ensures.same in
+    let stored : IsClean (g.S.Store.view c.put_pulse.new.self.store) = ap (λ t. doubt (g.S.Store.view t.store).is_clean) (sym same.0) ∙ clean in
+    let was : IsClean (g.S.Store.view c.args.self.now.table.store) = omega (arith, c.put_pulse.ensures.clean) in
+    let at_rest = has was c.if-self.false in
+    let it = stored_more (g.S.Store.view c.args.self.now.table.store) (pulse_row c.places-place.result c.args.moment)
+    c.args.self.now.bare at_rest.0 at_rest.1 (ap (λ p. Int (pos p)) c.places-place.ensures)
+    (g.S.Store.view c.put_pulse.new.self.store) c.apply-outcomes.new.self (c.in-Ok.ensures.ok stored)
+    (adds_pulse c.args.self.now.bare c.apply-outcomes.new.self c.apply-outcomes.result c.args.moment
+    c.apply-outcomes.ensures.applied (sym c.follow.ensures.stopped.0 ∙ goes_on)) (omega arith) in
+    subst (λ t. IsSettled (g.S.Store.view t.store) × IsJournal ((g.S.Store.view t.store).committed 0) c.follow.new.self.bare)
+    (sym same.0)
+    (it.0, subst (IsJournal ((g.S.Store.view c.put_pulse.new.self.store).committed 0)) (sym same.1) it.1)
+
+pub returns-in-Ok-clause-added : goal.returns-in-Ok-clause-added
+returns-in-Ok-clause-added g c = λ has clean goes_on.
+    let same = c.follow.ensures.same in
+    let stored : IsClean (g.S.Store.view c.put_pulse.new.self.store) = ap (λ t. doubt (g.S.Store.view t.store).is_clean) (sym same.0) ∙ clean in
+    let was : IsClean (g.S.Store.view c.args.self.now.table.store) = omega (arith, c.put_pulse.ensures.clean) in
+    let at_rest = has was c.if-self.false in
+    ap (λ t. (g.S.Store.view t.store).committed 0) same.0
+    ∙ added_last (g.S.Store.view c.args.self.now.table.store) (pulse_row c.places-place.result c.args.moment)
+    c.args.self.now.bare at_rest.0 at_rest.1 (ap (λ p. Int (pos p)) c.places-place.ensures)
+    (g.S.Store.view c.put_pulse.new.self.store) (c.in-Ok.ensures.ok stored)
+    ∙ ap (λ p. (g.S.Store.view c.args.self.now.table.store).committed 0 ++ pulse_row p c.args.moment ∷ []) c.places-place.ensures
+
+pub returns-in-Ok-clause-crash : goal.returns-in-Ok-clause-crash
+returns-in-Ok-clause-crash g c = λ has db left.
+    subst (λ p. g.S.Store.recovers c.args.self.now.table.store db
+    ⊎ (db 0 ≡ (g.S.Store.view c.args.self.now.table.store).committed 0 ++ pulse_row p c.args.moment ∷ []))
+    c.places-place.ensures
+    (leaves_with_row (g.S.Store.view c.args.self.now.table.store) (pulse_row c.places-place.result c.args.moment)
+    c.args.self.now.bare c.args.self.now.stopped has c.if-self.false (ap (λ p. Int (pos p)) c.places-place.ensures)
+    (g.S.Store.recovers c.args.self.now.table.store) (g.S.Store.recovers c.put_pulse.new.self.store)
+    c.put_pulse.ensures.crash db (subst (λ t. g.S.Store.recovers t.store db) c.follow.ensures.same.0 left))
+
+pub returns-in-Err-clause-crash : goal.returns-in-Err-clause-crash
+returns-in-Err-clause-crash g c = λ has db left.
+    subst (λ p. g.S.Store.recovers c.args.self.now.table.store db
+    ⊎ (db 0 ≡ (g.S.Store.view c.args.self.now.table.store).committed 0 ++ pulse_row p c.args.moment ∷ []))
+    c.places-place.ensures
+    (leaves_with_row (g.S.Store.view c.args.self.now.table.store) (pulse_row c.places-place.result c.args.moment)
+    c.args.self.now.bare c.args.self.now.stopped has c.if-self.false (ap (λ p. Int (pos p)) c.places-place.ensures)
+    (g.S.Store.recovers c.args.self.now.table.store) (g.S.Store.recovers c.put_pulse.new.self.store)
+    c.put_pulse.ensures.crash db (subst (λ t. g.S.Store.recovers t.store db) c.stop.ensures.same.0 left))

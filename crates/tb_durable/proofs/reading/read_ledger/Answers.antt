@@ -1,0 +1,31 @@
+use Rattle.std.proofs.Common.{arith, rules, subst, [], ◌∷◌}
+use Rattle.sqlite_trees.specs.View.{IsClean}
+use Rattle.tb_durable.specs.Durable.{opened_rows}
+use Rattle.tb_durable.specs.Faults.{IsCause}
+use Rattle.tb_durable.proofs.Journals.{new_journal}
+use Rattle.tb_durable.proofs.reading.read_ledger.Goals as goal
+
+pub returns-clause-stored : goal.returns-clause-stored
+returns-clause-stored g c = λ clean is.
+    let was : IsClean (g.S.Store.view c.read_settings.new.table.store) = omega (arith, c.replay_rows.ensures.clean) in
+    let row = c.read_settings.new.table.row in
+    c.in_ok-replay_rows.ensures.journal clean (
+      row ∷ [],
+      c.in_ok-settings.ensures.row was,
+      new_journal row c.in_ok-settings.settings.clock c.with_seed.result c.in_ok-settings.ensures.first c.with_seed.ensures.new,
+    )
+
+pub returns-in_err-replay_rows-clause-fault : goal.returns-in_err-replay_rows-clause-fault
+returns-in_err-replay_rows-clause-fault g c =
+    let cause : IsClean (g.S.Store.view c.replay_rows.new.table.store)
+    → IsCause (opened_rows c.args.settings ((g.S.Store.view c.args.table.now.store).committed 0)) c.in_err-replay_rows.field-0.0
+    = λ clean.
+    let was : IsClean (g.S.Store.view c.read_settings.new.table.store) = omega (arith, c.replay_rows.ensures.clean) in
+    let row = c.read_settings.new.table.row in
+    subst (λ rows. IsCause rows c.in_err-replay_rows.field-0.0) (c.in_ok-settings.ensures.rows was)
+    (c.in_err-replay_rows.ensures.fault clean (
+      row ∷ [],
+      c.in_ok-settings.ensures.row was,
+      new_journal row c.in_ok-settings.settings.clock c.with_seed.result c.in_ok-settings.ensures.first c.with_seed.ensures.new,
+    )) in
+    search rules

@@ -1,0 +1,30 @@
+use Rattle.std.proofs.Common.{◌≡◌, rules, subst, ◌++◌, true, [], ◌∷◌}
+use Rattle.sqlite_trees.specs.View.{Advances}
+use Rattle.tb_durable.specs.Faults.{IsCause}
+use Rattle.tb_durable.proofs.FaultLemmas.{row_fault}
+use Rattle.tb_durable.proofs.Journals.{one_more}
+use Rattle.tb_durable.proofs.StoreLemmas.{reads_one}
+use Rattle.tb_durable.proofs.reading.replay_row.Goals as goal
+
+pub returns-clause-more : goal.returns-clause-more
+returns-clause-more g c = λ is clean replaying.
+    let found : c.in_ok-next.field-0 ≡ true = search rules in
+    let row = c.next.new.self.row in
+    let next = subst (Advances (g.S.Store.view c.args.table.now.store) (g.S.Store.view c.next.new.self.store) 0 row) found
+    (c.in_ok-next.ensures.ok clean) in (
+      replaying.0 ++ row ∷ [],
+      reads_one _ _ replaying.0 replaying.1 row next,
+      one_more replaying.0 row c.args.replaying.now.ledger c.row.new.self.ledger replaying.2 c.in_ok-row.ensures.group
+          c.in_ok-row.ensures.some c.in_ok-row.ensures.place,
+    )
+
+pub returns-in_err-row-clause-fault : goal.returns-in_err-row-clause-fault
+returns-in_err-row-clause-fault g c = λ clean replaying.
+    let found : c.in_ok-next.field-0 ≡ true = search rules in
+    let row = c.next.new.self.row in
+    let cause : IsCause ((g.S.Store.view c.args.table.now.store).committed 0) c.in_err-row.field-0.0
+    = row_fault (g.S.Store.view c.args.table.now.store) (g.S.Store.view c.next.new.self.store) replaying.0 row
+    c.args.replaying.now.ledger replaying.1
+    (subst (Advances (g.S.Store.view c.args.table.now.store) (g.S.Store.view c.next.new.self.store) 0 row) found
+    (c.in_ok-next.ensures.ok clean)) replaying.2 c.in_err-row.field-0.0 c.in_err-row.ensures.fault in
+    search rules

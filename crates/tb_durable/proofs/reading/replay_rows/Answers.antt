@@ -1,0 +1,13 @@
+use Rattle.std.proofs.Common.{arith, rules, subst}
+use Rattle.sqlite_trees.specs.Tree.{Trees}
+use Rattle.sqlite_trees.specs.View.{IsClean}
+use Rattle.tb_durable.specs.Faults.{IsCause}
+use Rattle.tb_durable.proofs.reading.replay_rows.Goals as goal
+
+pub returns-in_err-replay_row-clause-fault : goal.returns-in_err-replay_row-clause-fault
+returns-in_err-replay_row-clause-fault g c = λ clean replaying.
+    let was : IsClean (g.S.Store.view c.loop.table.store) = omega (arith, c.replay_row.ensures.clean) in
+    let cause : IsCause ((g.S.Store.view c.args.table.now.store).committed 0) c.in_err-replay_row.field-0.0
+    = subst (λ (trees : Trees). IsCause (trees 0) c.in_err-replay_row.field-0.0) (c.loop.invariant.same was)
+    (c.in_err-replay_row.ensures.fault clean (c.loop.invariant.replaying was replaying)) in
+    search rules

@@ -1,0 +1,15 @@
+use Rattle.std.specs.Prelude.{◌≡◌, ◌≤◌, IsSome}
+use Rattle.sqlite_trees.specs.View.{IsClean, doubt}
+use Rattle.tb_durable.specs.Durable.{IsReplaying}
+use Rattle.tb_durable.proofs.reading.replay_rows.Given as goal
+
+abbrev pub invariant-loop : goal.invariant-loop
+invariant-loop g l = record {
+  cursor : IsSome ((g.S.Store.view l.table.store).cursors 0);
+  clean : doubt (g.S.Store.view l.fn.table.store).is_clean ≤ doubt (g.S.Store.view l.table.store).is_clean;
+  same : IsClean (g.S.Store.view l.table.store)
+      → (g.S.Store.view l.table.store).committed ≡ (g.S.Store.view l.fn.table.store).committed;
+  replaying : IsClean (g.S.Store.view l.table.store)
+      → IsReplaying (g.S.Store.view l.fn.table.store) l.fn.replaying.ledger
+      → IsReplaying (g.S.Store.view l.table.store) l.replaying.ledger;
+}

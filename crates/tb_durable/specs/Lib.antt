@@ -1,0 +1,4 @@
+pub mod Rows
+pub mod Durable
+pub mod Faults
+pub mod Recovery

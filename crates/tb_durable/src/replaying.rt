@@ -1,0 +1,252 @@
+//! The rows of the table, applied in order.
+
+ghost use Rattle.std.specs.Prelude.{◌≡◌, ◌≢◌, ◌⊎◌, ◌≤◌, ◌<◌, ◌++◌, List, [], ◌∷◌, map, pos, length, IfSome, OnOk, IfOk, IfErr};
+ghost use Rattle.tb_layout.specs.Events.{Pulse as PulseInput};
+ghost use Rattle.tb_work.specs.Packet.{input_of};
+ghost use Rattle.tb_work.specs.Job.{numbered_packet};
+ghost use Rattle.tb_work.specs.declared.stub.Stub.{Stub};
+ghost use Rattle.tb_core.specs.Ledger.{batch_packets, size_of};
+ghost use Rattle.sqlite_value.specs.declared.value.Value.TheVariants.{Int as IntValue};
+ghost use Rattle.sqlite_trees.specs.Tree.{rowid};
+ghost use Rattle.tb_durable.specs.Rows.{stubs_in, group_in};
+ghost use Rattle.tb_durable.specs.Durable.{AddsGroup};
+ghost use Rattle.tb_durable.specs.Faults.{IsEntryFault, IsRowFault};
+ghost use Rattle.tb_durable.specs.declared.fault.OpenFault.TheVariants.{BadEntry as BadEntryFault, NoMemory as NoMemoryFault};
+
+use crate::fault::OpenFault;
+use crate::rows::{blob_in, number_in, stub_at};
+use sqlite_value::row::Row;
+use std::alloc::Global;
+use tb_batch::{Batch, Batcher, Offered};
+use tb_core::{BareLedger, Parcel};
+use tb_layout::{BATCH_MAX, CREATE_ACCOUNTS, CREATE_TRANSFERS, LOOKUP_ACCOUNTS, MOMENT_MAX};
+use tb_work::{Bytes, Job, Moment, Packet, Refusal, Stub};
+
+/// A ledger that has applied some rows, and for each submitter the number of its next packet.
+pub(crate) struct Replaying {
+    pub(crate) ledger: BareLedger,
+    pub(crate) numbers: [u64; 16],
+    pub(crate) alloc: Global,
+}
+
+impl Drop for Replaying {
+    /// Frees everything held in one call, so that no owner's proof repeats it.
+    fn drop(self) {
+        let Replaying {
+            ledger,
+            numbers: _,
+            alloc: _,
+        } = self;
+        drop(ledger);
+    }
+}
+
+/// The columns of a batch's row that say what it has.
+#[derive(Clone, Copy)]
+struct BatchColumns<'a> {
+    operation: u8,
+    stubs: &'a [u8],
+    body: &'a [u8],
+}
+
+/// Returns how many bytes an event has; None if there is no such operation.
+fn event_size(operation: u8) -> Option<usize>
+    ensures size { IfSome result (λ size. size ≡ size_of operation) }
+    ensures bound { IfSome result (λ size. size ≤ 128) }
+    ensures kind { IfSome result (λ size. operation ≢ 0) }
+{
+    if operation == CREATE_ACCOUNTS || operation == CREATE_TRANSFERS {
+        Some(128)
+    } else if operation == LOOKUP_ACCOUNTS {
+        Some(16)
+    } else {
+        None
+    }
+}
+
+/// Puts a job into the batch that is held. A job that can't join it gives the fault.
+fn join(batcher: &mut Batcher, job: Job, fault: OpenFault) -> Result<(), OpenFault>
+    ensures fault { IfErr result (λ error. (error ≡ NoMemoryFault) ⊎ (error ≡ fault)) }
+    ensures joined { OnOk result (batcher.new.jobs ≡ batcher.old.jobs ++ job ∷ []) }
+{
+    match batcher.offer(job) {
+        Offered::Joined => Ok(()),
+        Offered::Sealed(batch) => {
+            drop(batch);
+            Err(fault)
+        }
+        Offered::Refused(job, _) => {
+            drop(job);
+            Err(OpenFault::NoMemory)
+        }
+    }
+}
+
+/// Returns the job of a packet.
+fn job_of(alloc: Global, stub: Stub, packet: Packet, fault: OpenFault) -> Result<Job, OpenFault>
+    ensures fault { IfErr result (λ error. (error ≡ NoMemoryFault) ⊎ (error ≡ fault)) }
+    ensures job { IfOk result (λ job. job ≡ numbered_packet stub.submitter stub.number packet) }
+{
+    match Job::new(alloc, stub.submitter, stub.number, BATCH_MAX, packet) {
+        Ok(job) => Ok(job),
+        Err((packet, refusal)) => {
+            drop(packet);
+            Err(if refusal == Refusal::NoMemory {
+                OpenFault::NoMemory
+            } else {
+                fault
+            })
+        }
+    }
+}
+
+impl Replaying {
+    /// Returns the ledger.
+    pub(crate) fn into_ledger(self) -> BareLedger
+        ensures { result ≡ self.ledger }
+    {
+        let Replaying {
+            ledger,
+            numbers: _,
+            alloc: _,
+        } = self;
+        ledger
+    }
+
+    /// Returns that the next row is no entry.
+    fn bad_entry(&self) -> OpenFault
+        ensures { result ≡ BadEntryFault self.now.ledger.places }
+    {
+        OpenFault::BadEntry(self.ledger.places())
+    }
+
+    /// Counts a packet, which must have its submitter's next number.
+    fn count(&mut self, stub: Stub) -> Result<(), OpenFault>
+        ensures fault { IfErr result (IsEntryFault self.old.ledger.places) }
+        ensures same { self.new.ledger ≡ self.old.ledger }
+    {
+        let submitter = stub.submitter as usize;
+        if submitter >= 16 || self.numbers[submitter] != stub.number || stub.number == u64::MAX {
+            return Err(self.bad_entry());
+        }
+        self.numbers[submitter] = stub.number + 1;
+        Ok(())
+    }
+
+    /// Returns the job of the first packet in a body, and the bytes after it.
+    fn first_job<'a>(
+        &self,
+        operation: u8,
+        stub: Stub,
+        body: &'a [u8],
+    ) -> Result<(Job, &'a [u8]), OpenFault>
+        ensures fault { IfErr result (IsEntryFault self.now.ledger.places) }
+        ensures first { IfOk result (λ first. (stubs : List Stub) → batch_packets operation body.now (stub ∷ stubs)
+            ≡ input_of first.0 ∷ batch_packets operation first.1.now stubs) }
+    {
+        let Some(size) = event_size(operation) else {
+            return Err(self.bad_entry());
+        };
+        let Some((events, rest)) = body.split_at_checked(stub.count as usize * size) else {
+            return Err(self.bad_entry());
+        };
+        let Ok(bytes) = Vec::from_slice(self.alloc, events) else {
+            return Err(OpenFault::NoMemory);
+        };
+        let packet = Packet {
+            operation,
+            bytes: Bytes::from_vec(bytes),
+            user: 0,
+        };
+        let job = job_of(self.alloc, stub, packet, self.bad_entry())?;
+        Ok((job, rest))
+    }
+
+    /// Returns the batch of a row.
+    fn batch_in(&mut self, columns: BatchColumns<'_>) -> Result<Batch, OpenFault>
+        ensures fault { IfErr result (IsEntryFault self.old.ledger.places) }
+        ensures same { self.new.ledger ≡ self.old.ledger }
+        ensures packets { IfOk result (λ batch. map input_of batch
+            ≡ batch_packets columns.entry.operation columns.entry.body.now (stubs_in columns.entry.stubs.now)) }
+        ensures some { IfOk result (λ batch. 0 < length batch) }
+    {
+        let (chunks, rest) = columns.stubs.as_chunks::<16>();
+        let mut body = columns.body;
+        let Ok(mut batcher) = Batcher::new(self.alloc, BATCH_MAX) else {
+            return Err(self.bad_entry());
+        };
+        for chunk in chunks {
+            let stub = stub_at(chunk);
+            let (job, after) = self.first_job(columns.operation, stub, body)?;
+            join(&mut batcher, job, self.bad_entry())?;
+            self.count(stub)?;
+            body = after;
+        }
+        match batcher.seal() {
+            Some(batch) if rest.is_empty() && body.is_empty() => Ok(batch),
+            _ => Err(self.bad_entry()),
+        }
+    }
+
+    /// Applies a batch.
+    fn batch(&mut self, columns: BatchColumns<'_>) -> Result<(), OpenFault>
+        ensures fault { IfErr result (IsEntryFault self.old.ledger.places) }
+        ensures group { let group = batch_packets columns.entry.operation columns.entry.body.now (stubs_in columns.entry.stubs.now) in
+            OnOk result (AddsGroup self.old.ledger self.new.ledger group × (0 < length group)) }
+    {
+        let batch = self.batch_in(columns)?;
+        drop(self.ledger.apply(Parcel::Batch(batch)));
+        if self.ledger.stopped() {
+            return Err(OpenFault::NoMemory);
+        }
+        Ok(())
+    }
+
+    /// Applies a pulse.
+    fn pulse(&mut self, nanoseconds: u64) -> Result<(), OpenFault>
+        ensures fault { IfErr result (IsEntryFault self.old.ledger.places) }
+        ensures group { OnOk result (AddsGroup self.old.ledger self.new.ledger (PulseInput nanoseconds ∷ [])) }
+    {
+        if nanoseconds > MOMENT_MAX {
+            return Err(self.bad_entry());
+        }
+        drop(self.ledger.apply(Parcel::Pulse(Moment::new(nanoseconds))));
+        if self.ledger.stopped() {
+            return Err(OpenFault::NoMemory);
+        }
+        Ok(())
+    }
+
+    /// Applies a row, which must be at the next place.
+    pub(crate) fn row(&mut self, row: &Row) -> Result<(), OpenFault>
+        ensures fault { IfErr result (IsRowFault self.old.ledger.places row.now) }
+        ensures place { OnOk result (rowid row.now ≡ IntValue (pos self.old.ledger.places)) }
+        ensures group { OnOk result (AddsGroup self.old.ledger self.new.ledger (group_in row.now)) }
+        ensures some { OnOk result (0 < length (group_in row.now)) }
+    {
+        let place = self.ledger.places();
+        if number_in(row, 0) != Some(place) {
+            return Err(OpenFault::OutOfPlace(place));
+        }
+        let columns = (
+            number_in(row, 2),
+            number_in(row, 3),
+            blob_in(row, 4),
+            blob_in(row, 5),
+        );
+        let (Some(operation), Some(moment), Some(stubs), Some(body)) = columns else {
+            return Err(self.bad_entry());
+        };
+        if operation == 0 {
+            return self.pulse(moment);
+        }
+        let Ok(operation) = u8::try_from(operation) else {
+            return Err(self.bad_entry());
+        };
+        self.batch(BatchColumns {
+            operation,
+            stubs,
+            body,
+        })
+    }
+}

@@ -1,0 +1,185 @@
+//! The table of entries.
+
+ghost use Rattle.std.specs.Prelude.{◌≡◌, ◌⊎◌, ◌<◌, ◌≤◌, [], false, map, IsTrue, IsSome, IfOk, OnOk, IfErr};
+ghost use Rattle.tb_layout.specs.Limits.{clock_max};
+ghost use Rattle.tb_layout.specs.inside.Limits.{places_max};
+ghost use Rattle.tb_work.specs.Packet.{input_of};
+ghost use Rattle.tb_batch.specs.Batch.{AreParts};
+ghost use Rattle.sqlite_trees.specs.Tree.{Trees, rowid};
+ghost use Rattle.sqlite_trees.specs.View.{IsClean, doubt, is_int, Advances};
+ghost use Rattle.tb_durable.specs.Rows.{jobs_row, pulse_row, settings_row, group_in};
+ghost use Rattle.tb_durable.specs.Durable.{Adds, IsAdded, IsReading, LeavesNothingNew};
+
+use crate::rows::{fill_batch, fill_pulse, fill_settings};
+use crate::settings::Settings;
+use sqlite_trees::error::StoreError;
+use sqlite_trees::store::{Direction, Shape, Store};
+use sqlite_value::row::Row;
+use std::alloc::Global;
+use tb_batch::Parts;
+use tb_work::Moment;
+
+/// The tree of the table, the only one.
+const ENTRIES: u32 = 0;
+
+/// Why a row isn't stored. If it is in doubt, a crash may leave it or not.
+#[derive(Clone, Copy)]
+pub(crate) struct NotStored {
+    pub(crate) error: StoreError,
+    pub(crate) in_doubt: bool,
+}
+
+/// Returns that memory ran out before anything was written.
+pub(crate) fn no_memory() -> NotStored
+    ensures { result.in_doubt ≡ false }
+{
+    NotStored {
+        error: StoreError::OutOfMemory,
+        in_doubt: false,
+    }
+}
+
+/// A store whose first tree is the table, and the row that is written or was read last.
+pub(crate) struct Table<S: Store> {
+    pub(crate) store: S,
+    pub(crate) row: Row,
+    pub(crate) alloc: Global,
+}
+
+impl<S: Store + Drop> Drop for Table<S> {
+    /// Frees everything held in one call, so that no owner's proof repeats it.
+    fn drop(self) {
+        let Table {
+            store,
+            row,
+            alloc: _,
+        } = self;
+        drop(store);
+        drop(row);
+    }
+}
+
+impl<S: Store> Table<S> {
+    /// Returns the store.
+    pub(crate) fn into_store(self) -> S
+        ensures { result ≡ self.store }
+    {
+        let Table {
+            store,
+            row,
+            alloc: _,
+        } = self;
+        drop(row);
+        store
+    }
+
+    /// Puts the row into the table, in a transaction of its own.
+    fn commit_row(&mut self) -> Result<(), NotStored>
+        requires { IsTrue (is_int (rowid self.old.row)) }
+        ensures ok { OnOk result (IsClean (S.Store.view self.new.store)
+            → Adds (S.Store.view self.old.store) (S.Store.view self.new.store) self.old.row) }
+        ensures crash { (db : Trees) → S.Store.recovers self.new.store db
+            → S.Store.recovers self.old.store db ⊎ IsAdded (S.Store.view self.old.store) self.old.row db }
+        ensures refused { IfErr result (λ error. error.in_doubt ≡ false
+            → LeavesNothingNew (S.Store.recovers self.old.store) (S.Store.recovers self.new.store)) }
+        ensures clean { doubt (S.Store.view self.old.store).is_clean ≤ doubt (S.Store.view self.new.store).is_clean }
+    {
+        if self.store.shape(ENTRIES) != Shape::Table {
+            return Err(NotStored {
+                error: StoreError::Broken,
+                in_doubt: false,
+            });
+        }
+        if let Err(error) = self.store.put(ENTRIES, &self.row) {
+            self.store.rollback();
+            return Err(NotStored {
+                error,
+                in_doubt: false,
+            });
+        }
+        match self.store.commit() {
+            Ok(()) => Ok(()),
+            Err(error) => Err(NotStored {
+                error,
+                in_doubt: true,
+            }),
+        }
+    }
+
+    /// Stores a batch.
+    pub(crate) fn put_batch(&mut self, place: u64, parts: &Parts) -> Result<(), NotStored>
+        requires place { place < places_max }
+        requires parts { AreParts parts.now }
+        ensures ok { OnOk result (IsClean (S.Store.view self.new.store)
+            → Adds (S.Store.view self.old.store) (S.Store.view self.new.store) (jobs_row place parts.now.jobs.items)) }
+        ensures read_back { OnOk result (group_in (jobs_row place parts.now.jobs.items) ≡ map input_of parts.now.jobs.items) }
+        ensures crash { (db : Trees) → S.Store.recovers self.new.store db → S.Store.recovers self.old.store db
+            ⊎ IsAdded (S.Store.view self.old.store) (jobs_row place parts.now.jobs.items) db }
+        ensures refused { IfErr result (λ error. error.in_doubt ≡ false
+            → LeavesNothingNew (S.Store.recovers self.old.store) (S.Store.recovers self.new.store)) }
+        ensures clean { doubt (S.Store.view self.old.store).is_clean ≤ doubt (S.Store.view self.new.store).is_clean }
+    {
+        if fill_batch(self.alloc, &mut self.row, place, parts).is_err() {
+            return Err(no_memory());
+        }
+        self.commit_row()
+    }
+
+    /// Stores a pulse.
+    pub(crate) fn put_pulse(&mut self, place: u64, moment: Moment) -> Result<(), NotStored>
+        requires { place < places_max }
+        ensures ok { OnOk result (IsClean (S.Store.view self.new.store) → Adds (S.Store.view self.old.store) (S.Store.view self.new.store)
+            (pulse_row place moment)) }
+        ensures crash { (db : Trees) → S.Store.recovers self.new.store db → S.Store.recovers self.old.store db
+            ⊎ IsAdded (S.Store.view self.old.store) (pulse_row place moment) db }
+        ensures refused { IfErr result (λ error. error.in_doubt ≡ false
+            → LeavesNothingNew (S.Store.recovers self.old.store) (S.Store.recovers self.new.store)) }
+        ensures clean { doubt (S.Store.view self.old.store).is_clean ≤ doubt (S.Store.view self.new.store).is_clean }
+    {
+        if fill_pulse(&mut self.row, place, moment).is_err() {
+            return Err(no_memory());
+        }
+        self.commit_row()
+    }
+
+    /// Stores the settings.
+    pub(crate) fn put_settings(&mut self, settings: Settings) -> Result<(), NotStored>
+        requires { settings.clock ≤ clock_max }
+        ensures ok { OnOk result (IsClean (S.Store.view self.new.store)
+            → Adds (S.Store.view self.old.store) (S.Store.view self.new.store) (settings_row settings)) }
+        ensures clean { doubt (S.Store.view self.old.store).is_clean ≤ doubt (S.Store.view self.new.store).is_clean }
+    {
+        if fill_settings(&mut self.row, settings).is_err() {
+            return Err(no_memory());
+        }
+        self.commit_row()
+    }
+
+    /// Begins to read the table at its first row.
+    pub(crate) fn rewind(&mut self) -> Result<(), StoreError>
+        ensures ok { OnOk result (IsClean (S.Store.view self.new.store) → IsReading (S.Store.view self.new.store) []) }
+        ensures same { OnOk result (IsClean (S.Store.view self.new.store)
+            → (S.Store.view self.new.store).committed ≡ (S.Store.view self.old.store).committed) }
+        ensures cursor { OnOk result (IsSome ((S.Store.view self.new.store).cursors 0)) }
+        ensures clean { doubt (S.Store.view self.old.store).is_clean ≤ doubt (S.Store.view self.new.store).is_clean }
+    {
+        self.store.rollback();
+        if self.store.is_broken() || self.store.shape(ENTRIES) != Shape::Table {
+            return Err(StoreError::Broken);
+        }
+        self.row.clear();
+        self.store.seek(0, ENTRIES, &self.row, Direction::Forward)?;
+        Ok(())
+    }
+
+    /// Reads the next row, if there is one.
+    pub(crate) fn next(&mut self) -> Result<bool, StoreError>
+        requires { IsSome ((S.Store.view self.old.store).cursors 0) }
+        ensures ok { IfOk result (λ found. IsClean (S.Store.view self.new.store)
+            → Advances (S.Store.view self.old.store) (S.Store.view self.new.store) 0 self.new.row found) }
+        ensures cursor { OnOk result (IsSome ((S.Store.view self.new.store).cursors 0)) }
+        ensures clean { doubt (S.Store.view self.old.store).is_clean ≤ doubt (S.Store.view self.new.store).is_clean }
+    {
+        self.store.next(0, &mut self.row)
+    }
+}

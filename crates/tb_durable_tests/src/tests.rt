@@ -1,0 +1,185 @@
+//! Ledgers over a store in memory, opened again and over bad rows.
+
+use sqlite::MemStore;
+use sqlite_trees::schema::Object;
+use sqlite_trees::store::{Shape, Store};
+use sqlite_value::row::Row;
+use sqlite_value::value::ValueRef;
+use std::alloc::Global;
+use std::process::Abort;
+use tb_batch::{Batch, Batcher};
+use tb_core::{Outcomes, Parcel, Seed};
+use tb_durable::{DurableLedger, OpenFault, Settings};
+use tb_layout::{BATCH_MAX, MOMENT_MAX, Transfer};
+use tb_test_makers::{account, accounts_packet, check, job, transfer, transfers_packet};
+use tb_work::{Moment, Outcome, Packet};
+
+const SETTINGS: Settings = Settings {
+    clock: 5,
+    limit: 8190,
+    submitters: 16,
+};
+
+/// Returns a store with an empty table.
+fn empty_store(rt: &(impl Abort + Alloc<A = Global>)) -> MemStore {
+    let table = Object {
+        shape: Shape::Table,
+        kind: "table",
+        name: "entry",
+        table: "entry",
+        reals: 0,
+        sql: None,
+    };
+    MemStore::new(rt.alloc(), &[table])
+        .ok()
+        .expect(rt, "memory")
+}
+
+fn opened(rt: &(impl Abort + Alloc<A = Global>), store: MemStore) -> DurableLedger<MemStore> {
+    let ledger = DurableLedger::over(rt.alloc(), store, SETTINGS, Seed::default());
+    ledger.ok().expect(rt, "a sound table")
+}
+
+/// Returns the batch of a packet.
+fn batch_of(
+    rt: &(impl Abort + Alloc<A = Global>),
+    submitter: u32,
+    number: u64,
+    packet: Packet,
+) -> Batch {
+    let mut batcher = Batcher::new(rt.alloc(), BATCH_MAX)
+        .ok()
+        .expect(rt, "a limit");
+    let job = job(rt.alloc(), submitter, number, packet)
+        .ok()
+        .expect(rt, "a packet");
+    drop(batcher.offer(job));
+    batcher.seal().expect(rt, "a batch")
+}
+
+/// Returns the place in the first reply of a batch; None if it wasn't committed.
+fn first_place(outcomes: Outcomes) -> Option<u64> {
+    match outcomes {
+        Outcomes::Cut(mut cutter) => {
+            let reply = cutter.next()?;
+            match &reply.outcome {
+                Outcome::Committed { place, .. } => Some(*place),
+                _ => None,
+            }
+        }
+        _ => None,
+    }
+}
+
+/// Commits a batch and returns the place of its first packet.
+fn commit(rt: &impl Abort, ledger: &mut DurableLedger<MemStore>, batch: Batch) -> u64 {
+    first_place(ledger.apply(Parcel::Batch(batch))).expect(rt, "a committed batch")
+}
+
+/// Returns a packet of 8,190 transfers of 1, whose ids begin above 2^127.
+fn largest_packet(rt: &(impl Abort + Alloc<A = Global>)) -> Packet {
+    let mut events: Vec<Transfer> = Vec::new(rt.alloc());
+    let mut id = 1u128 << 127;
+    for _ in 0..8190 {
+        events
+            .push(transfer(id, [1, 2], 1, 0))
+            .ok()
+            .expect(rt, "memory");
+        id = id.wrapping_add(1);
+    }
+    transfers_packet(rt.alloc(), events.as_slice())
+        .ok()
+        .expect(rt, "memory")
+}
+
+fn two_accounts(rt: &(impl Abort + Alloc<A = Global>)) -> Packet {
+    accounts_packet(rt.alloc(), &[account(1, 0), account(2, 0)])
+        .ok()
+        .expect(rt, "memory")
+}
+
+/// Returns what a test compares of a ledger: places, clock, debits of account 1, credits of account 2.
+fn facts(ledger: &DurableLedger<MemStore>) -> Option<[u128; 4]> {
+    let debits = ledger.machine().account(1)?.debits_posted;
+    let credits = ledger.machine().account(2)?.credits_posted;
+    let clock = ledger.machine().clock();
+    Some([
+        u128::from(ledger.places()),
+        u128::from(clock),
+        debits,
+        credits,
+    ])
+}
+
+#[test]
+fn opened_again_after_a_largest_batch_and_a_pulse(rt: HostRuntime) {
+    let mut ledger = opened(&rt, empty_store(&rt));
+    check!(&rt; commit(&rt, &mut ledger, batch_of(&rt, 15, 0, two_accounts(&rt))) == 0);
+    check!(&rt; commit(&rt, &mut ledger, batch_of(&rt, 3, 0, largest_packet(&rt))) == 1);
+    drop(ledger.apply(Parcel::Pulse(Moment::new(MOMENT_MAX))));
+    check!(&rt; facts(&ledger) == Some([3, u128::from(MOMENT_MAX), 8190, 8190]));
+    let again = opened(&rt, ledger.into_store());
+    check!(&rt; facts(&again) == Some([3, u128::from(MOMENT_MAX), 8190, 8190]));
+    check!(&rt; again.settings() == SETTINGS);
+    check!(&rt; again.numbers()[15] == 1 && again.numbers()[3] == 1 && again.numbers()[0] == 0);
+    check!(&rt; !again.stopped() && !again.in_doubt() && again.fault().is_none());
+    drop(again);
+}
+
+#[test]
+fn goes_on_at_the_next_place(rt: HostRuntime) {
+    let mut ledger = opened(&rt, empty_store(&rt));
+    check!(&rt; commit(&rt, &mut ledger, batch_of(&rt, 0, 0, two_accounts(&rt))) == 0);
+    let mut again = opened(&rt, ledger.into_store());
+    check!(&rt; commit(&rt, &mut again, batch_of(&rt, 0, 1, largest_packet(&rt))) == 1);
+    let last = opened(&rt, again.into_store());
+    // The clock starts at 5, and each event raises it by one.
+    check!(&rt; facts(&last) == Some([2, 5 + 2 + 8190, 8190, 8190]));
+    drop(last);
+}
+
+/// Puts a row of five columns, and returns how opening ends then.
+fn fault_with_row(
+    rt: &(impl Abort + Alloc<A = Global>),
+    place: i64,
+    operation: i64,
+    stubs: &[u8],
+) -> Option<OpenFault> {
+    let mut store = opened(rt, empty_store(rt)).into_store();
+    let mut row = Row::new(rt.alloc());
+    row.push(ValueRef::Int(place)).ok().expect(rt, "memory");
+    row.push(ValueRef::Null).ok().expect(rt, "memory");
+    row.push(ValueRef::Int(operation)).ok().expect(rt, "memory");
+    row.push(ValueRef::Int(0)).ok().expect(rt, "memory");
+    row.push(ValueRef::Blob(stubs)).ok().expect(rt, "memory");
+    row.push(ValueRef::Blob(&[])).ok().expect(rt, "memory");
+    put(rt, &mut store, &row);
+    drop(row);
+    match DurableLedger::over(rt.alloc(), store, SETTINGS, Seed::default()) {
+        Ok(ledger) => {
+            drop(ledger);
+            None
+        }
+        Err((fault, store)) => {
+            drop(store);
+            Some(fault)
+        }
+    }
+}
+
+/// Puts a row and commits it.
+fn put(rt: &impl Abort, store: &mut MemStore, row: &Row) {
+    store.put(0, row).ok().expect(rt, "memory");
+    store.commit().ok().expect(rt, "memory");
+}
+
+#[test]
+fn rows_that_are_no_entries(rt: HostRuntime) {
+    // A packet of no events is admitted, so its row is an entry.
+    check!(&rt; fault_with_row(&rt, 0, 129, &[0; 16]).is_none());
+    check!(&rt; fault_with_row(&rt, 1, 129, &[0; 16]) == Some(OpenFault::OutOfPlace(0)));
+    check!(&rt; fault_with_row(&rt, 0, 132, &[0; 16]) == Some(OpenFault::BadEntry(0)));
+    check!(&rt; fault_with_row(&rt, 0, 129, &[0; 15]) == Some(OpenFault::BadEntry(0)));
+    check!(&rt; fault_with_row(&rt, 0, 129, &[]) == Some(OpenFault::BadEntry(0)));
+    check!(&rt; fault_with_row(&rt, 0, 129, &[1; 16]) == Some(OpenFault::BadEntry(0)));
+}
