@@ -15,8 +15,8 @@ use std::alloc::Global;
 use std::io::Read;
 use tb_layout::NoMemory;
 
-/// A faulty script: the one line that is printed of it, and what is said on standard error, one sentence that tells where the fault is, what
-/// is wrong and what may stand there.
+/// A faulty script: the one line that is printed of it, and the sentence for standard error. That tells where the fault is, what is
+/// wrong and what may stand there.
 #[derive(Drop)]
 pub struct FaultyScript {
     pub line: String,
