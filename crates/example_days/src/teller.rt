@@ -12,7 +12,8 @@ const EXISTS_ACCOUNT: u32 = 21;
 /// The code of a transfer that is there already, with the same fields.
 const EXISTS_TRANSFER: u32 = 46;
 
-/// Posts three transfers, each under the id after the last one's, reads all replies, and counts events that exist.
+/// Posts three transfers, each under the id after the last one's, reads as many replies, and counts events that exist. What was
+/// queued ahead is answered first, so that as many of its own replies stay unread.
 #[derive(Drop)]
 pub struct Teller {
     left: u8,

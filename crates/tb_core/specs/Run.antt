@@ -78,7 +78,7 @@ pub record IsDrained (start : LedgerState) (limit : ℕ) (items : List Item) (le
   pub joined : AreJoined limit (groups_since start ledger)
 
 -- The report on a run is lawful if a front took all of its queue, and a ledger, since it was `start`, all that the front
--- yielded, and each submitter got the replies with its number. An allocation may have failed.
+-- yielded. Each submitter got the replies with its number. An allocation may have failed.
 abbrev pub RunIsLawful : Type 0
 RunIsLawful =
     (run : Run) (start : LedgerState) (answers : List ReplyValue) → IsQueueOf run.submitters run.queue run.queued →

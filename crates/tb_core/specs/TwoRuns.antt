@@ -27,9 +27,8 @@ AnswersStand run ledger =
     → IsAnsweredIn ledger place (numbered_of reply) answer
 
 -- The journal is what was before, then what the first run committed, then what the second did, and the state is its replay.
--- Of each submitter there are the packets that the first run committed, a prefix of what it queued ahead of that run's Close,
--- and after them those that the second committed, a prefix of what it queued ahead of the second Close. All that both runs
--- answered is true of the journal at the end.
+-- Of each submitter there are the packets that the first run committed, and after them those that the second committed. Each
+-- are a prefix of what it queued ahead of that run's Close. All that both runs answered is true of the journal at the end.
 pub record AreOneRun (first second : Run) : Type 0 where
   pub journal : inputs second.ledger ≡ first.before ++ (committed_in first ++ committed_in second)
   pub state : second.ledger.state ≡ replay first.ledger.opening (inputs second.ledger)
