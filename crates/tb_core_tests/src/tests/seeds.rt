@@ -25,8 +25,8 @@ enum Ids {
 fn full_packet(rt: &(impl Abort + Alloc<A = Global>), ids: Ids, first: u128) -> Job {
     let (mut accounts, mut transfers) = (Vec::new(rt.alloc()), Vec::new(rt.alloc()));
     let credited = if matches!(ids, Ids::Failed) { 9 } else { 2 };
-    for place in 0..8_190u128 {
-        let id = first.wrapping_add(place);
+    for place in 0..8_190u64 {
+        let id = first.wrapping_add(u128::from(place));
         push(rt, &mut accounts, account(id, 0));
         push(rt, &mut transfers, transfer(id, [1, credited], 1, 0));
     }
