@@ -145,7 +145,7 @@ fn pulse_between_batches_after_refused_reservations(rt: HostRuntime) {
 }
 
 /// Returns a job as a batch.
-fn alone(rt: &(impl Abort + Alloc<A = Global>), job: Job) -> Batch {
+pub(super) fn alone(rt: &(impl Abort + Alloc<A = Global>), job: Job) -> Batch {
     let mut batcher = Batcher::new(rt.alloc(), 8190).expect(rt, "memory");
     let offered = batcher.offer(job);
     check!(rt; matches!(&offered, Offered::Joined));
