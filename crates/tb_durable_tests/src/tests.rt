@@ -1,11 +1,15 @@
 //! Ledgers over a store in memory, opened again and over bad rows.
 
+ghost use Rattle.std.specs.Prelude.{IfOk, IsTrue};
+ghost use Rattle.sqlite_trees.specs.Tree.{rowid};
+ghost use Rattle.sqlite_trees.specs.View.{is_int};
+
 use sqlite::MemStore;
 use sqlite_trees::schema::Object;
 use sqlite_trees::store::{Shape, Store};
 use sqlite_value::row::Row;
 use sqlite_value::value::ValueRef;
-use std::alloc::Global;
+use std::alloc::{AllocError, Global};
 use std::process::Abort;
 use tb_batch::{Batch, Batcher};
 use tb_core::{Outcomes, Parcel, Seed};
@@ -138,7 +142,28 @@ fn goes_on_at_the_next_place(rt: HostRuntime) {
     drop(last);
 }
 
-/// Puts a row of five columns, and returns how opening ends then.
+/// Returns a row with an empty body.
+fn row_of(alloc: Global, place: i64, operation: i64, stubs: &[u8]) -> Result<Row, AllocError>
+    ensures { IfOk result (λ row. IsTrue (is_int (rowid row))) }
+{
+    let mut row = Row::new(alloc);
+    row.push(ValueRef::Int(place))?;
+    row.push(ValueRef::Null)?;
+    row.push(ValueRef::Int(operation))?;
+    row.push(ValueRef::Int(0))?;
+    row.push(ValueRef::Blob(stubs))?;
+    row.push(ValueRef::Blob(&[]))?;
+    Ok(row)
+}
+
+/// Puts a row and commits it. Returns whether that was done.
+fn put(store: &mut MemStore, row: &Row) -> bool
+    requires { IsTrue (is_int (rowid row.now)) }
+{
+    store.shape(0) == Shape::Table && store.put(0, row).is_ok() && store.commit().is_ok()
+}
+
+/// Returns why a ledger with this row after its settings isn't opened; None if it is.
 fn fault_with_row(
     rt: &(impl Abort + Alloc<A = Global>),
     place: i64,
@@ -146,15 +171,14 @@ fn fault_with_row(
     stubs: &[u8],
 ) -> Option<OpenFault> {
     let mut store = opened(rt, empty_store(rt)).into_store();
-    let mut row = Row::new(rt.alloc());
-    row.push(ValueRef::Int(place)).ok().expect(rt, "memory");
-    row.push(ValueRef::Null).ok().expect(rt, "memory");
-    row.push(ValueRef::Int(operation)).ok().expect(rt, "memory");
-    row.push(ValueRef::Int(0)).ok().expect(rt, "memory");
-    row.push(ValueRef::Blob(stubs)).ok().expect(rt, "memory");
-    row.push(ValueRef::Blob(&[])).ok().expect(rt, "memory");
-    put(rt, &mut store, &row);
+    let Ok(row) = row_of(rt.alloc(), place, operation, stubs) else {
+        drop(store);
+        check!(rt; false);
+        return None;
+    };
+    let is_put = put(&mut store, &row);
     drop(row);
+    check!(rt; is_put);
     match DurableLedger::over(rt.alloc(), store, SETTINGS, Seed::default()) {
         Ok(ledger) => {
             drop(ledger);
@@ -165,12 +189,6 @@ fn fault_with_row(
             Some(fault)
         }
     }
-}
-
-/// Puts a row and commits it.
-fn put(rt: &impl Abort, store: &mut MemStore, row: &Row) {
-    store.put(0, row).ok().expect(rt, "memory");
-    store.commit().ok().expect(rt, "memory");
 }
 
 #[test]
