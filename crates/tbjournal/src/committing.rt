@@ -1,0 +1,227 @@
+//! A script's items through a front and a ledger in a file, and the lines of the output.
+
+ghost use Rattle.std.specs.Prelude.{◌≤◌};
+
+use crate::fault::JournalFault;
+use sqlite_trees::store::Store;
+use std::alloc::{AllocError, Global};
+use tb_core::{Front, Outcomes, Parcel};
+use tb_demux::Cutter;
+use tb_durable::{DurableLedger, OpenFault, Settings};
+use tb_layout::{BATCH_MAX, MOMENT_MAX};
+use tb_machine::Machine;
+use tb_program_text::{
+    ScriptItem, put_account, put_clock, put_close, put_pulse, put_refused, put_refused_pulse,
+    put_reply,
+};
+use tb_work::{Item, Job, Moment, Packet, Refusal, Reply, Ticket};
+
+/// A line of the output, in the order of the script. That of a queued packet is its reply's.
+#[derive(Clone, Copy)]
+enum Line {
+    Queued,
+    Refused(u32, Refusal),
+    Pulse(u64),
+    RefusedPulse,
+    Close,
+}
+
+/// A ledger and the front before it, with the lines so far.
+pub(crate) struct Committing<S: Store> {
+    alloc: Global,
+    ledger: DurableLedger<S>,
+    front: Front,
+    settings: Settings,
+    numbers: [u64; 16],
+    lines: Vec<Line>,
+    replies: Vec<Reply>,
+}
+
+impl<S: Store + Drop> Drop for Committing<S> {
+    fn drop(self) {
+        let Committing {
+            alloc: _,
+            ledger,
+            front,
+            settings: _,
+            numbers: _,
+            lines,
+            replies,
+        } = self;
+        drop(ledger);
+        drop(front);
+        drop(lines);
+        drop(replies);
+    }
+}
+
+/// What is printed, and why the ledger stopped, if it did.
+#[derive(Drop)]
+pub(crate) struct Committed {
+    pub(crate) text: String,
+    pub(crate) stop: Option<JournalFault>,
+}
+
+/// Adds the clock and the accounts.
+pub(crate) fn put_state(out: &mut String, machine: &Machine) -> Result<(), AllocError> {
+    put_clock(out, machine.clock())?;
+    for index in 0..machine.accounts() {
+        if let Some(account) = machine.account_at(index) {
+            put_account(out, &account)?;
+        }
+    }
+    Ok(())
+}
+
+/// Puts all replies that a cutter gives after the others.
+fn put_all(cutter: &mut Cutter, replies: &mut Vec<Reply>) -> Result<(), AllocError> {
+    for _ in 0..u64::MAX {
+        let Some(reply) = cutter.next() else {
+            break;
+        };
+        replies.push(reply)?;
+    }
+    Ok(())
+}
+
+impl<S: Store + Drop> Committing<S> {
+    /// Begins with a ledger and a front that took nothing.
+    pub(crate) fn over(
+        alloc: Global,
+        ledger: DurableLedger<S>,
+    ) -> Result<Committing<S>, JournalFault> {
+        let settings = ledger.settings();
+        let numbers = ledger.numbers();
+        let Ok(front) = Front::new(alloc, settings.limit, settings.submitters) else {
+            drop(ledger);
+            return Err(JournalFault::Open(OpenFault::BadSettings));
+        };
+        Ok(Committing {
+            alloc,
+            ledger,
+            front,
+            settings,
+            numbers,
+            lines: Vec::new(alloc),
+            replies: Vec::new(alloc),
+        })
+    }
+
+    /// Applies a parcel, and keeps the replies.
+    fn apply(&mut self, parcel: Parcel) -> Result<(), AllocError> {
+        match self.ledger.apply(parcel) {
+            Outcomes::Cut(mut cutter) => {
+                let put = put_all(&mut cutter, &mut self.replies);
+                drop(cutter);
+                put
+            }
+            Outcomes::One(reply) => Ok(self.replies.push(reply)?),
+            Outcomes::Nothing | Outcomes::Last => Ok(()),
+        }
+    }
+
+    /// Takes an item through the front, and applies what it yields.
+    fn pass(&mut self, sender: u32, item: Item) -> Result<(), AllocError> {
+        let mut parcels = self.front.take(Ticket { sender, item });
+        for _ in 0..2 {
+            let Some(parcel) = parcels.pop_at(0) else {
+                break;
+            };
+            self.apply(parcel)?;
+        }
+        Ok(())
+    }
+
+    /// Queues a packet with its submitter's next number, or notes why it is refused.
+    fn packet(&mut self, submitter: u32, packet: Packet) -> Result<(), JournalFault> {
+        let number = self.numbers[submitter as usize % 16];
+        let limit = self.settings.limit.min(BATCH_MAX);
+        match Job::new(self.alloc, submitter, number, limit, packet) {
+            Ok(job) => {
+                self.numbers[submitter as usize % 16] = number.saturating_add(1);
+                self.lines.push(Line::Queued)?;
+                self.pass(submitter, Item::Packet(job))?;
+            }
+            Err((packet, refusal)) => {
+                drop(packet);
+                if refusal == Refusal::NoMemory {
+                    return Err(JournalFault::NoMemory);
+                }
+                self.lines.push(Line::Refused(submitter, refusal))?;
+            }
+        }
+        Ok(())
+    }
+
+    /// Queues a pulse, or notes that its moment is too large. Of one that isn't committed there is no line.
+    fn pulse(&mut self, moment: u64) -> Result<(), JournalFault> {
+        if moment > MOMENT_MAX {
+            self.lines.push(Line::RefusedPulse)?;
+            return Ok(());
+        }
+        self.pass(self.settings.submitters, Item::Pulse(Moment::new(moment)))?;
+        if !self.ledger.stopped() {
+            self.lines
+                .push(Line::Pulse(self.ledger.places().saturating_sub(1)))?;
+        }
+        Ok(())
+    }
+
+    fn take(&mut self, item: ScriptItem) -> Result<(), JournalFault> {
+        match item {
+            ScriptItem::Packet(submitter, packet) if submitter.get() < self.settings.submitters => {
+                self.packet(submitter.get(), packet)
+            }
+            ScriptItem::Packet(submitter, packet) => {
+                drop(packet);
+                Ok(
+                    self.lines
+                        .push(Line::Refused(submitter.get(), Refusal::BadSubmitters))?,
+                )
+            }
+            ScriptItem::Pulse(moment) => self.pulse(moment),
+            ScriptItem::Shut => {
+                self.lines.push(Line::Close)?;
+                Ok(self.pass(self.settings.submitters, Item::Close)?)
+            }
+        }
+    }
+
+    /// Returns the lines, and then the clock and the accounts.
+    fn text(&self) -> Result<String, AllocError> {
+        let mut out = String::new(self.alloc);
+        let mut replies = self.replies.iter();
+        for line in self.lines.iter() {
+            match line {
+                Line::Queued => {
+                    if let Some(reply) = replies.next() {
+                        put_reply(&mut out, reply)?;
+                    }
+                }
+                Line::Refused(submitter, refusal) => put_refused(&mut out, *submitter, *refusal)?,
+                Line::Pulse(place) => put_pulse(&mut out, *place)?,
+                Line::RefusedPulse => put_refused_pulse(&mut out)?,
+                Line::Close => put_close(&mut out)?,
+            }
+        }
+        put_state(&mut out, self.ledger.machine())?;
+        Ok(out)
+    }
+
+    /// Takes all items and commits what is held at last.
+    pub(crate) fn commit_all(mut self, items: Vec<ScriptItem>) -> Result<Committed, JournalFault> {
+        for item in items {
+            self.take(item)?;
+        }
+        if let Some(batch) = self.front.idle() {
+            self.apply(Parcel::Batch(batch))?;
+        }
+        let text = self.text()?;
+        let stop = if self.ledger.stopped() {
+            Some(JournalFault::Stopped(self.ledger.fault(), self.ledger.in_doubt()))
+        } else {
+            None
+        };
+        Ok(Committed { text, stop })
+    }
+}

@@ -1,0 +1,115 @@
+//! Why the program couldn't do its work.
+
+use sqlite_trees::error::StoreError;
+use std::alloc::{AllocError, AllocFailed};
+use std::error::Error;
+use std::fmt;
+use tb_durable::{OpenFault, Settings};
+use tb_layout::NoMemory;
+use tb_program_text::ProgramFault;
+
+/// Why a script or a file wasn't taken, or not to its end.
+#[derive(Clone, Copy, Debug, PartialEq, Eq)]
+pub(crate) enum JournalFault {
+    /// The file isn't opened as a ledger.
+    Open(OpenFault),
+    /// The script gives settings, and the file's ledger has these.
+    OtherSettings(Settings),
+    /// Standard input can't be read.
+    Read,
+    /// The output can't be written. All of the script is committed.
+    Write,
+    /// Memory ran out. A part of the script may be committed.
+    NoMemory,
+    /// The ledger stopped since a write failed; whether the last batch is in the file isn't known if this is true.
+    Stopped(Option<StoreError>, bool),
+}
+
+impl JournalFault {
+    /// Returns the exit status.
+    pub(crate) fn status(&self) -> u8 {
+        match self {
+            JournalFault::OtherSettings(_) => 1,
+            _ => 2,
+        }
+    }
+}
+
+impl fmt::Display for JournalFault {
+    fn fmt<W: fmt::Write>(&self, f: &mut fmt::Formatter<W>) -> fmt::Result {
+        match self {
+            JournalFault::Open(fault) => write!(f, "the file isn't opened: {fault}"),
+            JournalFault::OtherSettings(kept) => {
+                let Settings {
+                    clock,
+                    limit,
+                    submitters,
+                } = kept;
+                write!(
+                    f,
+                    "the file's ledger was opened with clock {clock}, limit {limit} and submitters {submitters}, and the script gives others"
+                )
+            }
+            JournalFault::Read => f.write_str("standard input can't be read to its end"),
+            JournalFault::Write => f.write_str(
+                "standard output can't be written; the packets are in the file, and `replay` shows what they made",
+            ),
+            JournalFault::NoMemory => f.write_str(
+                "memory ran out; packets before this may be in the file, and `replay` shows what they made",
+            ),
+            JournalFault::Stopped(fault, in_doubt) => put_stop(f, fault, *in_doubt),
+        }
+    }
+}
+
+/// Says why a ledger stopped.
+fn put_stop<W: fmt::Write>(
+    f: &mut fmt::Formatter<W>,
+    fault: &Option<StoreError>,
+    in_doubt: bool,
+) -> fmt::Result {
+    f.write_str("the ledger stopped, and no packet that is printed as stopped is committed")?;
+    if in_doubt {
+        f.write_str(", but the first of them may be: the next opening tells")?;
+    }
+    match fault {
+        Some(fault) => write!(f, ": {fault}"),
+        None => Ok(()),
+    }
+}
+
+impl Error for JournalFault {}
+
+impl From<OpenFault> for JournalFault {
+    fn from(fault: OpenFault) -> JournalFault {
+        JournalFault::Open(fault)
+    }
+}
+
+impl From<NoMemory> for JournalFault {
+    fn from(_refused: NoMemory) -> JournalFault {
+        JournalFault::NoMemory
+    }
+}
+
+impl<T: Drop> From<AllocFailed<T>> for JournalFault {
+    fn from(_refused: AllocFailed<T>) -> JournalFault {
+        JournalFault::NoMemory
+    }
+}
+
+impl From<AllocError> for JournalFault {
+    fn from(_refused: AllocError) -> JournalFault {
+        JournalFault::NoMemory
+    }
+}
+
+impl From<ProgramFault> for JournalFault {
+    fn from(fault: ProgramFault) -> JournalFault {
+        match fault {
+            ProgramFault::Write => JournalFault::Write,
+            ProgramFault::NoMemory => JournalFault::NoMemory,
+            ProgramFault::Read | ProgramFault::NoThread => JournalFault::Read,
+        }
+    }
+}
