@@ -7,8 +7,9 @@
 //! isn't there, with the script's clock, limit and submitters. If it is there the ledger goes on: places and the numbers of packets count
 //! on, and its own settings hold; a script that gives others is refused. `replay` prints the clock and the accounts of the file's ledger.
 //!
-//! What is printed as committed is on the disk. The status is 0, or 1 for a faulty script, other arguments or other settings, or 2 if the
-//! file can't be opened, the ledger stopped, memory ran out, or the output can't be written; standard error has a sentence then.
+//! What is printed as committed is on the disk. The status is 0 if the script was committed. It is 1 for a faulty script, other arguments or
+//! other settings. It is 2 if the file can't be opened, the ledger stopped, memory ran out, or the output can't be written. Then standard
+//! error has a sentence.
 #![tactic(auto)]
 
 ghost use Rattle.std.specs.Prelude.{◌≤◌};
