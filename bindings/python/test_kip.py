@@ -193,6 +193,8 @@ class StandIn(unittest.TestCase):
             self.assertEqual([client.transfer_status(id) for id in (3, 4, 9)],
                              [PendingStatus.POSTED, PendingStatus.NONE, PendingStatus.NONE])
             self.assertEqual([it.id for it in client.accounts()], [1, 2])
+            self.assertEqual([(it.id, it.amount, status) for it, status in client.transfers()],
+                             [(3, 10, PendingStatus.POSTED), (4, 10, PendingStatus.NONE)])
 
     def test_ids_rise(self):
         ids = [kip.id() for _ in range(10_000)]

@@ -89,6 +89,11 @@ fn calls_of_a_client() -> Result<(), Error> {
     assert_eq!(ledger.lookup_accounts(&[2, 7, 1]).iter().map(|it| it.id).collect::<Vec<_>>(), [2, 1]);
     assert_eq!(ledger.account_at(1).map(|it| it.id), Some(2));
     assert_eq!(ledger.account_at(2), None);
+    // Transfers in the order of making: the pending one, and the void with the fields of what it voids.
+    let at = |found: Option<(Transfer, Option<PendingStatus>)>| found.map(|(it, status)| (it.id, it.amount, status));
+    assert_eq!(at(ledger.transfer_at(0)), Some((3, 5, Some(PendingStatus::Voided))));
+    assert_eq!(at(ledger.transfer_at(1)), Some((4, 5, None)));
+    assert_eq!((ledger.transfer_at(2), ledger.transfer_at(usize::MAX)), (None, None));
     Ok(())
 }
 
