@@ -80,18 +80,18 @@ due_to_first clock done place (ticket ∷ queue) others =
           ∙ ap (all_due_from clock done place) (sym other.1)
     ]
 
-ahead_after : (x : Item) {items others : List Item} → ahead items ≡ ahead others → ahead (x ∷ items) ≡ ahead (x ∷ others)
-ahead_after (item.Packet job) same = ap (λ inputs. input_of job ∷ inputs) same
-ahead_after (item.Pulse moment) same = ap (λ inputs. input.Pulse moment ∷ inputs) same
-ahead_after item.End same = same
-ahead_after item.Close same = refl
+ahead_after : (x : Item) (items others : List Item) → ahead items ≡ ahead others → ahead (x ∷ items) ≡ ahead (x ∷ others)
+ahead_after (item.Packet job) items others same = ap (λ inputs. input_of job ∷ inputs) same
+ahead_after (item.Pulse moment) items others same = ap (λ inputs. input.Pulse moment ∷ inputs) same
+ahead_after item.End items others same = same
+ahead_after item.Close items others same = refl
 
 pub ahead_of_first : (queue : List Ticket) → OthersEnd queue → ahead (items_in queue) ≡ ahead (items_from 0 queue)
 ahead_of_first [] others = refl
 ahead_of_first (ticket ∷ queue) others =
     let rest = ahead_of_first queue (others_behind ticket queue others) in
     elim (adds ticket queue ticket.sender refl) [
-      | inl mine ↦ ahead_after ticket.item rest ∙ ap ahead (sym mine.1)
+      | inl mine ↦ ahead_after ticket.item (items_in queue) (items_from 0 queue) rest ∙ ap ahead (sym mine.1)
       | inr other ↦ ap (λ x. ahead (x ∷ items_in queue)) (is_end_of ticket queue others other.0) ∙ rest
           ∙ ap ahead (sym other.1)
     ]
