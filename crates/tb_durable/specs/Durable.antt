@@ -8,7 +8,8 @@ use Rattle.tb_work.specs.declared.outcome.Outcome.TheVariants as outcome
 use Rattle.tb_core.specs.declared.parcel.Parcel.{Parcel}
 use Rattle.tb_core.specs.declared.parcel.Parcel.TheVariants as parcel
 use Rattle.tb_core.specs.declared.outcomes.Outcomes.{Outcomes}
-use Rattle.tb_core.specs.declared.outcomes.Outcomes.TheVariants.{Cut, Nothing}
+use Rattle.tb_core.specs.declared.outcomes.Outcomes.TheVariants.{Cut, One, Nothing, Last}
+use Rattle.tb_core.specs.inside.Decision.{cause_outcome}
 use Rattle.tb_core.specs.BareLedger.{BareLedgerState, HasCommitted}
 use Rattle.sqlite_value.specs.declared.value.Value.TheVariants.{Int}
 use Rattle.sqlite_value.specs.Order.{Row, value_cmp}
@@ -109,4 +110,5 @@ LeavesNothingNew old new = (db : Trees) → new db → old db
 abbrev pub IsRefused : Parcel → Outcomes → Type 0
 IsRefused (parcel.Batch jobs) outcomes = outcomes ≡ Cut (map (reply_with outcome.Stopped) jobs)
 IsRefused (parcel.Pulse moment) outcomes = outcomes ≡ Nothing
-IsRefused other outcomes = Unit {0}
+IsRefused (parcel.Return job cause) outcomes = outcomes ≡ One (reply_with (cause_outcome cause) job)
+IsRefused parcel.Last outcomes = outcomes ≡ Last

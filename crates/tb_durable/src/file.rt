@@ -36,9 +36,10 @@ fn is_ledger<S: Alter>(alloc: Global, store: &S) -> Result<bool, OpenFault> {
     Ok(is_table && objects.len() == 1)
 }
 
-/// Makes the table in an empty database.
+/// Makes the table in an empty database, which has neither tables nor what the kit keeps without understanding it.
 fn make_table<S: Alter>(conn: &mut Connection<S>) -> Result<(), OpenFault> {
-    if !conn.schema().tables.is_empty() {
+    let schema = conn.schema();
+    if !schema.tables.is_empty() || !schema.views.is_empty() {
         return Ok(());
     }
     match conn.execute(CREATE_TABLE, &[]) {

@@ -25,7 +25,7 @@ use tb_core::{BareLedger, Cause, Outcomes, Parcel, Seed};
 use tb_demux::Cutter;
 use tb_layout::{CREATE_ACCOUNTS, CREATE_TRANSFERS, NoMemory, PLACES_MAX};
 use tb_machine::Machine;
-use tb_work::{Job, Moment, Outcome, Reply};
+use tb_work::{Job, Moment, Outcome, Reply, Stub};
 
 /// A ledger whose entries are stored before they are applied.
 pub struct DurableLedger<S: Store> {
@@ -75,6 +75,19 @@ fn reserve_for(bare: &mut BareLedger, parts: &Parts) -> Result<(), NoMemory>
         CREATE_TRANSFERS => bare.reserve(0, events),
         _ => Ok(()),
     }
+}
+
+/// Returns the next number of each submitter after packets with these stubs. None if one hasn't its submitter's next number.
+fn numbers_after(numbers: [u64; 16], stubs: &[Stub]) -> Option<[u64; 16]> {
+    let mut next = numbers;
+    for stub in stubs {
+        let submitter = stub.submitter as usize;
+        if submitter >= 16 || next[submitter] != stub.number || stub.number == u64::MAX {
+            return None;
+        }
+        next[submitter] = stub.number + 1;
+    }
+    Some(next)
 }
 
 /// Stores a batch at the next place. Memory for the facts that it may add is reserved before anything is written.
@@ -161,7 +174,7 @@ impl<S: Store + Drop> DurableLedger<S> {
         self.settings
     }
 
-    /// Returns how many packets of each submitter were stored when the ledger was opened.
+    /// Returns the number of each submitter's next packet: how many of its packets are stored.
     pub fn numbers(&self) -> [u64; 16]
         ensures { result ≡ self.now.numbers }
     {
@@ -279,8 +292,13 @@ impl<S: Store + Drop> DurableLedger<S> {
             self.stopped = true;
             return Outcomes::Cut(Cutter::new(parts.jobs, Outcome::Stopped));
         }
+        let Some(numbers) = numbers_after(self.numbers, &parts.stubs) else {
+            self.stopped = true;
+            return Outcomes::Cut(Cutter::new(parts.jobs, Outcome::Stopped));
+        };
         match store_batch(&mut self.table, &mut self.bare, &parts) {
             Ok(()) => {
+                self.numbers = numbers;
                 let outcomes = self.bare.apply(Parcel::Batch(Batch::whole(parts)));
                 self.follow();
                 outcomes
@@ -334,6 +352,10 @@ impl<S: Store + Drop> DurableLedger<S> {
     /// Applies one parcel, as `BareLedger::apply` does, after the row that it adds is stored. If that fails, the ledger stops,
     /// and each packet of a batch gets the outcome Stopped: it isn't committed, unless the ledger is `in_doubt`. A batch costs
     /// one transaction: its row is written to the log, and one sync waits for the disk.
+    ///
+    /// Each packet must have its submitter's next number (`numbers`), since no file that has another can be opened again. A
+    /// batch with another number stops the ledger, as does one past the last place: nothing is written, and `fault` has
+    /// nothing to say.
     pub fn apply(&mut self, parcel: Parcel) -> Outcomes
         ensures kept { IsStored (S.Store.view self.old.table.store) self.old.stopped self.old.bare
             → IsStored (S.Store.view self.new.table.store) self.new.stopped self.new.bare }

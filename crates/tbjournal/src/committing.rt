@@ -14,7 +14,7 @@ use tb_program_text::{
     ScriptItem, put_account, put_clock, put_close, put_pulse, put_refused, put_refused_pulse,
     put_reply,
 };
-use tb_work::{Item, Job, Moment, Packet, Refusal, Reply, Ticket};
+use tb_work::{Item, Job, Moment, Outcome, Packet, Refusal, Reply, Ticket};
 
 /// A line of the output, in the order of the script. That of a queued packet is its reply's.
 #[derive(Clone, Copy)]
@@ -35,6 +35,8 @@ pub(crate) struct Committing<S: Store> {
     numbers: [u64; 16],
     lines: Vec<Line>,
     replies: Vec<Reply>,
+    /// Whether a packet came back as stopped: memory ran out in the front, which passes no pulse on from then on.
+    is_refused: bool,
 }
 
 impl<S: Store + Drop> Drop for Committing<S> {
@@ -47,6 +49,7 @@ impl<S: Store + Drop> Drop for Committing<S> {
             numbers: _,
             lines,
             replies,
+            is_refused: _,
         } = self;
         drop(ledger);
         drop(front);
@@ -104,6 +107,7 @@ impl<S: Store + Drop> Committing<S> {
             numbers,
             lines: Vec::new(alloc),
             replies: Vec::new(alloc),
+            is_refused: false,
         })
     }
 
@@ -115,7 +119,10 @@ impl<S: Store + Drop> Committing<S> {
                 drop(cutter);
                 put
             }
-            Outcomes::One(reply) => Ok(self.replies.push(reply)?),
+            Outcomes::One(reply) => {
+                self.is_refused |= matches!(reply.outcome, Outcome::Stopped);
+                Ok(self.replies.push(reply)?)
+            }
             Outcomes::Nothing | Outcomes::Last => Ok(()),
         }
     }
@@ -160,7 +167,7 @@ impl<S: Store + Drop> Committing<S> {
             return Ok(());
         }
         self.pass(self.settings.submitters, Item::Pulse(Moment::new(moment)))?;
-        if !self.ledger.stopped() {
+        if !self.ledger.stopped() && !self.is_refused {
             self.lines
                 .push(Line::Pulse(self.ledger.places().saturating_sub(1)))?;
         }
@@ -208,6 +215,18 @@ impl<S: Store + Drop> Committing<S> {
         Ok(out)
     }
 
+    /// Returns why not all that was queued is committed, apart from packets behind a Close.
+    fn stop(&self) -> Option<JournalFault> {
+        if self.ledger.stopped() {
+            return Some(JournalFault::Stopped(self.ledger.fault(), self.ledger.in_doubt()));
+        }
+        if self.is_refused {
+            Some(JournalFault::NoMemory)
+        } else {
+            None
+        }
+    }
+
     /// Takes all items and commits what is held at last.
     pub(crate) fn commit_all(mut self, items: Vec<ScriptItem>) -> Result<Committed, JournalFault> {
         for item in items {
@@ -217,11 +236,7 @@ impl<S: Store + Drop> Committing<S> {
             self.apply(Parcel::Batch(batch))?;
         }
         let text = self.text()?;
-        let stop = if self.ledger.stopped() {
-            Some(JournalFault::Stopped(self.ledger.fault(), self.ledger.in_doubt()))
-        } else {
-            None
-        };
+        let stop = self.stop();
         Ok(Committed { text, stop })
     }
 }

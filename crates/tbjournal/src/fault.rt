@@ -11,17 +11,22 @@ use tb_program_text::ProgramFault;
 /// Why a script or a file wasn't taken, or not to its end.
 #[derive(Clone, Copy, Debug, PartialEq, Eq)]
 pub(crate) enum JournalFault {
+    /// There is no file to replay.
+    NoFile,
     /// The file isn't opened as a ledger.
     Open(OpenFault),
     /// The script gives settings, and the file's ledger has these.
     OtherSettings(Settings),
     /// Standard input can't be read.
     Read,
-    /// The output can't be written. All of the script is committed.
+    /// The output can't be written.
     Write,
+    /// The output can't be written, and all of the script is committed.
+    WriteCommitted,
     /// Memory ran out. A part of the script may be committed.
     NoMemory,
-    /// The ledger stopped since a write failed; whether the last batch is in the file isn't known if this is true.
+    /// The ledger stopped: a write or an allocation failed, or there are no places left. Whether the last batch is in the
+    /// file isn't known if this is true.
     Stopped(Option<StoreError>, bool),
 }
 
@@ -38,6 +43,7 @@ impl JournalFault {
 impl fmt::Display for JournalFault {
     fn fmt<W: fmt::Write>(&self, f: &mut fmt::Formatter<W>) -> fmt::Result {
         match self {
+            JournalFault::NoFile => f.write_str("there is no such file"),
             JournalFault::Open(fault) => write!(f, "the file isn't opened: {fault}"),
             JournalFault::OtherSettings(kept) => {
                 let Settings {
@@ -51,7 +57,8 @@ impl fmt::Display for JournalFault {
                 )
             }
             JournalFault::Read => f.write_str("standard input can't be read to its end"),
-            JournalFault::Write => f.write_str(
+            JournalFault::Write => f.write_str("standard output can't be written"),
+            JournalFault::WriteCommitted => f.write_str(
                 "standard output can't be written; the packets are in the file, and `replay` shows what they made",
             ),
             JournalFault::NoMemory => f.write_str(
@@ -70,7 +77,7 @@ fn put_stop<W: fmt::Write>(
 ) -> fmt::Result {
     f.write_str("the ledger stopped, and no packet that is printed as stopped is committed")?;
     if in_doubt {
-        f.write_str(", but the first of them may be: the next opening tells")?;
+        f.write_str(", but the last batch or pulse may be, whole: the next opening tells")?;
     }
     match fault {
         Some(fault) => write!(f, ": {fault}"),

@@ -5,7 +5,8 @@
 //!
 //! `list` commits the packets of a script in its order and prints what becomes of each, as `tbpipe list` does. The file is made if it
 //! isn't there, with the script's clock, limit and submitters. If it is there the ledger goes on: places and the numbers of packets count
-//! on, and its own settings hold; a script that gives others is refused. `replay` prints the clock and the accounts of the file's ledger.
+//! on, of what is stored, and its own settings hold. A script that gives others is refused; one for more than two submitters says
+//! `submitters` again, which bounds its packets. `replay` prints the clock and the accounts of the file's ledger.
 //!
 //! What is printed as committed is on the disk. The status is 0 if the script was committed. It is 1 for a faulty script, other arguments or
 //! other settings. It is 2 if the file can't be opened, the ledger stopped, memory ran out, or the output can't be written. Then standard
@@ -23,13 +24,13 @@ use crate::committing::{Committed, Committing, put_state};
 use crate::fault::JournalFault;
 use crate::request::{Request, request_of};
 use std::process::ExitCode;
-use std::{env, io};
+use std::{env, fs, io};
 use tb_core::Seed;
 use tb_durable::{DurableLedger, LedgerFile, Settings, open_file};
 use tb_layout::BATCH_MAX;
 use tb_program_text::{Script, ScriptParts, Source, read_source, write_out};
 
-/// The settings of a file that is only read: they are those of a ledger without entries, if there is none.
+/// The settings that a file without a table gets.
 const NEW: Settings = Settings {
     clock: 0,
     limit: BATCH_MAX,
@@ -93,9 +94,10 @@ fn list(rt: &HostRuntime, path: &str) -> Result<u8, JournalFault> {
         }
         Source::Script(script) => {
             let Committed { text, stop } = list_script(rt, path, script)?;
-            print(rt, &text)?;
+            let printed = print(rt, &text);
             match stop {
                 Some(stop) => Err(stop),
+                None if printed.is_err() => Err(JournalFault::WriteCommitted),
                 None => Ok(0),
             }
         }
@@ -104,6 +106,9 @@ fn list(rt: &HostRuntime, path: &str) -> Result<u8, JournalFault> {
 
 /// Prints the clock and the accounts of the ledger at a path. Returns the status.
 fn replay(rt: &HostRuntime, path: &str) -> Result<u8, JournalFault> {
+    if !matches!(fs::exists(rt, path), Ok(true)) {
+        return Err(JournalFault::NoFile);
+    }
     let ledger = open(rt, path, NEW)?;
     let mut out = String::new(rt.alloc());
     put_state(&mut out, ledger.machine())?;
