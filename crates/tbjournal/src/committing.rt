@@ -2,10 +2,11 @@
 
 ghost use Rattle.std.specs.Prelude.{◌≤◌};
 
+use crate::door::Door;
 use crate::fault::JournalFault;
 use sqlite_trees::store::Store;
 use std::alloc::{AllocError, Global};
-use tb_core::{Front, Outcomes, Parcel};
+use tb_core::{Outcomes, Parcel};
 use tb_demux::Cutter;
 use tb_durable::{DurableLedger, OpenFault, Settings};
 use tb_layout::{BATCH_MAX, MOMENT_MAX};
@@ -14,7 +15,7 @@ use tb_program_text::{
     ScriptItem, put_account, put_clock, put_close, put_pulse, put_refused, put_refused_pulse,
     put_reply,
 };
-use tb_work::{Item, Job, Moment, Outcome, Packet, Refusal, Reply, Ticket};
+use tb_work::{Item, Job, Moment, Outcome, Packet, Refusal, Reply};
 
 /// A line of the output, in the order of the script. That of a queued packet is its reply's.
 #[derive(Clone, Copy)]
@@ -30,7 +31,7 @@ enum Line {
 pub(crate) struct Committing<S: Store> {
     alloc: Global,
     ledger: DurableLedger<S>,
-    front: Front,
+    door: Door,
     settings: Settings,
     numbers: [u64; 16],
     lines: Vec<Line>,
@@ -44,7 +45,7 @@ impl<S: Store + Drop> Drop for Committing<S> {
         let Committing {
             alloc: _,
             ledger,
-            front,
+            door,
             settings: _,
             numbers: _,
             lines,
@@ -52,7 +53,7 @@ impl<S: Store + Drop> Drop for Committing<S> {
             is_refused: _,
         } = self;
         drop(ledger);
-        drop(front);
+        drop(door);
         drop(lines);
         drop(replies);
     }
@@ -95,14 +96,14 @@ impl<S: Store + Drop> Committing<S> {
     ) -> Result<Committing<S>, JournalFault> {
         let settings = ledger.settings();
         let numbers = ledger.numbers();
-        let Ok(front) = Front::new(alloc, settings.limit, settings.submitters) else {
+        let Ok(door) = Door::new(alloc, settings.limit, settings.submitters) else {
             drop(ledger);
             return Err(JournalFault::Open(OpenFault::BadSettings));
         };
         Ok(Committing {
             alloc,
             ledger,
-            front,
+            door,
             settings,
             numbers,
             lines: Vec::new(alloc),
@@ -129,7 +130,7 @@ impl<S: Store + Drop> Committing<S> {
 
     /// Takes an item through the front, and applies what it yields.
     fn pass(&mut self, sender: u32, item: Item) -> Result<(), AllocError> {
-        let mut parcels = self.front.take(Ticket { sender, item });
+        let mut parcels = self.door.take(sender, item);
         for _ in 0..2 {
             let Some(parcel) = parcels.pop_at(0) else {
                 break;
@@ -141,6 +142,12 @@ impl<S: Store + Drop> Committing<S> {
 
     /// Queues a packet with its submitter's next number, or notes why it is refused.
     fn packet(&mut self, submitter: u32, packet: Packet) -> Result<(), JournalFault> {
+        if submitter >= self.settings.submitters {
+            drop(packet);
+            self.lines
+                .push(Line::Refused(submitter, Refusal::BadSubmitters))?;
+            return Ok(());
+        }
         let number = self.numbers[submitter as usize % 16];
         let limit = self.settings.limit.min(BATCH_MAX);
         match Job::new(self.alloc, submitter, number, limit, packet) {
@@ -176,16 +183,7 @@ impl<S: Store + Drop> Committing<S> {
 
     fn take(&mut self, item: ScriptItem) -> Result<(), JournalFault> {
         match item {
-            ScriptItem::Packet(submitter, packet) if submitter.get() < self.settings.submitters => {
-                self.packet(submitter.get(), packet)
-            }
-            ScriptItem::Packet(submitter, packet) => {
-                drop(packet);
-                Ok(
-                    self.lines
-                        .push(Line::Refused(submitter.get(), Refusal::BadSubmitters))?,
-                )
-            }
+            ScriptItem::Packet(submitter, packet) => self.packet(submitter.get(), packet),
             ScriptItem::Pulse(moment) => self.pulse(moment),
             ScriptItem::Shut => {
                 self.lines.push(Line::Close)?;
@@ -232,7 +230,7 @@ impl<S: Store + Drop> Committing<S> {
         for item in items {
             self.take(item)?;
         }
-        if let Some(batch) = self.front.idle() {
+        if let Some(batch) = self.door.idle() {
             self.apply(Parcel::Batch(batch))?;
         }
         let text = self.text()?;

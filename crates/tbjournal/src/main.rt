@@ -17,6 +17,7 @@ ghost use Rattle.std.specs.Prelude.{◌≤◌};
 ghost use Rattle.tb_layout.specs.Limits.{clock_max};
 
 mod committing;
+mod door;
 mod fault;
 mod request;
 

@@ -11,15 +11,33 @@ pub(crate) enum Request {
     Usage,
 }
 
-/// Returns what the words ask for; the first is the program's name.
+/// Returns what the first words ask for; the first of all is the program's name.
+fn asked_first(words: &mut Args) -> Option<Request> {
+    words.next()?;
+    let word = words.next()?;
+    if word.as_str() == "--help" {
+        return Some(Request::Help);
+    }
+    let path = words.next()?;
+    if word.as_str() == "list" {
+        Some(Request::List(path))
+    } else if word.as_str() == "replay" {
+        Some(Request::Replay(path))
+    } else {
+        drop(path);
+        None
+    }
+}
+
+/// Returns what the words ask for. One word too many asks for the usage.
 pub(crate) fn request_of(words: Args) -> Request {
     let mut words = words;
-    match (words.next(), words.next(), words.next(), words.next()) {
-        (Some(_), Some(word), Some(path), None) if word.as_str() == "list" => Request::List(path),
-        (Some(_), Some(word), Some(path), None) if word.as_str() == "replay" => {
-            Request::Replay(path)
-        }
-        (Some(_), Some(word), None, None) if word.as_str() == "--help" => Request::Help,
-        _ => Request::Usage,
+    let Some(request) = asked_first(&mut words) else {
+        return Request::Usage;
+    };
+    if words.next().is_some() {
+        drop(request);
+        return Request::Usage;
     }
+    request
 }
