@@ -133,8 +133,8 @@ fn thirty_thousand_packets_of_each_of_two(rt: HostRuntime) {
     assert_replies(&rt, rt.alloc(), 30_000, 0, 4, 2, 0);
 }
 
-/// With a credit of one each packet is a batch.
+/// Each pulse is an entry of the journal, and with a credit of one each packet is too.
 #[test]
-fn seventy_thousand_packets_among_as_many_pulses(rt: HostRuntime) {
-    assert_replies(&rt, rt.alloc(), 70_000, 0, 1, 1, 70_000);
+fn seventy_thousand_pulses_among_a_thousand_packets(rt: HostRuntime) {
+    assert_replies(&rt, rt.alloc(), 1000, 0, 1, 1, 70_000);
 }
