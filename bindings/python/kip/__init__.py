@@ -257,7 +257,7 @@ def _load(path):
         "open_seeded": [address, u64, u32, u32, u64, u64], "reserve": [address, size, size],
         "submit_bytes": [address, u32, u8, address, size, u64, address], "pulse": [address, u64],
         "shut": [address], "flush": [address], "reply_bytes": [address, address, address, size], "stopped": [address],
-        "lookup_account": [address, u64, u64, address], "account_at": [address, size, address],
+        "lookup_account": [address, u64, u64, address], "account_at": [address, size, address], "transfer_at": [address, size, address, address],
         "lookup_transfer": [address, u64, u64, address, address], "clock": [address, address],
     }.items():
         call = getattr(library, f"kip_{name}")
