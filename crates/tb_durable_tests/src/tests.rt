@@ -142,6 +142,23 @@ fn goes_on_at_the_next_place(rt: HostRuntime) {
     drop(last);
 }
 
+/// A packet whose number isn't its submitter's next is not stored, since no ledger could be opened on it. What was committed before it
+/// is there.
+#[test]
+fn packets_out_of_turn(rt: HostRuntime) {
+    for number in [0, 2, u64::MAX] {
+        let mut ledger = opened(&rt, empty_store(&rt));
+        check!(&rt; commit(&rt, &mut ledger, batch_of(&rt, 7, 0, two_accounts(&rt))) == 0);
+        check!(&rt; ledger.numbers()[7] == 1);
+        let outcomes = ledger.apply(Parcel::Batch(batch_of(&rt, 7, number, largest_packet(&rt))));
+        check!(&rt; first_place(outcomes).is_none());
+        check!(&rt; ledger.stopped() && !ledger.in_doubt() && ledger.fault().is_none());
+        let again = opened(&rt, ledger.into_store());
+        check!(&rt; facts(&again) == Some([1, 7, 0, 0]) && again.numbers()[7] == 1);
+        drop(again);
+    }
+}
+
 /// Returns a row with an empty body.
 fn row_of(alloc: Global, place: i64, operation: i64, stubs: &[u8]) -> Result<Row, AllocError>
     ensures { IfOk result (λ row. IsTrue (is_int (rowid row))) }
