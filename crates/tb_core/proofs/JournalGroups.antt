@@ -20,6 +20,7 @@ use Rattle.tb_core.specs.Grouping.{operation_of, can_join, can_stand_with, event
 use Rattle.tb_core.specs.EndedRun.{IsPrefix}
 use Rattle.tb_core.specs.Journal.{LedgerState, groups_since}
 use Rattle.tb_core.specs.Ledger.{Applied, apply_result, must_stop, apply_step, with_entry}
+use Rattle.tb_core.specs.AnyLedger.{Applying, IsApplied, IsWithJournal}
 use Rattle.tb_core.specs.BareLedger.{BareLedgerState, with_journal, groups_in, HasSent, Records}
 use Rattle.tb_core.specs.declared.journal.Entry.{Entry}
 use Rattle.tb_core.specs.declared.outcomes.Outcomes.{Outcomes}
@@ -159,7 +160,25 @@ has_applied refused ledger handed next some is = subst (HasApplied ledger handed
   joined = λ start limit. joined_more refused start ledger handed limit some;
 })
 
+pub is_applied : (refused : Bool) (ledger next : LedgerState) (handed : Parcel) (outcomes : Outcomes) → HasPackets handed
+    → apply_result next outcomes ≡ apply_step refused ledger handed → IsApplied ledger handed outcomes next
+is_applied refused ledger next handed outcomes some is =
+    let applied = has_applied refused ledger handed (apply_result next outcomes) some is in
+    record { refused = refused; step = is; commits = applied.commits; joined = applied.joined }
+
 -- a bare ledger that applied a parcel
+pub bare_applied : (refused : Bool) (bare : BareLedgerState) (handed : Parcel) (outcomes : Outcomes)
+    (entry : Option Entry) (next : BareLedgerState) → HasPackets handed → Records refused handed bare outcomes entry next
+    → Applying (IsWithJournal bare) handed outcomes (IsWithJournal next)
+bare_applied refused bare handed outcomes entry next some records old was =
+    let groups = old.groups ++ groups_in entry in
+    let made = records old.groups was.committed in (
+      with_journal next groups,
+      record { same = refl; committed = made.0 },
+      is_applied refused old (with_journal next groups) handed outcomes some
+          (made.1 ∙ ap (λ (ledger : LedgerState). apply_step refused ledger handed) (sym was.same)),
+    )
+
 pub sent_more : (refused : Bool) (bare : BareLedgerState) (handed : Parcel) (outcomes : Outcomes) (entry : Option Entry)
     (next : BareLedgerState) → HasPackets handed → Records refused handed bare outcomes entry next →
     (start : LedgerState) (limit : ℕ) (decisions : List Decision) (replies : List ReplyValue)

@@ -11,4 +11,5 @@ pub mod Grouping
 pub mod Ledger
 pub mod Run
 pub mod BareLedger
+pub mod AnyLedger
 pub mod inside

@@ -161,6 +161,7 @@ impl BareLedger {
     ghost use Rattle.tb_core.specs.Journal.{LedgerState};
     ghost use Rattle.tb_core.specs.Ledger.{new_ledger};
     ghost use Rattle.tb_core.specs.BareLedger.{new_bare_ledger, halts, Applies, HasSent, IsBatch, IsEntryIf, Records};
+    ghost use Rattle.tb_core.specs.AnyLedger.{Applying, IsWithJournal};
 
     /// Returns a ledger that has committed nothing, whose clock starts at a number of nanoseconds, 0 to `CLOCK_MAX`,
     /// and that hashes ids with a seed, as `Ledger::with_seed` does. Takes no memory.
@@ -313,9 +314,19 @@ impl BareLedger {
         }
     }
 
+    /// Applies one parcel as `apply` does if its allocation fails, as `Ledger::apply_as_refused` does. Takes no memory. By it
+    /// a caller that can't store a parcel stops the ledger.
+    pub fn apply_as_refused(&mut self, parcel: Parcel) -> Outcomes
+        ensures applied { Records true parcel self.old result None self.new }
+        ensures applying { Applying (IsWithJournal self.old) parcel result (IsWithJournal self.new) }
+    {
+        self.refuse(parcel)
+    }
+
     /// Applies one parcel, and returns its outcomes, as `Ledger::apply` does. It takes memory for the facts.
     pub fn apply(&mut self, parcel: Parcel) -> Outcomes
         ensures applied { Applies parcel self.old result self.new }
+        ensures applying { Applying (IsWithJournal self.old) parcel result (IsWithJournal self.new) }
         ensures sent { (start : LedgerState) (limit : ℕ) (decisions : List Decision) (replies : List ReplyValue)
             → IsJoinedParcel limit parcel → HasSent start limit decisions self.old replies
             → HasSent start limit (decisions ++ decisions_in parcel) self.new (replies ++ replies_in result) }

@@ -25,6 +25,7 @@
 //! `two_runs_are_one` says of both what holds of one.
 #![tactic(auto)]
 
+mod any_ledger;
 mod bare_ledger;
 mod front;
 mod journal;
@@ -34,6 +35,7 @@ mod list;
 mod outcomes;
 mod parcel;
 
+pub use any_ledger::AnyLedger;
 pub use bare_ledger::BareLedger;
 pub use front::Front;
 pub use journal::Entry;
