@@ -2,17 +2,15 @@
 use Rattle.std.proofs.Common.{refl, sym, ap, subst, ◌∙◌, ◌≡◌, ℕ, Bool, true, false, List, [], ◌∷◌, ◌++◌, length, append-nil}
 use Rattle.std.specs.Prelude.{◌||◌}
 use Rattle.std.proofs.lemmas.Grind.{flat_map-append}
-use Rattle.tb_work.specs.Packet.{ReplyValue}
 use Rattle.tb_core.specs.declared.parcel.Parcel.{Parcel}
 use Rattle.tb_core.specs.declared.parcel.Parcel.TheVariants as parcel
 use Rattle.tb_core.specs.declared.outcomes.Outcomes.{Outcomes}
 use Rattle.tb_core.specs.declared.outcomes.Outcomes.TheVariants as outcomes
 use Rattle.tb_core.specs.Front.{all_decisions_in, decisions_in}
 use Rattle.tb_core.specs.Grouping.{AreJoined, AreJoinedParcels, IsJoinedParcel}
-use Rattle.tb_core.specs.EndedRun.{IsPrefix}
+use Rattle.tb_core.specs.AnyLedger.{Applying, IsApplied}
 use Rattle.tb_core.specs.Journal.{LedgerState, groups_since}
 use Rattle.tb_core.specs.Ledger.{Applied, apply_result, must_stop, apply_step}
-use Rattle.tb_core.specs.inside.Decision.{Decision}
 use Rattle.tb_core.specs.Run.{Commits, replies_in}
 use Rattle.tb_pipe.specs.Carried.{is_last, is_final, has_final, answers_in, given_on, IsCommitted, CommittedTo}
 use Rattle.tb_pipe.proofs.Lists.{either_same, none_more, any_more, all_first}
@@ -53,19 +51,23 @@ last_of : (limit : ℕ) (sent : List Parcel) (handed : Parcel) → AreJoinedParc
 last_of limit [] handed all = all.0
 last_of limit (first ∷ sent) handed all = last_of limit sent handed all.1
 
-pub parcel_more : (start : LedgerState) (sent : List Parcel) (handed : Parcel) (last : Bool) (ledger next : LedgerState)
-    (before : List Outcomes) (given : Outcomes) → last ≡ is_last handed →
-    (refused : Bool) × (apply_result next given ≡ apply_step refused ledger handed) →
-    ((start : LedgerState) (sent : List Decision) (replies : List ReplyValue) → Commits start sent ledger replies
-    → Commits start (sent ++ decisions_in handed) next (replies ++ replies_in given)) →
-    ((start : LedgerState) (limit : ℕ) → IsPrefix start.groups ledger.groups → IsJoinedParcel limit handed
-    → AreJoined limit (groups_since start ledger) → AreJoined limit (groups_since start next))
-    → IsCommitted start sent ledger before →
-    CommittedTo last start (sent ++ handed ∷ []) next (before ++ given_on given)
-parcel_more start sent handed last ledger next before given last_is step more joined_more is = by last last_is
+pub parcel_more : (start : LedgerState) (sent : List Parcel) (handed : Parcel) (last : Bool)
+    (was is : LedgerState → Type 0) (before : List Outcomes) (given : Outcomes) → last ≡ is_last handed
+    → Applying was handed given is → IsCommitted start sent was before →
+    CommittedTo last start (sent ++ handed ∷ []) is (before ++ given_on given)
+parcel_more start sent handed last was is before given last_is applying has = by last last_is
   where
+    step : (next : LedgerState) × is next × IsApplied has.ledger handed given next
+    step = applying has.ledger has.now
+
+    next : LedgerState
+    next = step.0
+
+    applied : IsApplied has.ledger handed given next
+    applied = step.2
+
     final : is_final given ≡ is_last handed
-    final = final_is step.0 ledger next handed given step.1
+    final = final_is applied.refused has.ledger next handed given applied.step
 
     spelling : all_decisions_in (sent ++ handed ∷ []) ≡ all_decisions_in sent ++ decisions_in handed
     spelling = flat_map-append decisions_in sent (handed ∷ [])
@@ -73,18 +75,20 @@ parcel_more start sent handed last ledger next before given last_is step more jo
 
     commits : Commits start (all_decisions_in (sent ++ handed ∷ [])) next (answers_in before ++ replies_in given)
     commits = subst (λ ps. Commits start ps next (answers_in before ++ replies_in given)) (sym spelling)
-        (more start (all_decisions_in sent) (answers_in before) is.commits)
+        (applied.commits start (all_decisions_in sent) (answers_in before) has.commits)
 
     joined : (limit : ℕ) → AreJoinedParcels limit (sent ++ handed ∷ []) → AreJoined limit (groups_since start next)
     joined limit all =
-        joined_more start limit is.commits.continues (last_of limit sent handed all)
-        (is.joined limit (all_first (IsJoinedParcel limit) sent (handed ∷ []) all))
+        applied.joined start limit has.commits.continues (last_of limit sent handed all)
+        (has.joined limit (all_first (IsJoinedParcel limit) sent (handed ∷ []) all))
 
-    by : (last : Bool) → last ≡ is_last handed → CommittedTo last start (sent ++ handed ∷ []) next
+    by : (last : Bool) → last ≡ is_last handed → CommittedTo last start (sent ++ handed ∷ []) is
         (before ++ given_on given)
     by true ends =
         let end : given ≡ outcomes.Last = is_the_last given (final ∙ sym ends) in
         record {
+          ledger = next;
+          now = step.1;
           before = before;
           parts = ap (λ (o : Outcomes). before ++ given_on o) end;
           commits = subst (λ rs. Commits start (all_decisions_in (sent ++ handed ∷ [])) next rs)
@@ -92,13 +96,15 @@ parcel_more start sent handed last ledger next before given last_is step more jo
               ∙ append-nil (answers_in before)) commits;
           joined = joined;
           ended = any_more is_last sent handed (sym ends);
-          unfinished = is.unfinished;
+          unfinished = has.unfinished;
         }
     by false ends = record {
+      ledger = next;
+      now = step.1;
       commits = subst (λ rs. Commits start (all_decisions_in (sent ++ handed ∷ [])) next rs)
           (ap (λ rs. answers_in before ++ rs) (sym (answers-given_on given))
           ∙ sym (flat_map-append replies_in before (given_on given))) commits;
       joined = joined;
-      unended = none_more is_last sent (handed ∷ []) is.unended (ap (λ found. found || false) (sym ends));
-      unfinished = none_more is_final before (given_on given) is.unfinished (none_final given (final ∙ sym ends));
+      unended = none_more is_last sent (handed ∷ []) has.unended (ap (λ found. found || false) (sym ends));
+      unfinished = none_more is_final before (given_on given) has.unfinished (none_final given (final ∙ sym ends));
     }

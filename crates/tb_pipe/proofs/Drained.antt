@@ -40,13 +40,13 @@ pub record HasRun (start : LedgerState) (limit : ℕ) (queue : List Ticket) (led
 
 -- where each stage took all that the one before it gave, and gave all that it made of it
 pub drained : (start : LedgerState) (intake : IntakeState)
-    (given_parcels taken_parcels left_parcels : List Parcel) (ledger : LedgerState)
+    (given_parcels taken_parcels left_parcels : List Parcel) (is : LedgerState → Type 0)
     (given_outcomes taken_outcomes left_outcomes : List Outcomes) →
-    AllBatched intake given_parcels → AllCommitted start taken_parcels ledger given_outcomes
+    AllBatched intake given_parcels → (committed : AllCommitted start taken_parcels is given_outcomes)
     → taken_parcels ++ left_parcels ≡ given_parcels → taken_outcomes ++ left_outcomes ≡ given_outcomes
     → has_final taken_outcomes ≡ true →
-    HasRun start intake.limit intake.taken ledger (answers_in taken_outcomes)
-drained start intake given_parcels taken_parcels left_parcels ledger given_outcomes taken_outcomes
+    HasRun start intake.limit intake.taken committed.ledger (answers_in taken_outcomes)
+drained start intake given_parcels taken_parcels left_parcels is given_outcomes taken_outcomes
     left_outcomes batched committed parcels_are outcomes_are final =
     let all_parcels : taken_parcels ≡ batched.before
     ++ parcel.Last ∷ [] =
@@ -68,8 +68,8 @@ drained start intake given_parcels taken_parcels left_parcels ledger given_outco
         stopped = batched.stopped;
         decisions = all_decisions_in batched.before;
         passed = batched.passes;
-        commits = subst (λ rs. Commits start (all_decisions_in batched.before) ledger rs) (sym answers)
-            (subst (λ ps. Commits start ps ledger (answers_in committed.before)) spelling committed.commits);
+        commits = subst (λ rs. Commits start (all_decisions_in batched.before) committed.ledger rs) (sym answers)
+            (subst (λ ps. Commits start ps committed.ledger (answers_in committed.before)) spelling committed.commits);
       };
       joined = committed.joined intake.limit (subst (AreJoinedParcels intake.limit) (sym all_parcels)
           (all_more (IsJoinedParcel intake.limit) batched.before (parcel.Last ∷ []) batched.joined (tt, tt)));

@@ -47,12 +47,14 @@ fresh_batched intake front given under among passes knows holds no_queue none =
     none_in_a_row (x ∷ before) after group next is = cc
 
 -- a ledger with which a run may begin
-pub fresh_committed : (taken : List Parcel) (ledger : LedgerState) (given : List Outcomes) → Commits ledger [] ledger []
-    → ((limit : ℕ) → AreJoined limit (groups_since ledger ledger)) → taken ≡ [] → given ≡ []
-    → IsCommitted ledger taken ledger given
-fresh_committed taken ledger given begins joined untaken none =
-    subst (λ ps. IsCommitted ledger ps ledger given) (sym untaken)
-    (subst (λ os. IsCommitted ledger [] ledger os) (sym none) (record {
+pub fresh_committed : (taken : List Parcel) (is : LedgerState → Type 0) (ledger : LedgerState) (given : List Outcomes)
+    → is ledger → Commits ledger [] ledger [] → ((limit : ℕ) → AreJoined limit (groups_since ledger ledger))
+    → taken ≡ [] → given ≡ [] → IsCommitted ledger taken is given
+fresh_committed taken is ledger given now begins joined untaken none =
+    subst (λ ps. IsCommitted ledger ps is given) (sym untaken)
+    (subst (λ os. IsCommitted ledger [] is os) (sym none) (record {
+      ledger = ledger;
+      now = now;
       commits = begins;
       joined = λ limit is. joined limit;
       unended = refl;

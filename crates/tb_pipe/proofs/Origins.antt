@@ -1,10 +1,10 @@
 -- Rings and origins that stay the same while the stages run.
 use Rattle.std.proofs.Common.{refl, sym, ap, subst, ◌∙◌, arith, ◌≡◌, ◌<◌, ℕ, zero, suc, ◌+◌, get_or, List, [], ◌∷◌, length}
 use Rattle.tb_work.specs.Packet.{ReplyValue}
-use Rattle.tb_rings.specs.Ends.{given, taken, outlet_ring}
+use Rattle.tb_rings.specs.Ends.{outlet_ring}
 use Rattle.tb_rings.specs.declared.Outlet.{Outlet}
 use Rattle.tb_submit.specs.Ends.{IntakeState, Origin, Seat, origins, origins_from, seat_at}
-use Rattle.tb_pipe.specs.Carried.{AllCommitted}
+use Rattle.tb_core.specs.Journal.{LedgerState}
 use Rattle.tb_pipe.specs.Outlets.{SameOutlets}
 use Rattle.tb_pipe.specs.Stages.{HaveServed}
 use Rattle.tb_pipe.specs.Run.{IsPipeline, IsServed, pipeline_of, served_of}
@@ -43,22 +43,21 @@ seat-origins seats n (outlet ∷ outlets) (suc k) d below =
 -- ---- serving
 
 -- what serving leaves is known of what it was handed
-pub record IsServedOf (stages : Stages) (remains : Remains) : Type 0 where
-  pub served : IsServed remains
+pub record IsServedOf {L : Type 0} (is : L → LedgerState → Type 0) (stages : Stages L) (remains : Remains L) : Type 0 where
+  pub served : IsServed is remains
   pub start : (served_of remains).start ≡ (pipeline_of stages).start
   pub submitters : (served_of remains).submitters ≡ (pipeline_of stages).submitters
 
-pub served_is : (stages : Stages) (remains : Remains) → IsPipeline stages → HaveServed stages remains
-    → IsServedOf stages remains
-served_is stages remains is served =
+pub served_is : {L : Type 0} (may_be : L → LedgerState → Type 0) (stages : Stages L) (remains : Remains L)
+    → IsPipeline may_be stages → HaveServed may_be stages remains → IsServedOf may_be stages remains
+served_is {L = L} may_be stages remains is served =
     let same = served.intake in
     record {
       served = record {
         rings = (served.rings.1 ∙ is.rings.0 ∙ sym served.rings.0, served.rings.3 ∙ is.rings.1 ∙ sym served.rings.2);
         number = served.rings.4.0 ∙ is.number ∙ sym (ap (λ (i : IntakeState). i.submitters) same);
         batched = served.batched;
-        committed = subst (λ start. AllCommitted start (taken remains.committed.inlet) remains.committed.ledger
-            (given remains.committed.outlet)) (sym served.start) served.committed;
+        committed = λ start began. served.committed start (subst (λ (ledger : L). may_be ledger start) served.start began);
         routed = served.routed;
       };
       start = served.start;

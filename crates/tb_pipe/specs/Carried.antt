@@ -125,17 +125,21 @@ pub record AllBatched (intake : IntakeState) (given : List Parcel) : Type 0 wher
   pub unended : has_last before ≡ false
   pub ended : HaveAllEnded intake.submitters intake.taken
 
--- since it was `start` a ledger took these parcels, and these outcomes were given on
-pub record IsCommitted (start : LedgerState) (taken : List Parcel) (ledger : LedgerState)
+-- since it was `start` a ledger, which may be one of these, took these parcels, and these outcomes were given on
+pub record IsCommitted (start : LedgerState) (taken : List Parcel) (is : LedgerState → Type 0)
     (given : List Outcomes) : Type 0 where
+  pub ledger : LedgerState
+  pub now : is ledger
   pub commits : Commits start (all_decisions_in taken) ledger (answers_in given)
   pub joined : (limit : ℕ) → AreJoinedParcels limit taken → AreJoined limit (groups_since start ledger)
   pub unended : has_last taken ≡ false
   pub unfinished : has_final given ≡ false
 
 -- the last parcel was taken too, and the last outcome was given on after all others
-pub record AllCommitted (start : LedgerState) (taken : List Parcel) (ledger : LedgerState)
+pub record AllCommitted (start : LedgerState) (taken : List Parcel) (is : LedgerState → Type 0)
     (given : List Outcomes) : Type 0 where
+  pub ledger : LedgerState
+  pub now : is ledger
   pub before : List Outcomes
   pub parts : given ≡ before ++ outcomes.Last ∷ []
   pub commits : Commits start (all_decisions_in taken) ledger (answers_in before)
@@ -143,6 +147,6 @@ pub record AllCommitted (start : LedgerState) (taken : List Parcel) (ledger : Le
   pub ended : has_last taken ≡ true
   pub unfinished : has_final before ≡ false
 
-abbrev pub CommittedTo : Bool → LedgerState → List Parcel → LedgerState → List Outcomes → Type 0
-CommittedTo true start taken ledger given = AllCommitted start taken ledger given
-CommittedTo false start taken ledger given = IsCommitted start taken ledger given
+abbrev pub CommittedTo : Bool → LedgerState → List Parcel → (LedgerState → Type 0) → List Outcomes → Type 0
+CommittedTo true start taken is given = AllCommitted start taken is given
+CommittedTo false start taken is given = IsCommitted start taken is given

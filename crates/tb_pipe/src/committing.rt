@@ -12,33 +12,33 @@ use crate::waiting::give_waiting;
 use std::snapshot::Snapshot;
 use std::sync::Wait;
 use std::thread::Promise;
-use tb_core::{Ledger, Outcomes, Parcel};
+use tb_core::{AnyLedger, Outcomes, Parcel};
 use tb_rings::{Inlet, Outlet, SpinWait};
 
 /// The committer's ends of its two rings, and its ledger.
 #[derive(Drop)]
-pub(crate) struct Committer {
+pub(crate) struct Committer<L> {
     pub(crate) inlet: Inlet<Parcel>,
     pub(crate) outlet: Outlet<Outcomes>,
-    pub(crate) ledger: Ledger,
+    pub(crate) ledger: L,
 }
 
 /// The promise that the returned ring ends are those of this stage, and that all that was taken is committed, whatever the
 /// ledger was when its run began.
 #[derive(Drop)]
-pub(crate) struct Commitment {
-    pub(crate) stage: Snapshot<Committer>,
+pub(crate) struct Commitment<L> {
+    pub(crate) stage: Snapshot<Committer<L>>,
 }
 
-impl Promise<Committer> for Commitment {
+impl<L: AnyLedger> Promise<Committer<L>> for Commitment<L> {
     ghost use Rattle.std.specs.Prelude.{◌≡◌};
     ghost use Rattle.tb_rings.specs.Ends.{given, taken, SameOutlet, SameInlet};
     ghost use Rattle.tb_core.specs.Journal.{LedgerState};
     ghost use Rattle.tb_pipe.specs.Carried.{IsCommitted, AllCommitted};
 
     ghost kept_by = { λ p r. SameInlet p.stage.value.inlet r.inlet × SameOutlet p.stage.value.outlet r.outlet
-        × ((start : LedgerState) → IsCommitted start (taken p.stage.value.inlet) p.stage.value.ledger
-        (given p.stage.value.outlet) → AllCommitted start (taken r.inlet) r.ledger (given r.outlet)) };
+        × ((start : LedgerState) → IsCommitted start (taken p.stage.value.inlet) (L.is p.stage.value.ledger)
+        (given p.stage.value.outlet) → AllCommitted start (taken r.inlet) (L.is r.ledger) (given r.outlet)) };
 }
 
 /// Returns whether a parcel is the last.
@@ -63,15 +63,16 @@ fn give_on<R: Wait>(rt: &R, outlet: &mut Outlet<Outcomes>, outcomes: Outcomes)
 }
 
 /// Passes one parcel through the ledger; whether it is the last.
-fn commit<R: Wait>(
+fn commit<R: Wait, L: AnyLedger>(
     rt: &R,
-    ledger: &mut Ledger,
+    ledger: &mut L,
     outlet: &mut Outlet<Outcomes>,
     cleared: Cleared,
 ) -> bool
     ensures ring { SameOutlet outlet.old outlet.new }
     ensures committed { (start : LedgerState) (sent : List ParcelValue)
-        → IsCommitted start sent ledger.old (given outlet.old) → CommittedTo result start (sent ++ cleared ∷ []) ledger.new (given outlet.new) }
+        → IsCommitted start sent (L.is ledger.old) (given outlet.old)
+        → CommittedTo result start (sent ++ cleared ∷ []) (L.is ledger.new) (given outlet.new) }
 {
     let parcel = cleared.into_parcel();
     let last = is_last(&parcel);
@@ -80,14 +81,14 @@ fn commit<R: Wait>(
     last
 }
 
-impl Committer {
+impl<L: AnyLedger> Committer<L> {
     /// Commits until the last parcel, and gives all replies on, and then the last outcome. The gate let each batch
     /// through, by its number among those that were taken here.
     pub(crate) fn commit_all<R: Wait, G: Gate>(&mut self, rt: &R, gate: &G)
         ensures same { SameInlet self.old.inlet self.new.inlet × SameOutlet self.old.outlet self.new.outlet }
         ensures all { (start : LedgerState)
-            → IsCommitted start (taken self.old.inlet) self.old.ledger (given self.old.outlet)
-            → AllCommitted start (taken self.new.inlet) self.new.ledger (given self.new.outlet) }
+            → IsCommitted start (taken self.old.inlet) (L.is self.old.ledger) (given self.old.outlet)
+            → AllCommitted start (taken self.new.inlet) (L.is self.new.ledger) (given self.new.outlet) }
         ensures through { (number : ℕ)
             × AreCleared (G.lets_through gate.now) (taken self.old.inlet) (taken self.new.inlet) number }
     {

@@ -7,12 +7,13 @@ ghost use Rattle.tb_submit.specs.Refusals.{IsSubmitRefusal, submit_refusal};
 ghost use Rattle.tb_work.specs.declared.refusal.Refusal.TheVariants as refusal;
 ghost use Rattle.tb_drive.specs.Ahead.{with_packet};
 ghost use Rattle.tb_drive.specs.Seen.{HaveSeen};
-ghost use Rattle.tb_pipe.specs.Reported.{AreTasksOf, AreTogether, HasFinishedWith, HasRun};
+ghost use Rattle.tb_drive.specs.Tasks.{task_share};
+ghost use Rattle.tb_pipe.specs.Reported.{AreTasksOf, AreTogether, GoesFrom, HasFinishedWith, HasRun};
 
 use crate::gate::Open;
 use crate::opening::Opened;
 use crate::serving::{Pipeline, Served};
-use crate::settling::{Report, settle};
+use crate::settling::{Report, settle_over};
 use std::alloc::Global;
 use std::snapshot::Snapshot;
 use std::sync::Wait;
@@ -21,18 +22,19 @@ use std::thread::{Scope, Threads};
 use tb_drive::{
     ControlDriver, ControlResult, DriveFault, Driver, Joined, Stop, Tasks, submit_once,
 };
+use tb_core::{AnyLedger, Ledger};
 use tb_submit::Ended;
 use tb_work::{Packet, Refusal};
 
 /// A run that has ended: its report, the drivers in the order of their submitters, and the control's driver.
 #[derive(Drop)]
-pub struct Finished<D, C> {
-    pub report: Report,
+pub struct Finished<D, C, L: AnyLedger = Ledger> {
+    pub report: Report<L>,
     /// The report's ends from before they were settled, as a ghost copy without bytes. Contracts name by it what each
     /// submitter queued, since a settled end doesn't say that.
     pub unsettled: Snapshot<Vec<Ended>>,
     /// The pipeline as it was served, as a ghost copy. Contracts name by it the queue that the batcher took.
-    pub served: Snapshot<Served>,
+    pub served: Snapshot<Served<L>>,
     pub drivers: Vec<D>,
     pub control: C,
 }
@@ -41,10 +43,10 @@ pub struct Finished<D, C> {
 /// submitter, so it precedes what its driver queues; it precedes what other drivers queue too, since the queue is first
 /// in, first out. No other end is touched; after 2^56 packets the queue is full. A refused packet is returned, and nothing
 /// is changed.
-pub fn submit_ahead<R: Wait>(
+pub fn submit_ahead<R: Wait, L: AnyLedger>(
     rt: &R,
     alloc: Global,
-    opened: &mut Opened,
+    opened: &mut Opened<L>,
     submitter: usize,
     packet: Packet,
 ) -> Result<u64, (Packet, Refusal)>
@@ -71,20 +73,23 @@ pub fn submit_ahead<R: Wait>(
 }
 
 /// Starts the senders' threads, serves until all senders have ended, joins the threads and settles.
-fn run<'s, E, D, C, R>(
+fn run<'s, E, D, C, R, L>(
     scope: &Scope<'s, E>,
     rt: &'s R,
     alloc: Global,
-    pipeline: Pipeline,
+    pipeline: Pipeline<L>,
     tasks: Tasks<D, C>,
     stop: &'s Stop,
-) -> Result<Finished<D, C>, DriveFault>
+) -> Result<Finished<D, C, L>, DriveFault>
 where
     D: Driver + Send + 's,
     C: ControlDriver + Send + 's,
     R: Threads + Wait + Sync,
+    L: AnyLedger + Send,
     requires { AreTasksOf pipeline.intake pipeline.submitters tasks }
-    ensures { IfOk result (HasRun D.has_seen D.has_ended D.share C.has_ended pipeline.start pipeline.intake tasks) }
+    ensures reported { IfOk result (λ finished. GoesFrom (L.is pipeline.start) (L.is finished.report.ledger)
+        (HasRun D.has_seen D.has_ended C.has_ended pipeline.intake tasks finished)) }
+    ensures shares { IfOk result (λ finished. map D.share finished.drivers.items ≡ map task_share tasks.submitters) }
 {
     let running = tasks.start(scope, rt, alloc, stop)?;
     let Ok(served) = pipeline.serve(rt, &Open) else {
@@ -98,7 +103,7 @@ where
     let ControlResult { end, driver } = control;
     let unsettled = Snapshot::of(&ends);
     let taken = Snapshot::of(&served);
-    let report = settle(served, ends, end);
+    let report = settle_over(served, ends, end);
     Ok(Finished {
         report,
         unsettled,
@@ -123,8 +128,35 @@ pub fn drive_all<D: Driver + Send, C: ControlDriver + Send, R: Threads + Wait + 
     requires number { length drivers.items ≡ length opened.pipeline.submitters }
     requires seen { HaveSeen D.has_seen drivers.items opened.submitters.items }
     requires queued { C.has_queued control control [] }
-    ensures reported { IfOk result (HasFinishedWith D.has_seen D.has_ended (C.has_ended control) opened.pipeline.start
-        opened.pipeline.intake opened.submitters.items opened.control) }
+    ensures reported { IfOk result (λ finished. HasFinishedWith D.has_seen D.has_ended (C.has_ended control)
+        opened.pipeline.intake opened.submitters.items opened.control finished opened.pipeline.start
+        finished.report.ledger) }
+    ensures shares { IfOk result (λ finished. map D.share finished.drivers.items ≡ map D.share drivers.items) }
+{
+    drive_over(rt, alloc, opened, drivers, control)
+}
+
+/// Runs a pipeline over any ledger, as `drive_all` runs one over a `Ledger`. What it reports holds of each ledger that the run may
+/// have begun with: a journal that isn't in memory is known only to clauses.
+pub fn drive_over<D, C, R, L>(
+    rt: &R,
+    alloc: Global,
+    opened: Opened<L>,
+    drivers: Vec<D>,
+    control: C,
+) -> Result<Finished<D, C, L>, DriveFault>
+where
+    D: Driver + Send,
+    C: ControlDriver + Send,
+    R: Threads + Wait + Sync,
+    L: AnyLedger + Send,
+    requires together { AreTogether opened.pipeline opened.submitters.items opened.control }
+    requires number { length drivers.items ≡ length opened.pipeline.submitters }
+    requires seen { HaveSeen D.has_seen drivers.items opened.submitters.items }
+    requires queued { C.has_queued control control [] }
+    ensures reported { IfOk result (λ finished. GoesFrom (L.is opened.pipeline.start) (L.is finished.report.ledger)
+        (HasFinishedWith D.has_seen D.has_ended (C.has_ended control) opened.pipeline.intake opened.submitters.items
+        opened.control finished)) }
     ensures shares { IfOk result (λ finished. map D.share finished.drivers.items ≡ map D.share drivers.items) }
 {
     let Opened {
@@ -138,10 +170,11 @@ pub fn drive_all<D: Driver + Send, C: ControlDriver + Send, R: Threads + Wait + 
     thread::scope(
         thread::scope_env(),
         rt,
-        |scope| -> Result<Finished<D, C>, DriveFault>
+        |scope| -> Result<Finished<D, C, L>, DriveFault>
             requires { AreTasksOf pipeline.intake pipeline.submitters tasks }
-            ensures { IfOk result (HasRun D.has_seen D.has_ended D.share C.has_ended pipeline.start pipeline.intake
-                tasks) }
+            ensures reported { IfOk result (λ finished. GoesFrom (L.is pipeline.start) (L.is finished.report.ledger)
+                (HasRun D.has_seen D.has_ended C.has_ended pipeline.intake tasks finished)) }
+            ensures shares { IfOk result (λ finished. map D.share finished.drivers.items ≡ map task_share tasks.submitters) }
         {
             let finished = run(scope, rt, alloc, pipeline, tasks, stop);
             if finished.is_err() {

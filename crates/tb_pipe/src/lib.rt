@@ -34,8 +34,8 @@ mod settling;
 mod stages;
 mod waiting;
 
-pub use driving::{Finished, drive_all, submit_ahead};
+pub use driving::{Finished, drive_all, drive_over, submit_ahead};
 pub use gate::{Gate, Open};
 pub use opening::{Opened, open};
 pub use serving::{Pipeline, Served};
-pub use settling::{Report, settle};
+pub use settling::{Report, settle, settle_over};

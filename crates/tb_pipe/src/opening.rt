@@ -12,7 +12,7 @@ use crate::routing::Demultiplexer;
 use crate::serving::Pipeline;
 use crate::stages::Stages;
 use std::alloc::Global;
-use tb_core::{Front, Ledger, Outcomes, Parcel};
+use tb_core::{AnyLedger, Front, Ledger, Outcomes, Parcel};
 use tb_rings::{Inlet, Outlet, ring};
 use tb_submit::{Control, Submitter, open_queue};
 use tb_work::Refusal;
@@ -22,8 +22,8 @@ const STAGE_SLOTS: usize = 8;
 
 /// A pipeline with its ends: the submitter of number i is that at index i.
 #[derive(Drop)]
-pub struct Opened {
-    pub pipeline: Pipeline,
+pub struct Opened<L: AnyLedger = Ledger> {
+    pub pipeline: Pipeline<L>,
     pub submitters: Vec<Submitter>,
     pub control: Control,
 }

@@ -1,6 +1,7 @@
 //! A pipeline, as its callers see it.
 
-ghost use Rattle.std.specs.Prelude.{◌≡◌, false, IfOk, IfErr};
+ghost use Rattle.std.specs.Prelude.{◌≡◌, false, true, IfOk, IfErr, OnOk, OnErr};
+ghost use Rattle.tb_core.specs.Journal.{LedgerState};
 ghost use Rattle.tb_work.specs.declared.refusal.Refusal.TheVariants.{NoThread as NoThreadRefusal};
 ghost use Rattle.tb_pipe.specs.Run.{IsServed, served_of};
 ghost use Rattle.tb_pipe.specs.Stages.{IsReady, HaveServed};
@@ -11,16 +12,16 @@ use std::marker::Model;
 use std::sync::Wait;
 use std::thread;
 use std::thread::Threads;
-use tb_core::Ledger;
+use tb_core::{AnyLedger, Ledger};
 use tb_submit::Intake;
 use tb_work::Refusal;
 
-/// A pipeline that is to be served: the stages between the submission queue and the replies.
-pub struct Pipeline {
-    pub(crate) stages: Stages,
+/// A pipeline that is to be served: the stages between the submission queue and the replies, over a ledger.
+pub struct Pipeline<L: AnyLedger = Ledger> {
+    pub(crate) stages: Stages<L>,
 }
 
-impl Drop for Pipeline {
+impl<L: AnyLedger> Drop for Pipeline<L> {
     /// Frees the stages in one call, so that a caller's proof doesn't repeat it.
     fn drop(self) {
         let Pipeline { stages } = self;
@@ -28,22 +29,22 @@ impl Drop for Pipeline {
     }
 }
 
-impl Model for Pipeline {
+impl<L: AnyLedger> Model for Pipeline<L> {
     ghost use Rattle.tb_pipe.specs.Run.{PipelineState, pipeline_of, IsPipeline};
 
-    ghost Value = { PipelineState };
+    ghost Value = { PipelineState L };
 
     ghost view = { λ p. pipeline_of p.stages };
 
-    ghost invariant = { λ p. IsPipeline p.stages };
+    ghost invariant = { λ p. IsPipeline L.is p.stages };
 }
 
 /// A pipeline that was served.
-pub struct Served {
-    pub(crate) remains: Remains,
+pub struct Served<L: AnyLedger = Ledger> {
+    pub(crate) remains: Remains<L>,
 }
 
-impl Drop for Served {
+impl<L: AnyLedger> Drop for Served<L> {
     /// Lets the remains go in one call, as a pipeline's stages.
     fn drop(self) {
         let Served { remains } = self;
@@ -51,20 +52,20 @@ impl Drop for Served {
     }
 }
 
-impl Model for Served {
+impl<L: AnyLedger> Model for Served<L> {
     ghost use Rattle.tb_pipe.specs.Run.{ServedState, served_of, IsServed};
 
-    ghost Value = { ServedState };
+    ghost Value = { ServedState L };
 
     ghost view = { λ s. served_of s.remains };
 
-    ghost invariant = { λ s. IsServed s.remains };
+    ghost invariant = { λ s. IsServed L.is s.remains };
 }
 
-impl Served {
+impl<L: AnyLedger> Served<L> {
     /// Returns what the stages left, taken out.
-    pub(crate) fn into_remains(self) -> Remains
-        ensures served { IsServed result }
+    pub(crate) fn into_remains(self) -> Remains<L>
+        ensures served { IsServed L.is result }
         ensures same { self ≡ served_of result }
     {
         let Served { remains } = self;
@@ -89,6 +90,26 @@ impl Pipeline {
         stages.committer.ledger = ledger;
         Pipeline { stages }
     }
+}
+
+impl<L: AnyLedger> Pipeline<L> {
+    /// Returns the pipeline over another ledger, as `with_ledger` does: one that keeps no journal in memory (`BareLedger`), or
+    /// one of the caller's own. A ledger that has stopped comes back, and the pipeline is spent.
+    pub fn over<M: AnyLedger>(self, ledger: M) -> Result<Pipeline<M>, M>
+        ensures ok { IfOk result (λ pipeline. pipeline
+            ≡ record { start = ledger; intake = self.intake; submitters = self.submitters }) }
+        ensures back { IfErr result (λ back. back ≡ ledger) }
+        ensures goes_on { (now : LedgerState) → M.is ledger now → OnOk result (now.stopped ≡ false) }
+        ensures stopped { (now : LedgerState) → M.is ledger now → OnErr result (now.stopped ≡ true) }
+    {
+        if ledger.stopped() {
+            return Err(ledger);
+        }
+        let Pipeline { stages } = self;
+        Ok(Pipeline {
+            stages: stages.over(ledger),
+        })
+    }
 
     /// Commits what is queued and hands the replies out, until each submitter and the control have ended; so each
     /// driver ends its sender, whatever fails in it. The calling thread is the batcher; it starts the committer and
@@ -99,7 +120,9 @@ impl Pipeline {
         self,
         rt: &R,
         gate: &G,
-    ) -> Result<Served, (Intake, Refusal)>
+    ) -> Result<Served<L>, (Intake, Refusal)>
+    where
+        L: Send,
         ensures start { IfOk result (λ served. served.start ≡ self.start) }
         ensures intake { IfOk result (λ served. served.intake ≡ record self.intake {
           taken = served.intake.taken;
@@ -115,9 +138,9 @@ impl Pipeline {
         let served = thread::scope(
             thread::scope_env(),
             rt,
-            |scope| -> Result<Remains, Intake>
-                requires { IsReady stages }
-                ensures served { IfOk result (λ remains. HaveServed stages remains) }
+            |scope| -> Result<Remains<L>, Intake>
+                requires { IsReady L.is stages }
+                ensures served { IfOk result (λ remains. HaveServed L.is stages remains) }
                 ensures refused { IfErr result (λ intake. intake ≡ stages.intake) }
             { stages.run(scope, rt, gate) },
         );

@@ -15,39 +15,39 @@ use crate::waiting::give_waiting;
 use std::snapshot::Snapshot;
 use std::sync::Wait;
 use std::thread::{PromisedHandle, Scope, Threads};
-use tb_core::{Front, Ledger, Parcel};
+use tb_core::{AnyLedger, Front, Parcel};
 use tb_rings::Outlet;
 use tb_submit::Intake;
 
 /// The stages before they run: the batcher's intake, front and end of the batch ring, the committer and the
 /// demultiplexer, with a ghost copy of the ledger that the run starts with.
 #[derive(Drop)]
-pub(crate) struct Stages {
-    pub(crate) start: Snapshot<Ledger>,
+pub(crate) struct Stages<L> {
+    pub(crate) start: Snapshot<L>,
     pub(crate) intake: Intake,
     pub(crate) front: Front,
     pub(crate) batches: Outlet<Parcel>,
-    pub(crate) committer: Committer,
+    pub(crate) committer: Committer<L>,
     pub(crate) demultiplexer: Demultiplexer,
 }
 
 /// What the stages leave, with the same ghost copy.
 #[derive(Drop)]
-pub(crate) struct Remains {
-    pub(crate) start: Snapshot<Ledger>,
+pub(crate) struct Remains<L> {
+    pub(crate) start: Snapshot<L>,
     pub(crate) intake: Intake,
     pub(crate) batches: Outlet<Parcel>,
-    pub(crate) committed: Committer,
+    pub(crate) committed: Committer<L>,
     pub(crate) routed: Demultiplexer,
 }
 
 /// Starts the committer.
-fn start_committer<'s, E, R: Wait + Sync, G: Gate>(
+fn start_committer<'s, E, R: Wait + Sync, G: Gate, L: AnyLedger + Send + 's>(
     scope: &Scope<'s, E>,
     rt: &'s R,
     gate: &'s G,
-    stage: Committer,
-) -> Option<PromisedHandle<Committer, Commitment>>
+    stage: Committer<L>,
+) -> Option<PromisedHandle<Committer<L>, Commitment<L>>>
     ensures { IfSome result (λ handle. handle.promise.stage.value ≡ stage) }
 {
     let promise = Commitment {
@@ -55,10 +55,11 @@ fn start_committer<'s, E, R: Wait + Sync, G: Gate>(
     };
     let started = scope.spawn_with(
         promise,
-        move || -> Committer
+        move || -> Committer<L>
             ensures same { SameInlet stage.inlet result.inlet × SameOutlet stage.outlet result.outlet }
-            ensures all { (start : LedgerState) → IsCommitted start (taken stage.inlet) stage.ledger (given stage.outlet)
-                → AllCommitted start (taken result.inlet) result.ledger (given result.outlet) }
+            ensures all { (start : LedgerState)
+                → IsCommitted start (taken stage.inlet) (L.is stage.ledger) (given stage.outlet)
+                → AllCommitted start (taken result.inlet) (L.is result.ledger) (given result.outlet) }
         {
             let mut stage = stage;
             stage.commit_all(rt, gate);
@@ -95,7 +96,44 @@ fn start_demultiplexer<'s, E, R: Wait + Sync>(
     started.ok()
 }
 
-impl Stages {
+impl<L: AnyLedger> Stages<L> {
+    /// Returns the stages over another ledger, with which a run begins.
+    pub(crate) fn over<M: AnyLedger>(self, ledger: M) -> Stages<M>
+        ensures start { result.start.value ≡ ledger }
+        ensures ledger { result.committer.ledger ≡ ledger }
+        ensures front { (result.intake ≡ self.intake) × (result.front ≡ self.front) × (result.batches ≡ self.batches) }
+        ensures rings { (result.committer.inlet ≡ self.committer.inlet) × (result.committer.outlet ≡ self.committer.outlet) }
+        ensures back { result.demultiplexer ≡ self.demultiplexer }
+    {
+        let Stages {
+            start,
+            intake,
+            front,
+            batches,
+            committer,
+            demultiplexer,
+        } = self;
+        drop(start);
+        let Committer {
+            inlet,
+            outlet,
+            ledger: before,
+        } = committer;
+        drop(before);
+        Stages {
+            start: Snapshot::of(&ledger),
+            intake,
+            front,
+            batches,
+            committer: Committer {
+                inlet,
+                outlet,
+                ledger,
+            },
+            demultiplexer,
+        }
+    }
+
     /// Returns the intake, and frees all else.
     pub(crate) fn into_intake(self) -> Intake
         ensures { result ≡ self.intake }
@@ -123,9 +161,11 @@ impl Stages {
         scope: &Scope<'s, E>,
         rt: &'s R,
         gate: &'s G,
-    ) -> Result<Remains, Intake>
-        requires { IsReady self }
-        ensures served { IfOk result (λ remains. HaveServed self remains) }
+    ) -> Result<Remains<L>, Intake>
+    where
+        L: Send + 's,
+        requires { IsReady L.is self }
+        ensures served { IfOk result (λ remains. HaveServed L.is self remains) }
         ensures refused { IfErr result (λ intake. intake ≡ self.intake) }
     {
         let Stages {

@@ -2,8 +2,8 @@ use Rattle.tb_pipe.proofs.Commits.{parcel_more}
 use Rattle.tb_pipe.proofs.committing.commit.Goals as goal
 
 pub returns-clause-committed : goal.returns-clause-committed
-returns-clause-committed g c = λ start sent is.
+returns-clause-committed g c = λ start sent has.
     rw (← c.into_parcel-parcel.ensures, c.give_on.ensures.given)
-    (parcel_more start sent c.into_parcel-parcel.result c.is_last-last.result c.args.ledger.now c.apply-outcomes.new.self _
-    c.apply-outcomes.result c.is_last-last.ensures c.apply-outcomes.ensures.applied
-    c.apply-outcomes.ensures.commits c.apply-outcomes.ensures.joined is)
+    (parcel_more start sent c.into_parcel-parcel.result c.is_last-last.result (g.L.AnyLedger.is c.args.ledger.now)
+    (g.L.AnyLedger.is c.apply-outcomes.new.self) _ c.apply-outcomes.result c.is_last-last.ensures
+    c.apply-outcomes.ensures.applied has)

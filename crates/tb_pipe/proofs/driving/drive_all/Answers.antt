@@ -1,51 +1,13 @@
-use Rattle.std.proofs.Common.{◌∙◌, ap, length, map, subst, sym}
-use Rattle.std.proofs.lemmas.List.{length-map}
-use Rattle.std.proofs.lemmas.Result.{IfOk-from_err, IfOk-weaker}
-use Rattle.tb_submit.specs.Ends.{origin_of}
-use Rattle.tb_drive.specs.Tasks.{ControlTaskState, task_submitter}
-use Rattle.tb_pipe.specs.Reported.{HasFinishedWith, HasRun}
+use Rattle.std.proofs.Common.{refl, subst}
+use Rattle.std.proofs.lemmas.Result.{IfOk-weaker}
+use Rattle.tb_pipe.specs.Reported.{HasFinishedWith}
 use Rattle.tb_pipe.proofs.driving.drive_all.Goals as goal
 
+-- a `Ledger` is only itself
 pub returns-clause-reported : goal.returns-clause-reported
 returns-clause-reported g c =
-    let opened = c.args.opened in
-    let tasks = c.in_ok-tasks.tasks in
-    let ended = g.C.ControlDriver.has_ended in
-    let said = HasFinishedWith g.D.Driver.has_seen g.D.Driver.has_ended in
-    IfOk-weaker c.scoped.result
-    (HasRun g.D.Driver.has_seen g.D.Driver.has_ended g.D.Driver.share ended opened.pipeline.start
-    opened.pipeline.intake tasks)
-    (said (ended c.args.control) opened.pipeline.start opened.pipeline.intake opened.submitters.items opened.control)
-    (λ finished run. subst (λ before. said (ended c.args.control) opened.pipeline.start opened.pipeline.intake before
-    opened.control finished) c.in_ok-tasks.ensures.submitters
-    (subst (λ (control : ControlTaskState _). said (ended control.driver) opened.pipeline.start opened.pipeline.intake
-    (map task_submitter tasks.submitters) control.control finished) c.in_ok-tasks.ensures.control run.0))
-    c.scoped.ensures.1
-
-pub returns-clause-shares : goal.returns-clause-shares
-returns-clause-shares g c =
-    IfOk-weaker c.scoped.result _ _ (λ finished run. run.1 ∙ c.in_ok-tasks.ensures.shares) c.scoped.ensures.1
-
-pub returns-in_err-stop-clause-reported : goal.returns-in_err-stop-clause-reported
-returns-in_err-stop-clause-reported g c = IfOk-from_err c.from_residual.result _ c.from_residual.ensures.0
-
-pub returns-in_err-stop-clause-shares : goal.returns-in_err-stop-clause-shares
-returns-in_err-stop-clause-shares g c = IfOk-from_err c.from_residual.result _ c.from_residual.ensures.0
-
-pub returns-in_err-tasks-clause-reported : goal.returns-in_err-tasks-clause-reported
-returns-in_err-tasks-clause-reported g c =
-    IfOk-from_err c.from_residual-in_err-tasks.result _ c.from_residual-in_err-tasks.ensures.0
-
-pub returns-in_err-tasks-clause-shares : goal.returns-in_err-tasks-clause-shares
-returns-in_err-tasks-clause-shares g c =
-    IfOk-from_err c.from_residual-in_err-tasks.result _ c.from_residual-in_err-tasks.ensures.0
-
-pub of-requires-2-clause-number : goal.of-requires-2-clause-number
-of-requires-2-clause-number g c = λ _ _.
-    c.requires.number ∙ sym (ap length c.requires.together.0) ∙ length-map c.args.opened.submitters.items origin_of
-
-pub of-requires-2-clause-seen : goal.of-requires-2-clause-seen
-of-requires-2-clause-seen g c = λ _ _. c.requires.seen
-
-pub of-requires-2-clause-queued : goal.of-requires-2-clause-queued
-of-requires-2-clause-queued g c = λ _ _. c.requires.queued
+    IfOk-weaker c.drive_over.result _ _ (λ finished goes.
+    let said = goes c.args.opened.pipeline.start refl in
+    subst (HasFinishedWith g.D.Driver.has_seen g.D.Driver.has_ended (g.C.ControlDriver.has_ended c.args.control)
+    c.args.opened.pipeline.intake c.args.opened.submitters.items c.args.opened.control finished
+    c.args.opened.pipeline.start) said.1 said.2) c.drive_over.ensures.reported

@@ -24,7 +24,7 @@ returns g c =
     let drivers = joined.drivers.items in
     let end = joined.control.end in
     let said_joined = c.in_ok-ends.ensures in
-    let settled = c.settle-report.ensures in
+    let settled = c.settle_over-report.ensures in
     let results : AreResultsOf tasks ends (map g.D.Driver.share drivers) =
     subst (λ (all : TasksState _). AreResultsOf all.submitters ends (map g.D.Driver.share drivers))
     c.in_ok-running.ensures said_joined.submitters in
@@ -44,40 +44,46 @@ returns g c =
     λ k d within. ap (λ (seat : Seat). seat.limit) (settled.seats k d within) in
     let copied : c.of-unsettled.result.value.items ≡ ends = search rules in
     let taken : c.of-taken.result.value.intake.taken ≡ served.intake.taken = search rules in
-    let said = λ (start : LedgerState) (intake : IntakeState) (queue : List Ticket) (unsettled : List EndedState)
+    let said = λ (start ledger : LedgerState) (intake : IntakeState) (queue : List Ticket) (unsettled : List EndedState)
     (last : SenderState).
     HasReported g.D.Driver.has_seen g.D.Driver.has_ended (run_of (record intake { taken = queue }) unsettled last
-    start c.settle-report.result.ledger c.settle-report.result.ends.items) start intake.limit before unsettled
-    c.settle-report.result.ends.items last drivers in
-    let reported : said served.start served.intake served.intake.taken ends end = record {
-      opening = settled.opening;
-      began = refl;
-      own = results.own ∙ sym (map-map origin_of task_submitter tasks);
-      ahead = results.front;
-      settled = settled.settled;
-      controlled = queued_by_control ends end served.intake.submitters served.submitters own number;
-      report = settled.report;
-      headline = settled.headline;
-      grouping = settled.grouping;
-      pulses = settled.pulses;
-      number = settled.long;
-      driven = said_joined.number ∙ long;
-      seen = once_settled g.D.Driver.has_seen served.intake.limit drivers ends _ end (settled.long ∙ sym long) limits
-          settled.read said_joined.seen;
-      ended = once_settled g.D.Driver.has_ended served.intake.limit drivers ends _ end (settled.long ∙ sym long) limits
-          settled.read said_joined.ended;
-    } in
+    start ledger c.settle_over-report.result.ends.items) start intake.limit before unsettled
+    c.settle_over-report.result.ends.items last drivers in
     let after : SenderState = with_items c.args.tasks.control.control control.0 in
     let queue = c.of-taken.result.value.intake.taken in
-    let unsettled = c.of-unsettled.result.value.items in (
-      (
-        control.0,
-        control.2,
-        subst (λ start. said start c.args.pipeline.intake queue unsettled after) c.in-Ok.ensures.start
-            (subst (λ intake. said served.start intake queue unsettled after) c.in-Ok.ensures.intake
-            (subst (λ last. said served.start served.intake queue unsettled last) control.1
-            (subst (λ copied. said served.start served.intake queue copied end) (sym copied)
-            (subst (λ tickets. said served.start served.intake tickets ends end) (sym taken) reported)))),
-      ),
-      results.shares_are,
-    )
+    let unsettled = c.of-unsettled.result.value.items in
+    record {
+      reported = λ start began.
+          let report = settled.report start (subst (λ ledger. g.L.AnyLedger.is ledger start) (sym c.in-Ok.ensures.start) began) in
+          let ledger = report.0 in
+          let reported : said start ledger served.intake served.intake.taken ends end = record {
+            opening = report.2.opening;
+            began = refl;
+            own = results.own ∙ sym (map-map origin_of task_submitter tasks);
+            ahead = results.front;
+            settled = settled.settled;
+            controlled = queued_by_control ends end served.intake.submitters served.submitters own number;
+            report = report.2.report;
+            headline = report.2.headline;
+            grouping = report.2.grouping;
+            pulses = report.2.pulses;
+            number = settled.long;
+            driven = said_joined.number ∙ long;
+            seen = once_settled g.D.Driver.has_seen served.intake.limit drivers ends _ end (settled.long ∙ sym long)
+                limits settled.read said_joined.seen;
+            ended = once_settled g.D.Driver.has_ended served.intake.limit drivers ends _ end (settled.long ∙ sym long)
+                limits settled.read said_joined.ended;
+          } in (
+            ledger,
+            report.1,
+            (
+              control.0,
+              control.2,
+              subst (λ intake. said start ledger intake queue unsettled after) c.in-Ok.ensures.intake
+                  (subst (λ last. said start ledger served.intake queue unsettled last) control.1
+                  (subst (λ copied. said start ledger served.intake queue copied end) (sym copied)
+                  (subst (λ tickets. said start ledger served.intake tickets ends end) (sym taken) reported))),
+            ),
+          );
+      shares = results.shares_are;
+    }

@@ -1,4 +1,4 @@
-use Rattle.std.proofs.Common.{◌∙◌, ap, arith, subst, sym}
+use Rattle.std.proofs.Common.{◌≡◌, ◌∙◌, ap, arith, refl, subst, sym}
 use Rattle.tb_core.specs.Journal.{LedgerState}
 use Rattle.tb_core.specs.Front.{FrontState}
 use Rattle.tb_rings.specs.Ends.{given, taken}
@@ -34,10 +34,10 @@ invariant_of-result c =
     record {
       ready = record {
         batched = batched;
-        committed = subst (λ start. IsCommitted start (taken c.in-Some.rings.parcels) c.new-ledger.result
-            (given c.in-Some.rings.made)) (sym c.begin.ensures.start)
-            (fresh_committed (taken c.in-Some.rings.parcels) c.new-ledger.result (given c.in-Some.rings.made)
-            (c.begin.ensures.commits (ap (λ (ledger : LedgerState). ledger.stopped) c.new-ledger.ensures.ledger))
+        committed = λ start began. subst (λ start. IsCommitted start (taken c.in-Some.rings.parcels)
+            (λ state. state ≡ c.new-ledger.result) (given c.in-Some.rings.made)) (sym (began ∙ c.begin.ensures.start))
+            (fresh_committed (taken c.in-Some.rings.parcels) (λ state. state ≡ c.new-ledger.result) c.new-ledger.result
+            (given c.in-Some.rings.made) refl (c.begin.ensures.commits (ap (λ (ledger : LedgerState). ledger.stopped) c.new-ledger.ensures.ledger))
             c.begin.ensures.joined empty.1 empty.2);
         replies = fresh_replies (taken c.in-Some.rings.outcomes) c.in_ok-ends.ends.outlets.items empty.3
             c.in_ok-ends.ensures.outlets.1;

@@ -1,23 +1,30 @@
-use Rattle.std.proofs.Common.{rules}
+use Rattle.std.proofs.Common.{refl, subst}
+use Rattle.tb_core.specs.Journal.{LedgerState}
+use Rattle.tb_pipe.specs.Reported.{IsReport}
+use Rattle.tb_pipe.specs.SettledRun.{run_of}
 use Rattle.tb_pipe.proofs.settling.settle.Goals as goal
 
-pub settle_remains-requires-clause-ends : goal.settle_remains-requires-clause-ends
-settle_remains-requires-clause-ends c = search rules
+-- a `Ledger` is only itself
+reported : (c : goal.After-settle_over) → IsReport (run_of c.args.served.intake c.args.ends.items c.args.control
+    c.args.served.start c.settle_over.result.ledger c.settle_over.result.ends.items) c.args.served.start
+    c.args.served.intake.limit c.args.control.queued
+reported c =
+    let said = c.settle_over.ensures.report c.args.served.start refl in
+    subst (λ (ledger : LedgerState). IsReport (run_of c.args.served.intake c.args.ends.items c.args.control
+    c.args.served.start ledger c.settle_over.result.ends.items) c.args.served.start c.args.served.intake.limit
+    c.args.control.queued) said.1 said.2
 
 pub returns-clause-report : goal.returns-clause-report
-returns-clause-report c = search rules
-
-pub returns-clause-grouping : goal.returns-clause-grouping
-returns-clause-grouping c = rw c.into_remains.ensures.same c.settle_remains.ensures.grouping
-
-pub returns-clause-read : goal.returns-clause-read
-returns-clause-read c = search rules
+returns-clause-report c = (reported c).report
 
 pub returns-clause-headline : goal.returns-clause-headline
-returns-clause-headline c = search rules
+returns-clause-headline c = (reported c).headline
 
-pub returns-clause-settled : goal.returns-clause-settled
-returns-clause-settled c = search rules
+pub returns-clause-grouping : goal.returns-clause-grouping
+returns-clause-grouping c = (reported c).grouping
 
-pub returns-clause-seats : goal.returns-clause-seats
-returns-clause-seats c = rw c.into_remains.ensures.same c.settle_remains.ensures.seats
+pub returns-clause-pulses : goal.returns-clause-pulses
+returns-clause-pulses c = (reported c).pulses
+
+pub returns-clause-opening : goal.returns-clause-opening
+returns-clause-opening c = (reported c).opening

@@ -53,7 +53,8 @@ returns-in_ok-text_of-in-Ok g c =
     ap (λ (start : LedgerState). inputs_since start ledger) c.requires.first in
     let long = length-map c.args.drivers.items share_of ∙ c.requires.number ∙ c.requires.together.2 in
     record {
-      run = run_in opened.pipeline.start opened.pipeline.intake (with_items opened.control items) finished;
+      run = run_in opened.pipeline.intake (with_items opened.control items) opened.pipeline.start
+          finished.report.ledger finished;
       told = told;
       clock_is = reported.opening;
       first = ap inputs c.requires.first;

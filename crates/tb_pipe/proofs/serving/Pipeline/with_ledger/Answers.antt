@@ -1,4 +1,4 @@
-use Rattle.std.proofs.Common.{subst, sym}
+use Rattle.std.proofs.Common.{◌≡◌, ◌∙◌, refl, subst, sym}
 use Rattle.tb_rings.specs.Ends.{given, taken}
 use Rattle.tb_pipe.specs.Carried.{IsCommitted}
 use Rattle.tb_pipe.proofs.Fresh.{fresh_committed}
@@ -11,8 +11,9 @@ invariant_of-result c =
     record {
       ready = record {
         batched = is.ready.batched;
-        committed = subst (λ start. IsCommitted start (taken committer.inlet) c.args.ledger (given committer.outlet))
-            (sym c.begin.ensures.start) (fresh_committed (taken committer.inlet) c.args.ledger (given committer.outlet)
+        committed = λ start began. subst (λ start. IsCommitted start (taken committer.inlet) (λ state. state ≡ c.args.ledger)
+            (given committer.outlet)) (sym (began ∙ c.begin.ensures.start)) (fresh_committed (taken committer.inlet)
+            (λ state. state ≡ c.args.ledger) c.args.ledger (given committer.outlet) refl
             (c.begin.ensures.commits c.requires) c.begin.ensures.joined is.unserved.0 is.unserved.1);
         replies = is.ready.replies;
       };

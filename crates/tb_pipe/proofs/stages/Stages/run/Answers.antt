@@ -20,6 +20,6 @@ returns-clause-served g c =
       start = refl;
       intake = c.batch_all.ensures.intake;
       batched = rw c.into_outlet.ensures c.batch_all.ensures.all;
-      committed = committed.2 c.args.self.start.value c.requires.committed;
+      committed = λ start began. committed.2 start (c.requires.committed start began);
       routed = routed.2;
     }
