@@ -5,13 +5,16 @@ use Rattle.tb_layout.specs.Events.{Input}
 use Rattle.tb_layout.specs.Limits.{clock_max}
 use Rattle.tb_layout.specs.inside.Limits.{places_max}
 use Rattle.tb_machine.specs.Replay.{State, replay, opening as no_inputs}
+use Rattle.tb_work.specs.Answer.{reply_with}
 use Rattle.tb_work.specs.Packet.{ReplyValue}
+use Rattle.tb_work.specs.declared.outcome.Outcome.TheVariants as outcome
 use Rattle.tb_core.specs.declared.journal.Entry.{Entry}
 use Rattle.tb_core.specs.declared.outcomes.Outcomes.{Outcomes}
+use Rattle.tb_core.specs.declared.outcomes.Outcomes.TheVariants.{Cut, One, Nothing, Last}
 use Rattle.tb_core.specs.declared.parcel.Parcel.{Parcel}
 use Rattle.tb_core.specs.declared.parcel.Parcel.TheVariants as parcel
 use Rattle.tb_core.specs.Grouping.{AreJoined}
-use Rattle.tb_core.specs.inside.Decision.{Decision}
+use Rattle.tb_core.specs.inside.Decision.{Decision, cause_outcome}
 use Rattle.tb_core.specs.Journal.{LedgerState, groups_since}
 use Rattle.tb_core.specs.Ledger.{group_of, IsEntry, AreEntries, apply_result, apply_step}
 use Rattle.tb_core.specs.Run.{Commits}
@@ -86,6 +89,19 @@ IsBatch other = ⊥
 abbrev pub Applies : Parcel → BareLedgerState → Outcomes → BareLedgerState → Type 0
 Applies handed old outcomes new =
     (refused : Bool) × (entry : Option Entry) × (refused ≡ true → IsBatch handed) × Records refused handed old outcomes entry new
+
+-- a bare ledger after a parcel that was refused: it stopped, unless there was nothing to commit
+abbrev pub after_refusal : BareLedgerState → Parcel → BareLedgerState
+after_refusal bare (parcel.Batch jobs) = record bare { stopped = true }
+after_refusal bare (parcel.Pulse moment) = record bare { stopped = true }
+after_refusal bare other = bare
+
+-- the outcomes of a parcel that was refused: each packet of a batch is answered Stopped
+abbrev pub refusal_of : Parcel → Outcomes
+refusal_of (parcel.Batch jobs) = Cut (map (reply_with outcome.Stopped) jobs)
+refusal_of (parcel.Pulse moment) = Nothing
+refusal_of (parcel.Return job cause) = One (reply_with (cause_outcome cause) job)
+refusal_of parcel.Last = Last
 
 -- since it was `start` a bare ledger took these decisions, in groups lawful under a limit; these are the replies
 pub record HasSent (start : LedgerState) (limit : ℕ) (decisions : List Decision) (bare : BareLedgerState)

@@ -161,6 +161,7 @@ impl BareLedger {
     ghost use Rattle.tb_core.specs.Journal.{LedgerState};
     ghost use Rattle.tb_core.specs.Ledger.{new_ledger};
     ghost use Rattle.tb_core.specs.BareLedger.{new_bare_ledger, halts, Applies, HasSent, IsBatch, IsEntryIf, Records};
+    ghost use Rattle.tb_core.specs.BareLedger.{after_refusal, refusal_of};
     ghost use Rattle.tb_core.specs.AnyLedger.{Applying, IsWithJournal};
 
     /// Returns a ledger that has committed nothing, whose clock starts at a number of nanoseconds, 0 to `CLOCK_MAX`,
@@ -298,6 +299,8 @@ impl BareLedger {
     /// Applies one parcel as `apply` does if its allocation fails. Takes no memory.
     pub(crate) fn refuse(&mut self, parcel: Parcel) -> Outcomes
         ensures applied { Records true parcel self.old result None self.new }
+        ensures stopped { self.new ≡ after_refusal self.old parcel }
+        ensures outcomes { result ≡ refusal_of parcel }
         ensures some { HasPackets parcel }
     {
         match parcel {
@@ -318,6 +321,8 @@ impl BareLedger {
     /// a caller that can't store a parcel stops the ledger.
     pub fn apply_as_refused(&mut self, parcel: Parcel) -> Outcomes
         ensures applied { Records true parcel self.old result None self.new }
+        ensures stopped { self.new ≡ after_refusal self.old parcel }
+        ensures outcomes { result ≡ refusal_of parcel }
         ensures applying { Applying (IsWithJournal self.old) parcel result (IsWithJournal self.new) }
     {
         self.refuse(parcel)
