@@ -1,18 +1,19 @@
 -- What was committed of a parcel.
-use Rattle.std.proofs.Common.{◌≡◌, ◌+◌, ℕ, Bool, true, false, List, [], ◌∷◌, ◌++◌, refl, ap, subst, length, map}
+use Rattle.std.proofs.Common.{◌≡◌, ◌+◌, ℕ, Bool, true, false, List, [], ◌∷◌, ◌++◌, refl, ap, sym, subst, ◌∙◌, append-nil, length, map}
 use Rattle.std.specs.Prelude.{if◌then◌else◌, ◌||◌, nat_lt}
 use Rattle.tb_layout.specs.Events.{Input, Pulse}
 use Rattle.tb_layout.specs.inside.Limits.{places_max}
 use Rattle.tb_work.specs.Answer.{reply_with}
 use Rattle.tb_work.specs.Packet.{Numbered, input_of}
 use Rattle.tb_work.specs.declared.outcome.Outcome.TheVariants as outcome
+use Rattle.tb_core.specs.declared.parcel.Parcel.{Parcel}
 use Rattle.tb_core.specs.declared.parcel.Parcel.TheVariants as parcel
 use Rattle.tb_core.specs.declared.outcomes.Outcomes.{Outcomes}
 use Rattle.tb_core.specs.declared.outcomes.Outcomes.TheVariants.{Cut, Nothing}
 use Rattle.tb_core.specs.Journal.{LedgerState, inputs}
-use Rattle.tb_core.specs.Ledger.{Applied, apply_result, must_stop, step_of_batch, with_entry, with_stop}
+use Rattle.tb_core.specs.Ledger.{Applied, apply_result, apply_step, must_stop, step_of_batch, with_entry, with_stop}
 use Rattle.tb_core.specs.BareLedger.{BareLedgerState, HasCommitted, Applies, with_journal, groups_in}
-use Rattle.tb_durable.specs.Durable.{AddsGroup}
+use Rattle.tb_durable.specs.Durable.{AddsGroup, groups_of_parcel}
 
 module _ (before after : LedgerState) (group : List Input) (outcomes refusal answers : Outcomes) where
   -- a ledger that didn't stop has the group
@@ -59,3 +60,18 @@ module _ (old new : BareLedgerState) (outcomes : Outcomes) where
       stops (with_journal old groups) (with_journal new (groups ++ groups_in applied.1)) (map input_of jobs) outcomes
       (Cut (map (reply_with outcome.Stopped) jobs)) (step_of_batch (with_journal old groups) jobs).outcomes
       old.stopped (applied.0 || nat_lt places_max (length (inputs (with_journal old groups)) + length jobs)) refl done.1 stop
+
+-- a ledger that applied a parcel and didn't stop has its groups
+pub grew : (handed : Parcel) (old new : LedgerState) (outcomes : Outcomes) (refused : Bool)
+    → apply_result new outcomes ≡ apply_step refused old handed → new.stopped ≡ false
+    → new.groups ≡ old.groups ++ groups_of_parcel handed
+grew (parcel.Batch jobs) old new outcomes refused is on =
+    ap (λ (l : LedgerState). l.groups) (goes_on old new (map input_of jobs) outcomes
+    (Cut (map (reply_with outcome.Stopped) jobs)) (step_of_batch old jobs).outcomes
+    (must_stop refused old (length jobs)) is on)
+grew (parcel.Pulse moment) old new outcomes refused is on =
+    ap (λ (l : LedgerState). l.groups)
+    (goes_on old new (Pulse moment ∷ []) outcomes Nothing Nothing (must_stop refused old 1) is on)
+grew (parcel.Return job cause) old new outcomes refused is on =
+    ap (λ (a : Applied). a.ledger.groups) is ∙ sym (append-nil old.groups)
+grew parcel.Last old new outcomes refused is on = ap (λ (a : Applied). a.ledger.groups) is ∙ sym (append-nil old.groups)

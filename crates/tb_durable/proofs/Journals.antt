@@ -1,5 +1,5 @@
 -- A journal with one row more.
-use Rattle.std.proofs.Common.{◌≡◌, ◌<◌, ◌+◌, ◌⊎◌, inl, inr, ℕ, pos, Bool, false, List, [], ◌∷◌, ◌++◌, refl, sym, ap, subst, ◌∙◌, arith, length, length-append, append-nil, map}
+use Rattle.std.proofs.Common.{◌≡◌, ◌<◌, ◌+◌, ◌⊎◌, inl, inr, ℕ, pos, false, List, [], ◌∷◌, ◌++◌, refl, sym, ap, subst, ◌∙◌, arith, length, length-append, append-nil, map}
 use Rattle.std.specs.List.{flat_map}
 use Rattle.std.proofs.lemmas.Grind.{flat_map-append}
 use Rattle.std.proofs.lemmas.List.{length-map, map-append}
@@ -13,7 +13,7 @@ use Rattle.tb_core.specs.declared.outcomes.Outcomes.{Outcomes}
 use Rattle.tb_core.specs.declared.parcel.Parcel.TheVariants as parcel
 use Rattle.tb_core.specs.BareLedger.{Applies, BareLedgerState, HasCommitted, new_bare_ledger}
 use Rattle.tb_durable.specs.Rows.{group_in, jobs_row}
-use Rattle.tb_durable.specs.Durable.{IsBelow, IsFirst, IsJournal, IsSettled, IsStored, Adds, IsAdded, AddsGroup, LeavesWith}
+use Rattle.tb_durable.specs.Durable.{IsBelow, IsFirst, IsJournal, IsSettled, IsStored, Adds, IsAdded, AddsGroup, LeavesWith, groups_of}
 use Rattle.tb_durable.proofs.Applied.{adds_batch}
 use Rattle.tb_durable.proofs.RowLemmas.{all_below_later, all_below_push, first-Less, put_row-last, place-Less}
 
@@ -65,6 +65,13 @@ one_more rows row old new j adds some at =
       below = all_below_push new.places rows row (all_below_later old.places new.places rows more j.below) place;
     }
 
+-- the groups of a journal with more rows
+pub groups_more : (rows more : List Row) (first : Row) (entries : List Row) → rows ≡ first ∷ entries
+    → groups_of (rows ++ more) ≡ groups_of rows ++ map group_in more
+groups_more rows more first entries is =
+    ap (λ all. groups_of (all ++ more)) is ∙ map-append group_in entries more
+    ∙ ap (λ all. groups_of all ++ map group_in more) (sym is)
+
 -- ---- over a store
 
 module _ (old : View) (row : Row) (before : BareLedgerState) (at_rest : IsSettled old)
@@ -89,10 +96,10 @@ module _ (old : View) (row : Row) (before : BareLedgerState) (at_rest : IsSettle
   left_last db added = added.rows ∙ last
 
 -- a crash leaves the row after the others, or what it could leave before
-pub leaves_with_row : (old : View) (row : Row) (before : BareLedgerState) (stopped : Bool) → IsStored old stopped before
-    → stopped ≡ false → rowid row ≡ Int (pos before.places) → (was now : Trees → Type 0)
+pub leaves_with_row : (old : View) (row : Row) (before : BareLedgerState) → IsStored old before
+    → before.stopped ≡ false → rowid row ≡ Int (pos before.places) → (was now : Trees → Type 0)
     → ((db : Trees) → now db → was db ⊎ IsAdded old row db) → LeavesWith was now (old.committed 0) (row ∷ [])
-leaves_with_row old row before stopped has goes_on at was now crash db left =
+leaves_with_row old row before has goes_on at was now crash db left =
     elim (crash db left) [
       | inl there ↦ inl there
       | inr added ↦

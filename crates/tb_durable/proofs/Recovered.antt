@@ -10,8 +10,8 @@ use Rattle.tb_core.specs.BareLedger.{BareLedgerState, HasCommitted}
 use Rattle.tb_core.specs.EachSubmitter.{is_packet_of, packets_of}
 use Rattle.tb_core.specs.EndedRun.{IsPrefix}
 use Rattle.tb_durable.specs.Rows.{group_in, clock_in}
-use Rattle.tb_durable.specs.Durable.{IsJournal}
-use Rattle.tb_durable.specs.Recovery.{AreOfQueued, RecoversFromCrashes, groups_of, inputs_of}
+use Rattle.tb_durable.specs.Durable.{IsJournal, groups_of}
+use Rattle.tb_durable.specs.Recovery.{AreOfQueued, RecoversFromCrashes, inputs_of}
 
 packets-append : (submitter : ℕ) (groups more : List (List Input))
     → packets_of submitter (inputs_of (groups ++ more)) ≡ packets_of submitter (inputs_of groups) ++ packets_of submitter (inputs_of more)

@@ -1,16 +1,14 @@
 -- A ledger over a store.
-use Rattle.std.specs.Prelude.{◌≡◌, ◌⊎◌, ℕ, pos, negsuc, Bool, false, Some, List, [], ◌∷◌, ◌++◌, map, IsTrue}
+use Rattle.std.specs.Prelude.{◌≡◌, ◌⊎◌, ℕ, pos, negsuc, false, Some, List, [], ◌∷◌, ◌++◌, map, IsTrue}
 use Rattle.std.specs.declared.cmp.Ordering.TheVariants.{Less}
 use Rattle.std.specs.List.{AllByRecursion}
-use Rattle.tb_layout.specs.Events.{Input}
-use Rattle.tb_work.specs.Answer.{reply_with}
-use Rattle.tb_work.specs.declared.outcome.Outcome.TheVariants as outcome
+use Rattle.tb_layout.specs.Events.{Input, Pulse}
+use Rattle.tb_work.specs.Packet.{input_of}
 use Rattle.tb_core.specs.declared.parcel.Parcel.{Parcel}
 use Rattle.tb_core.specs.declared.parcel.Parcel.TheVariants as parcel
-use Rattle.tb_core.specs.declared.outcomes.Outcomes.{Outcomes}
-use Rattle.tb_core.specs.declared.outcomes.Outcomes.TheVariants.{Cut, One, Nothing, Last}
-use Rattle.tb_core.specs.inside.Decision.{cause_outcome}
+use Rattle.tb_core.specs.AnyLedger.{IsWithJournal}
 use Rattle.tb_core.specs.BareLedger.{BareLedgerState, HasCommitted}
+use Rattle.tb_core.specs.Journal.{LedgerState}
 use Rattle.sqlite_value.specs.declared.value.Value.TheVariants.{Int}
 use Rattle.sqlite_value.specs.Order.{Row, value_cmp}
 use Rattle.sqlite_trees.specs.declared.store.Shape.TheVariants.{Table}
@@ -56,8 +54,8 @@ pub record IsJournal (rows : List Row) (bare : BareLedgerState) : Type 0 where
   pub below : AllByRecursion (IsBelow bare.places) rows
 
 -- unless the ledger stopped, the store has its journal, if the disk has returned what was written
-abbrev pub IsStored : View → Bool → BareLedgerState → Type 0
-IsStored view stopped bare = IsClean view → stopped ≡ false → IsSettled view × IsJournal (view.committed 0) bare
+abbrev pub IsStored : View → BareLedgerState → Type 0
+IsStored view bare = IsClean view → bare.stopped ≡ false → IsSettled view × IsJournal (view.committed 0) bare
 
 -- one group more is committed, whatever was committed before
 abbrev pub AddsGroup : BareLedgerState → BareLedgerState → List Input → Type 0
@@ -70,6 +68,24 @@ abbrev pub rows_of : ℕ → Parcel → List Row
 rows_of place (parcel.Batch jobs) = jobs_row place jobs ∷ []
 rows_of place (parcel.Pulse moment) = pulse_row place moment ∷ []
 rows_of place other = []
+
+-- the groups that a parcel adds to a journal
+abbrev pub groups_of_parcel : Parcel → List (List Input)
+groups_of_parcel (parcel.Batch jobs) = map input_of jobs ∷ []
+groups_of_parcel (parcel.Pulse moment) = (Pulse moment ∷ []) ∷ []
+groups_of_parcel other = []
+
+-- a journal's groups: those of its entries
+abbrev pub groups_of : List Row → List (List Input)
+groups_of [] = []
+groups_of (first ∷ entries) = map group_in entries
+
+-- Which ledgers a stored one may be: those with a journal that it committed. Unless it stopped, that journal is in the rows, if
+-- the disk has returned what was written.
+pub record IsKept (view : View) (bare : BareLedgerState) (ledger : LedgerState) : Type 0 where
+  pub journal : IsWithJournal bare ledger
+  pub stored : IsStored view bare
+  pub rows : IsClean view → bare.stopped ≡ false → groups_of (view.committed 0) ≡ ledger.groups
 
 -- ---- opening
 
@@ -103,12 +119,3 @@ LeavesWith old new rows added = (db : Trees) → new db → old db ⊎ (db 0 ≡
 -- a crash leaves nothing that it couldn't leave before
 abbrev pub LeavesNothingNew : (Trees → Type 0) → (Trees → Type 0) → Type 0
 LeavesNothingNew old new = (db : Trees) → new db → old db
-
--- ---- replies
-
--- nothing of the parcel is committed, as its replies say
-abbrev pub IsRefused : Parcel → Outcomes → Type 0
-IsRefused (parcel.Batch jobs) outcomes = outcomes ≡ Cut (map (reply_with outcome.Stopped) jobs)
-IsRefused (parcel.Pulse moment) outcomes = outcomes ≡ Nothing
-IsRefused (parcel.Return job cause) outcomes = outcomes ≡ One (reply_with (cause_outcome cause) job)
-IsRefused parcel.Last outcomes = outcomes ≡ Last

@@ -1,5 +1,5 @@
 -- What opening finds after a crash.
-use Rattle.std.specs.Prelude.{◌≡◌, ◌⊎◌, ℕ, List, [], ◌∷◌, ◌++◌, map}
+use Rattle.std.specs.Prelude.{◌≡◌, ◌⊎◌, ℕ, List, ◌++◌, map}
 use Rattle.std.specs.List.{flat_map}
 use Rattle.tb_layout.specs.Events.{Input}
 use Rattle.tb_core.specs.BareLedger.{BareLedgerState, HasCommitted}
@@ -8,7 +8,7 @@ use Rattle.tb_core.specs.EndedRun.{IsPrefix}
 use Rattle.sqlite_value.specs.Order.{Row}
 use Rattle.sqlite_trees.specs.Tree.{Trees}
 use Rattle.tb_durable.specs.Rows.{group_in}
-use Rattle.tb_durable.specs.Durable.{IsJournal}
+use Rattle.tb_durable.specs.Durable.{IsJournal, groups_of}
 
 -- A crash leaves these rows, or these and after them what was being stored, a row or none. Between two calls of `apply` the
 -- clause `rows` of `is_on_disk` says so, and of what a call leaves, also one that fails, its clause `crash`.
@@ -35,11 +35,6 @@ pub record IsRecovered (released last : List (List Input)) (old found : BareLedg
   pub opened : found.opening ≡ old.opening
   pub whole : (came : List Input) → IsPrefix (inputs_of (released ++ last)) came → IsPrefix (inputs_of groups) came
   pub each : (queued : ℕ → List Input) → AreOfQueued queued (released ++ last) → AreOfQueued queued groups
-
--- a journal's groups: those of its entries
-abbrev pub groups_of : List Row → List (List Input)
-groups_of [] = []
-groups_of (first ∷ entries) = map group_in entries
 
 -- A crash of a store leaves a journal's rows, or these and what was being stored. Then the ledger that is opened on what it
 -- leaves is recovered.

@@ -3,10 +3,8 @@
 ghost use Rattle.std.specs.Prelude.{◌≡◌, ◌⊎◌, ◌<◌, ◌≤◌, ◌++◌, false, true, IfOk, OnOk, IfErr, map};
 ghost use Rattle.tb_layout.specs.Limits.{clock_max};
 ghost use Rattle.tb_layout.specs.inside.Limits.{places_max};
-ghost use Rattle.tb_work.specs.Answer.{reply_with};
 ghost use Rattle.tb_work.specs.Packet.{input_of};
 ghost use Rattle.tb_batch.specs.Batch.{AreParts};
-ghost use Rattle.tb_core.specs.inside.Decision.{cause_outcome};
 ghost use Rattle.sqlite_trees.specs.Tree.{Trees};
 ghost use Rattle.sqlite_trees.specs.View.{IsClean, doubt};
 ghost use Rattle.tb_durable.specs.Rows.{jobs_row, group_in};
@@ -14,6 +12,7 @@ ghost use Rattle.tb_durable.specs.Durable.{Adds, IsAdded, LeavesNothingNew};
 
 use crate::fault::OpenFault;
 use crate::reading::read_ledger;
+use crate::replaying::number_after;
 use crate::settings::Settings;
 use crate::table::{NotStored, Table, no_memory};
 use sqlite_trees::error::StoreError;
@@ -21,11 +20,10 @@ use sqlite_trees::store::Store;
 use sqlite_value::row::Row;
 use std::alloc::Global;
 use tb_batch::{Batch, Parts};
-use tb_core::{BareLedger, Cause, Outcomes, Parcel, Seed};
-use tb_demux::Cutter;
+use tb_core::{AnyLedger, BareLedger, Outcomes, Parcel, Seed};
 use tb_layout::{CREATE_ACCOUNTS, CREATE_TRANSFERS, NoMemory, PLACES_MAX};
 use tb_machine::Machine;
-use tb_work::{Job, Moment, Outcome, Reply, Stub};
+use tb_work::{Moment, Stub};
 
 /// A ledger whose entries are stored before they are applied.
 pub struct DurableLedger<S: Store> {
@@ -33,7 +31,6 @@ pub struct DurableLedger<S: Store> {
     bare: BareLedger,
     settings: Settings,
     numbers: [u64; 16],
-    stopped: bool,
     in_doubt: bool,
     fault: Option<StoreError>,
 }
@@ -46,22 +43,11 @@ impl<S: Store + Drop> Drop for DurableLedger<S> {
             bare,
             settings: _,
             numbers: _,
-            stopped: _,
             in_doubt: _,
             fault: _,
         } = self;
         drop(table);
         drop(bare);
-    }
-}
-
-/// Returns the reply to a packet that is returned.
-fn returned(job: Job, cause: Cause) -> Reply
-    ensures { result ≡ reply_with (cause_outcome cause) job }
-{
-    match cause {
-        Cause::Shutdown => Reply::of(job, Outcome::Shutdown),
-        Cause::Stopped => Reply::of(job, Outcome::Stopped),
     }
 }
 
@@ -77,15 +63,11 @@ fn reserve_for(bare: &mut BareLedger, parts: &Parts) -> Result<(), NoMemory>
     }
 }
 
-/// Returns the next number of each submitter after packets with these stubs. None if one hasn't its submitter's next number.
+/// Returns the next number of each submitter after packets with these stubs. None if one doesn't follow its submitter's last.
 fn numbers_after(numbers: [u64; 16], stubs: &[Stub]) -> Option<[u64; 16]> {
     let mut next = numbers;
     for stub in stubs {
-        let submitter = stub.submitter as usize;
-        if submitter >= 16 || next[submitter] != stub.number || stub.number == u64::MAX {
-            return None;
-        }
-        next[submitter] = stub.number + 1;
+        next[stub.submitter as usize % 16] = number_after(&next, *stub)?;
     }
     Some(next)
 }
@@ -119,7 +101,9 @@ impl<S: Store + Drop> DurableLedger<S> {
     ghost use Rattle.std.specs.Prelude.{List};
     ghost use Rattle.tb_core.specs.declared.parcel.Parcel.TheVariants as parcel;
     ghost use Rattle.tb_core.specs.BareLedger.{Applies};
-    ghost use Rattle.tb_durable.specs.Durable.{IsJournal, IsStored, IsRefused, LeavesWith, opened_rows, rows_of};
+    ghost use Rattle.tb_core.specs.AnyLedger.{Applying, IsWithJournal};
+    ghost use Rattle.tb_core.specs.BareLedger.{after_refusal, refusal_of};
+    ghost use Rattle.tb_durable.specs.Durable.{IsJournal, IsStored, LeavesWith, groups_of_parcel, opened_rows, rows_of};
     ghost use Rattle.tb_durable.specs.Faults.{IsCause};
     ghost use Rattle.tb_durable.specs.Recovery.{RecoversFromCrashes};
 
@@ -137,10 +121,10 @@ impl<S: Store + Drop> DurableLedger<S> {
         seed: Seed,
     ) -> Result<DurableLedger<S>, (OpenFault, S)>
         requires { settings.clock ≤ clock_max }
-        ensures stored { IfOk result (λ ledger. IsStored (S.Store.view ledger.table.store) ledger.stopped ledger.bare) }
+        ensures stored { IfOk result (λ ledger. IsStored (S.Store.view ledger.table.store) ledger.bare) }
         ensures rows { IfOk result (λ ledger. IsClean (S.Store.view ledger.table.store)
             → (S.Store.view ledger.table.store).committed 0 ≡ opened_rows settings ((S.Store.view store).committed 0)) }
-        ensures goes_on { IfOk result (λ ledger. (ledger.stopped ≡ false) × (ledger.in_doubt ≡ false)) }
+        ensures goes_on { IfOk result (λ ledger. (ledger.bare.stopped ≡ false) × (ledger.in_doubt ≡ false)) }
         ensures fault { IfErr result (λ refused. IsClean (S.Store.view refused.1)
             → IsCause (opened_rows settings ((S.Store.view store).committed 0)) refused.0) }
     {
@@ -158,7 +142,6 @@ impl<S: Store + Drop> DurableLedger<S> {
                     settings: read.settings,
                     numbers,
                     bare: read.replaying.into_ledger(),
-                    stopped: false,
                     in_doubt: false,
                     fault: None,
                 })
@@ -183,9 +166,9 @@ impl<S: Store + Drop> DurableLedger<S> {
 
     /// Returns whether it has stopped: it commits nothing more.
     pub fn stopped(&self) -> bool
-        ensures { result ≡ self.now.stopped }
+        ensures { result ≡ self.now.bare.stopped }
     {
-        self.stopped
+        self.bare.stopped()
     }
 
     /// Returns whether the batch or pulse at which it stopped may be stored though its replies say Stopped. Then the next
@@ -221,7 +204,7 @@ impl<S: Store + Drop> DurableLedger<S> {
     pub fn reserve(&mut self, accounts: usize, transfers: usize) -> Result<(), NoMemory>
         ensures bare { self.new.bare ≡ self.old.bare }
         ensures table { self.new.table ≡ self.old.table }
-        ensures stopped { (self.new.stopped ≡ self.old.stopped) × (self.new.in_doubt ≡ self.old.in_doubt) }
+        ensures in_doubt { self.new.in_doubt ≡ self.old.in_doubt }
     {
         self.bare.reserve(accounts, transfers)
     }
@@ -235,7 +218,6 @@ impl<S: Store + Drop> DurableLedger<S> {
             bare,
             settings: _,
             numbers: _,
-            stopped: _,
             in_doubt: _,
             fault: _,
         } = self;
@@ -244,108 +226,100 @@ impl<S: Store + Drop> DurableLedger<S> {
     }
 
     /// Stops at a parcel that isn't stored.
-    fn stop(&mut self, refused: NotStored)
-        ensures stopped { (self.new.stopped ≡ true) × (self.new.in_doubt ≡ refused.in_doubt) }
-        ensures same { (self.new.table ≡ self.old.table) × (self.new.bare ≡ self.old.bare) }
+    fn stop(&mut self, refused: NotStored, parcel: Parcel) -> Outcomes
+        ensures doubt { self.new.in_doubt ≡ refused.in_doubt }
+        ensures table { self.new.table ≡ self.old.table }
+        ensures stopped { self.new.bare ≡ after_refusal self.old.bare parcel }
+        ensures outcomes { result ≡ refusal_of parcel }
+        ensures applying { Applying (IsWithJournal self.old.bare) parcel result (IsWithJournal self.new.bare) }
     {
-        self.stopped = true;
         self.in_doubt = refused.in_doubt;
         self.fault = Some(refused.error);
+        self.bare.apply_as_refused(parcel)
     }
 
-    /// Stops after a stored parcel if it wasn't applied.
-    fn follow(&mut self)
-        ensures stopped { (self.new.stopped ≡ self.old.bare.stopped) × (self.new.in_doubt ≡ self.old.bare.stopped) }
-        ensures same { (self.new.table ≡ self.old.table) × (self.new.bare ≡ self.old.bare) }
+    /// Applies a parcel that is stored. If memory runs out, it is in doubt.
+    fn follow(&mut self, parcel: Parcel) -> Outcomes
+        ensures doubt { self.new.in_doubt ≡ self.new.bare.stopped }
+        ensures table { self.new.table ≡ self.old.table }
+        ensures applied { Applies parcel self.old.bare result self.new.bare }
+        ensures applying { Applying (IsWithJournal self.old.bare) parcel result (IsWithJournal self.new.bare) }
     {
-        self.stopped = self.bare.stopped();
-        self.in_doubt = self.stopped;
-        if self.stopped {
+        let outcomes = self.bare.apply(parcel);
+        self.in_doubt = self.bare.stopped();
+        if self.in_doubt {
             self.fault = Some(StoreError::OutOfMemory);
         }
+        outcomes
     }
 
     /// Stores a batch and applies it.
     fn apply_batch(&mut self, batch: Batch) -> Outcomes
-        ensures kept { IsStored (S.Store.view self.old.table.store) self.old.stopped self.old.bare
-            → IsStored (S.Store.view self.new.table.store) self.new.stopped self.new.bare }
-        ensures added { IsStored (S.Store.view self.old.table.store) self.old.stopped self.old.bare
-            → IsClean (S.Store.view self.new.table.store) → self.new.stopped ≡ false
+        ensures kept { IsStored (S.Store.view self.old.table.store) self.old.bare
+            → IsStored (S.Store.view self.new.table.store) self.new.bare }
+        ensures added { IsStored (S.Store.view self.old.table.store) self.old.bare
+            → IsClean (S.Store.view self.new.table.store) → self.new.bare.stopped ≡ false
             → (S.Store.view self.new.table.store).committed 0 ≡ (S.Store.view self.old.table.store).committed 0
             ++ rows_of self.old.bare.places (parcel.Batch batch) }
-        ensures released { self.new.stopped ≡ false → Applies (parcel.Batch batch) self.old.bare result self.new.bare }
-        ensures refused { IsStored (S.Store.view self.old.table.store) self.old.stopped self.old.bare
-            → IsClean (S.Store.view self.new.table.store) → self.new.stopped ≡ true → IsRefused (parcel.Batch batch) result }
-        ensures crash { IsStored (S.Store.view self.old.table.store) self.old.stopped self.old.bare
+        ensures released { self.new.bare.stopped ≡ false → Applies (parcel.Batch batch) self.old.bare result self.new.bare }
+        ensures refused { IsStored (S.Store.view self.old.table.store) self.old.bare
+            → IsClean (S.Store.view self.new.table.store) → self.new.bare.stopped ≡ true → result ≡ refusal_of (parcel.Batch batch) }
+        ensures crash { IsStored (S.Store.view self.old.table.store) self.old.bare
             → LeavesWith (S.Store.recovers self.old.table.store) (S.Store.recovers self.new.table.store)
             ((S.Store.view self.old.table.store).committed 0) (rows_of self.old.bare.places (parcel.Batch batch)) }
-        ensures certain { self.new.stopped ≡ true → self.new.in_doubt ≡ false
+        ensures certain { self.new.bare.stopped ≡ true → self.new.in_doubt ≡ false
             → LeavesNothingNew (S.Store.recovers self.old.table.store) (S.Store.recovers self.new.table.store) }
-        ensures stays { self.old.stopped ≡ true → self.new ≡ self.old }
+        ensures stays { self.old.bare.stopped ≡ true → self.new ≡ self.old }
+        ensures applying { Applying (IsWithJournal self.old.bare) (parcel.Batch batch) result (IsWithJournal self.new.bare) }
+        ensures says { self.new.bare.stopped ≡ false → map group_in (rows_of self.old.bare.places (parcel.Batch batch)) ≡ groups_of_parcel (parcel.Batch batch) }
+        ensures clean { doubt (S.Store.view self.old.table.store).is_clean
+            ≤ doubt (S.Store.view self.new.table.store).is_clean }
     {
+        if self.bare.stopped() || batch.jobs().len() as u64 > PLACES_MAX.saturating_sub(self.bare.places()) {
+            return self.bare.apply_as_refused(Parcel::Batch(batch));
+        }
         let parts = batch.into_parts();
-        if self.stopped {
-            return Outcomes::Cut(Cutter::new(parts.jobs, Outcome::Stopped));
-        }
-        let place = self.bare.places();
-        if parts.jobs.len() as u64 > PLACES_MAX.saturating_sub(place) {
-            self.stopped = true;
-            return Outcomes::Cut(Cutter::new(parts.jobs, Outcome::Stopped));
-        }
         let Some(numbers) = numbers_after(self.numbers, &parts.stubs) else {
-            self.stopped = true;
-            return Outcomes::Cut(Cutter::new(parts.jobs, Outcome::Stopped));
+            return self.bare.apply_as_refused(Parcel::Batch(Batch::whole(parts)));
         };
         match store_batch(&mut self.table, &mut self.bare, &parts) {
             Ok(()) => {
                 self.numbers = numbers;
-                let outcomes = self.bare.apply(Parcel::Batch(Batch::whole(parts)));
-                self.follow();
-                outcomes
+                self.follow(Parcel::Batch(Batch::whole(parts)))
             }
-            Err(refused) => {
-                self.stop(refused);
-                Outcomes::Cut(Cutter::new(parts.jobs, Outcome::Stopped))
-            }
+            Err(refused) => self.stop(refused, Parcel::Batch(Batch::whole(parts))),
         }
     }
 
     /// Stores a pulse and applies it.
     fn apply_pulse(&mut self, moment: Moment) -> Outcomes
-        ensures kept { IsStored (S.Store.view self.old.table.store) self.old.stopped self.old.bare
-            → IsStored (S.Store.view self.new.table.store) self.new.stopped self.new.bare }
-        ensures added { IsStored (S.Store.view self.old.table.store) self.old.stopped self.old.bare
-            → IsClean (S.Store.view self.new.table.store) → self.new.stopped ≡ false
+        ensures kept { IsStored (S.Store.view self.old.table.store) self.old.bare
+            → IsStored (S.Store.view self.new.table.store) self.new.bare }
+        ensures added { IsStored (S.Store.view self.old.table.store) self.old.bare
+            → IsClean (S.Store.view self.new.table.store) → self.new.bare.stopped ≡ false
             → (S.Store.view self.new.table.store).committed 0 ≡ (S.Store.view self.old.table.store).committed 0
             ++ rows_of self.old.bare.places (parcel.Pulse moment) }
-        ensures released { self.new.stopped ≡ false → Applies (parcel.Pulse moment) self.old.bare result self.new.bare }
-        ensures refused { IsStored (S.Store.view self.old.table.store) self.old.stopped self.old.bare
-            → IsClean (S.Store.view self.new.table.store) → self.new.stopped ≡ true → IsRefused (parcel.Pulse moment) result }
-        ensures crash { IsStored (S.Store.view self.old.table.store) self.old.stopped self.old.bare
+        ensures released { self.new.bare.stopped ≡ false → Applies (parcel.Pulse moment) self.old.bare result self.new.bare }
+        ensures refused { IsStored (S.Store.view self.old.table.store) self.old.bare
+            → IsClean (S.Store.view self.new.table.store) → self.new.bare.stopped ≡ true → result ≡ refusal_of (parcel.Pulse moment) }
+        ensures crash { IsStored (S.Store.view self.old.table.store) self.old.bare
             → LeavesWith (S.Store.recovers self.old.table.store) (S.Store.recovers self.new.table.store)
             ((S.Store.view self.old.table.store).committed 0) (rows_of self.old.bare.places (parcel.Pulse moment)) }
-        ensures certain { self.new.stopped ≡ true → self.new.in_doubt ≡ false
+        ensures certain { self.new.bare.stopped ≡ true → self.new.in_doubt ≡ false
             → LeavesNothingNew (S.Store.recovers self.old.table.store) (S.Store.recovers self.new.table.store) }
-        ensures stays { self.old.stopped ≡ true → self.new ≡ self.old }
+        ensures stays { self.old.bare.stopped ≡ true → self.new ≡ self.old }
+        ensures applying { Applying (IsWithJournal self.old.bare) (parcel.Pulse moment) result (IsWithJournal self.new.bare) }
+        ensures says { self.new.bare.stopped ≡ false → map group_in (rows_of self.old.bare.places (parcel.Pulse moment)) ≡ groups_of_parcel (parcel.Pulse moment) }
+        ensures clean { doubt (S.Store.view self.old.table.store).is_clean
+            ≤ doubt (S.Store.view self.new.table.store).is_clean }
     {
-        if self.stopped {
-            return Outcomes::Nothing;
-        }
         let place = self.bare.places();
-        if place >= PLACES_MAX {
-            self.stopped = true;
-            return Outcomes::Nothing;
+        if self.bare.stopped() || place >= PLACES_MAX {
+            return self.bare.apply_as_refused(Parcel::Pulse(moment));
         }
         match self.table.put_pulse(place, moment) {
-            Ok(()) => {
-                let outcomes = self.bare.apply(Parcel::Pulse(moment));
-                self.follow();
-                outcomes
-            }
-            Err(refused) => {
-                self.stop(refused);
-                Outcomes::Nothing
-            }
+            Ok(()) => self.follow(Parcel::Pulse(moment)),
+            Err(refused) => self.stop(refused, Parcel::Pulse(moment)),
         }
     }
 
@@ -357,38 +331,41 @@ impl<S: Store + Drop> DurableLedger<S> {
     /// batch with another number stops the ledger, as does one past the last place: nothing is written, and `fault` has
     /// nothing to say.
     pub fn apply(&mut self, parcel: Parcel) -> Outcomes
-        ensures kept { IsStored (S.Store.view self.old.table.store) self.old.stopped self.old.bare
-            → IsStored (S.Store.view self.new.table.store) self.new.stopped self.new.bare }
-        ensures added { IsStored (S.Store.view self.old.table.store) self.old.stopped self.old.bare
-            → IsClean (S.Store.view self.new.table.store) → self.new.stopped ≡ false
+        ensures kept { IsStored (S.Store.view self.old.table.store) self.old.bare
+            → IsStored (S.Store.view self.new.table.store) self.new.bare }
+        ensures added { IsStored (S.Store.view self.old.table.store) self.old.bare
+            → IsClean (S.Store.view self.new.table.store) → self.new.bare.stopped ≡ false
             → (S.Store.view self.new.table.store).committed 0 ≡ (S.Store.view self.old.table.store).committed 0
             ++ rows_of self.old.bare.places parcel }
-        ensures released { self.new.stopped ≡ false → Applies parcel self.old.bare result self.new.bare }
-        ensures refused { IsStored (S.Store.view self.old.table.store) self.old.stopped self.old.bare
-            → IsClean (S.Store.view self.new.table.store) → self.new.stopped ≡ true → IsRefused parcel result }
-        ensures crash { IsStored (S.Store.view self.old.table.store) self.old.stopped self.old.bare
+        ensures released { self.new.bare.stopped ≡ false → Applies parcel self.old.bare result self.new.bare }
+        ensures refused { IsStored (S.Store.view self.old.table.store) self.old.bare
+            → IsClean (S.Store.view self.new.table.store) → self.new.bare.stopped ≡ true → result ≡ refusal_of parcel }
+        ensures crash { IsStored (S.Store.view self.old.table.store) self.old.bare
             → LeavesWith (S.Store.recovers self.old.table.store) (S.Store.recovers self.new.table.store)
             ((S.Store.view self.old.table.store).committed 0) (rows_of self.old.bare.places parcel) }
-        ensures certain { self.new.stopped ≡ true → self.new.in_doubt ≡ false
+        ensures certain { self.new.bare.stopped ≡ true → self.new.in_doubt ≡ false
             → LeavesNothingNew (S.Store.recovers self.old.table.store) (S.Store.recovers self.new.table.store) }
-        ensures stays { self.old.stopped ≡ true → self.new ≡ self.old }
+        ensures stays { self.old.bare.stopped ≡ true → self.new ≡ self.old }
+        ensures applying { Applying (IsWithJournal self.old.bare) parcel result (IsWithJournal self.new.bare) }
+        ensures says { self.new.bare.stopped ≡ false → map group_in (rows_of self.old.bare.places parcel) ≡ groups_of_parcel parcel }
+        ensures clean { doubt (S.Store.view self.old.table.store).is_clean
+            ≤ doubt (S.Store.view self.new.table.store).is_clean }
     {
         match parcel {
             Parcel::Batch(batch) => self.apply_batch(batch),
             Parcel::Pulse(moment) => self.apply_pulse(moment),
-            Parcel::Return(job, cause) => Outcomes::One(returned(job, cause)),
-            Parcel::Last => Outcomes::Last,
+            other => self.bare.apply_as_refused(other),
         }
     }
 
     /// Establishes what a crash leaves between two calls, unless the ledger stopped: the journal of what it committed, and
     /// nothing else.
     pub fn is_on_disk(&self)
-        ensures journal { IsStored (S.Store.view self.now.table.store) self.now.stopped self.now.bare
-            → IsClean (S.Store.view self.now.table.store) → self.now.stopped ≡ false
+        ensures journal { IsStored (S.Store.view self.now.table.store) self.now.bare
+            → IsClean (S.Store.view self.now.table.store) → self.now.bare.stopped ≡ false
             → (db : Trees) → S.Store.recovers self.now.table.store db → IsJournal (db 0) self.now.bare }
-        ensures rows { IsStored (S.Store.view self.now.table.store) self.now.stopped self.now.bare
-            → IsClean (S.Store.view self.now.table.store) → self.now.stopped ≡ false
+        ensures rows { IsStored (S.Store.view self.now.table.store) self.now.bare
+            → IsClean (S.Store.view self.now.table.store) → self.now.bare.stopped ≡ false
             → (db : Trees) → S.Store.recovers self.now.table.store db
             → db 0 ≡ (S.Store.view self.now.table.store).committed 0 }
     {}
@@ -399,4 +376,18 @@ impl<S: Store + Drop> DurableLedger<S> {
     pub fn recovers(&self)
         ensures { RecoversFromCrashes (S.Store.recovers self.now.table.store) }
     {}
+}
+
+impl<S: Store + Drop> AnyLedger for DurableLedger<S> {
+    ghost use Rattle.tb_durable.specs.Durable.{IsKept};
+
+    ghost is = { λ durable ledger. IsKept (S.Store.view durable.table.store) durable.bare ledger };
+
+    fn stopped(&self) -> bool {
+        AnyLedger::stopped(&self.bare)
+    }
+
+    fn apply(&mut self, parcel: Parcel) -> Outcomes {
+        DurableLedger::apply(self, parcel)
+    }
 }

@@ -113,6 +113,7 @@ fn replay_row<S: Store>(table: &mut Table<S>, replaying: &mut Replaying) -> Resu
         × IsJournal ((S.Store.view table.new.store).committed 0) replaying.new.ledger }
     ensures same { OnOk result (IsClean (S.Store.view table.new.store)
         → (S.Store.view table.new.store).committed ≡ (S.Store.view table.old.store).committed) }
+    ensures goes_on { OnOk result (replaying.old.ledger.stopped ≡ false → replaying.new.ledger.stopped ≡ false) }
     ensures cursor { OnOk result (IsSome ((S.Store.view table.new.store).cursors 0)) }
     ensures clean { doubt (S.Store.view table.old.store).is_clean ≤ doubt (S.Store.view table.new.store).is_clean }
 {
@@ -133,6 +134,7 @@ fn replay_rows<S: Store>(table: &mut Table<S>, replaying: &mut Replaying) -> Res
         → IsReplaying (S.Store.view table.old.store) replaying.old.ledger
         → IsSettled (S.Store.view table.new.store)
         × IsJournal ((S.Store.view table.new.store).committed 0) replaying.new.ledger) }
+    ensures goes_on { OnOk result (replaying.old.ledger.stopped ≡ false → replaying.new.ledger.stopped ≡ false) }
     ensures same { OnOk result (IsClean (S.Store.view table.new.store)
         → (S.Store.view table.new.store).committed ≡ (S.Store.view table.old.store).committed) }
     ensures clean { doubt (S.Store.view table.old.store).is_clean ≤ doubt (S.Store.view table.new.store).is_clean }
@@ -162,7 +164,8 @@ pub(crate) fn read_ledger<S: Store>(
     requires { settings.clock ≤ clock_max }
     ensures fault { IfErr result (λ fault. IsClean (S.Store.view table.new.store)
         → IsCause (opened_rows settings ((S.Store.view table.old.store).committed 0)) fault) }
-    ensures stored { IfOk result (λ read. IsStored (S.Store.view table.new.store) false read.replaying.ledger) }
+    ensures stored { IfOk result (λ read. IsStored (S.Store.view table.new.store) read.replaying.ledger) }
+    ensures goes_on { IfOk result (λ read. read.replaying.ledger.stopped ≡ false) }
     ensures rows { OnOk result (IsClean (S.Store.view table.new.store) → (S.Store.view table.new.store).committed 0
         ≡ opened_rows settings ((S.Store.view table.old.store).committed 0)) }
     ensures clean { doubt (S.Store.view table.old.store).is_clean ≤ doubt (S.Store.view table.new.store).is_clean }

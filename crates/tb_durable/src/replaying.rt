@@ -1,6 +1,6 @@
 //! The rows of the table, applied in order.
 
-ghost use Rattle.std.specs.Prelude.{◌≡◌, ◌≢◌, ◌⊎◌, ◌≤◌, ◌<◌, ◌++◌, List, [], ◌∷◌, map, pos, length, IfSome, OnOk, IfOk, IfErr};
+ghost use Rattle.std.specs.Prelude.{◌≡◌, ◌≢◌, ◌⊎◌, ◌≤◌, ◌<◌, ◌++◌, List, [], ◌∷◌, map, pos, length, false, IfSome, OnOk, IfOk, IfErr};
 ghost use Rattle.tb_layout.specs.Events.{Pulse as PulseInput};
 ghost use Rattle.tb_work.specs.Packet.{input_of};
 ghost use Rattle.tb_work.specs.Job.{numbered_packet};
@@ -21,6 +21,16 @@ use tb_batch::{Batch, Batcher, Offered};
 use tb_core::{BareLedger, Parcel};
 use tb_layout::{BATCH_MAX, CREATE_ACCOUNTS, CREATE_TRANSFERS, LOOKUP_ACCOUNTS, MOMENT_MAX};
 use tb_work::{Bytes, Job, Moment, Packet, Refusal, Stub};
+
+/// Returns the number after a packet's, if the packet follows its submitter's last: it has the submitter's next number, or 0, with
+/// which the submitter's packets begin in each run. There are 16 submitters.
+pub(crate) fn number_after(numbers: &[u64; 16], stub: Stub) -> Option<u64> {
+    let submitter = stub.submitter as usize;
+    if submitter >= 16 || (stub.number != 0 && stub.number != numbers[submitter]) {
+        return None;
+    }
+    stub.number.checked_add(1)
+}
 
 /// A ledger that has applied some rows, and for each submitter the number of its next packet.
 pub(crate) struct Replaying {
@@ -120,16 +130,15 @@ impl Replaying {
         OpenFault::BadEntry(self.ledger.places())
     }
 
-    /// Counts a packet, which must have its submitter's next number.
+    /// Counts a packet, which must follow its submitter's last.
     fn count(&mut self, stub: Stub) -> Result<(), OpenFault>
         ensures fault { IfErr result (IsEntryFault self.old.ledger.places) }
         ensures same { self.new.ledger ≡ self.old.ledger }
     {
-        let submitter = stub.submitter as usize;
-        if submitter >= 16 || self.numbers[submitter] != stub.number || stub.number == u64::MAX {
+        let Some(next) = number_after(&self.numbers, stub) else {
             return Err(self.bad_entry());
-        }
-        self.numbers[submitter] = stub.number + 1;
+        };
+        self.numbers[stub.submitter as usize % 16] = next;
         Ok(())
     }
 
@@ -193,6 +202,7 @@ impl Replaying {
         ensures fault { IfErr result (IsEntryFault self.old.ledger.places) }
         ensures group { let group = batch_packets columns.entry.operation columns.entry.body.now (stubs_in columns.entry.stubs.now) in
             OnOk result (AddsGroup self.old.ledger self.new.ledger group × (0 < length group)) }
+        ensures goes_on { OnOk result (self.new.ledger.stopped ≡ false) }
     {
         let batch = self.batch_in(columns)?;
         drop(self.ledger.apply(Parcel::Batch(batch)));
@@ -206,6 +216,7 @@ impl Replaying {
     fn pulse(&mut self, nanoseconds: u64) -> Result<(), OpenFault>
         ensures fault { IfErr result (IsEntryFault self.old.ledger.places) }
         ensures group { OnOk result (AddsGroup self.old.ledger self.new.ledger (PulseInput nanoseconds ∷ [])) }
+        ensures goes_on { OnOk result (self.new.ledger.stopped ≡ false) }
     {
         if nanoseconds > MOMENT_MAX {
             return Err(self.bad_entry());
@@ -223,6 +234,7 @@ impl Replaying {
         ensures place { OnOk result (rowid row.now ≡ IntValue (pos self.old.ledger.places)) }
         ensures group { OnOk result (AddsGroup self.old.ledger self.new.ledger (group_in row.now)) }
         ensures some { OnOk result (0 < length (group_in row.now)) }
+        ensures goes_on { OnOk result (self.new.ledger.stopped ≡ false) }
     {
         let place = self.ledger.places();
         if number_in(row, 0) != Some(place) {

@@ -12,26 +12,23 @@ put_pulse-requires g c = omega (arith, c.if-place-ge-PLACES_MAX.false)
 
 pub returns-in-Ok-clause-kept : goal.returns-in-Ok-clause-kept
 returns-in-Ok-clause-kept g c = λ has clean goes_on.
-    let same = c.follow.ensures.same in
-    let stored : IsClean (g.S.Store.view c.put_pulse.new.self.store) = ap (λ t. doubt (g.S.Store.view t.store).is_clean) (sym same.0) ∙ clean in
+    let stored : IsClean (g.S.Store.view c.put_pulse.new.self.store) = ap (λ t. doubt (g.S.Store.view t.store).is_clean) (sym c.follow.ensures.table) ∙ clean in
     let was : IsClean (g.S.Store.view c.args.self.now.table.store) = omega (arith, c.put_pulse.ensures.clean) in
-    let at_rest = has was c.if-self.false in
+    let at_rest = has was (sym c.stopped.ensures ∙ c.if-stopped.false) in
     let it = stored_more (g.S.Store.view c.args.self.now.table.store) (pulse_row c.places-place.result c.args.moment)
     c.args.self.now.bare at_rest.0 at_rest.1 (ap (λ p. Int (pos p)) c.places-place.ensures)
-    (g.S.Store.view c.put_pulse.new.self.store) c.apply-outcomes.new.self (c.in-Ok.ensures.ok stored)
-    (adds_pulse c.args.self.now.bare c.apply-outcomes.new.self c.apply-outcomes.result c.args.moment
-    c.apply-outcomes.ensures.applied (sym c.follow.ensures.stopped.0 ∙ goes_on)) (omega arith) in
+    (g.S.Store.view c.put_pulse.new.self.store) c.follow.new.self.bare (c.in-Ok.ensures.ok stored)
+    (adds_pulse c.args.self.now.bare c.follow.new.self.bare c.follow.result c.args.moment c.follow.ensures.applied goes_on)
+    (omega arith) in
     subst (λ t. IsSettled (g.S.Store.view t.store) × IsJournal ((g.S.Store.view t.store).committed 0) c.follow.new.self.bare)
-    (sym same.0)
-    (it.0, subst (IsJournal ((g.S.Store.view c.put_pulse.new.self.store).committed 0)) (sym same.1) it.1)
+    (sym c.follow.ensures.table) it
 
 pub returns-in-Ok-clause-added : goal.returns-in-Ok-clause-added
 returns-in-Ok-clause-added g c = λ has clean goes_on.
-    let same = c.follow.ensures.same in
-    let stored : IsClean (g.S.Store.view c.put_pulse.new.self.store) = ap (λ t. doubt (g.S.Store.view t.store).is_clean) (sym same.0) ∙ clean in
+    let stored : IsClean (g.S.Store.view c.put_pulse.new.self.store) = ap (λ t. doubt (g.S.Store.view t.store).is_clean) (sym c.follow.ensures.table) ∙ clean in
     let was : IsClean (g.S.Store.view c.args.self.now.table.store) = omega (arith, c.put_pulse.ensures.clean) in
-    let at_rest = has was c.if-self.false in
-    ap (λ t. (g.S.Store.view t.store).committed 0) same.0
+    let at_rest = has was (sym c.stopped.ensures ∙ c.if-stopped.false) in
+    ap (λ t. (g.S.Store.view t.store).committed 0) c.follow.ensures.table
     ∙ added_last (g.S.Store.view c.args.self.now.table.store) (pulse_row c.places-place.result c.args.moment)
     c.args.self.now.bare at_rest.0 at_rest.1 (ap (λ p. Int (pos p)) c.places-place.ensures)
     (g.S.Store.view c.put_pulse.new.self.store) (c.in-Ok.ensures.ok stored)
@@ -43,9 +40,9 @@ returns-in-Ok-clause-crash g c = λ has db left.
     ⊎ (db 0 ≡ (g.S.Store.view c.args.self.now.table.store).committed 0 ++ pulse_row p c.args.moment ∷ []))
     c.places-place.ensures
     (leaves_with_row (g.S.Store.view c.args.self.now.table.store) (pulse_row c.places-place.result c.args.moment)
-    c.args.self.now.bare c.args.self.now.stopped has c.if-self.false (ap (λ p. Int (pos p)) c.places-place.ensures)
+    c.args.self.now.bare has (sym c.stopped.ensures ∙ c.if-stopped.false) (ap (λ p. Int (pos p)) c.places-place.ensures)
     (g.S.Store.recovers c.args.self.now.table.store) (g.S.Store.recovers c.put_pulse.new.self.store)
-    c.put_pulse.ensures.crash db (subst (λ t. g.S.Store.recovers t.store db) c.follow.ensures.same.0 left))
+    c.put_pulse.ensures.crash db (subst (λ t. g.S.Store.recovers t.store db) c.follow.ensures.table left))
 
 pub returns-in-Err-clause-crash : goal.returns-in-Err-clause-crash
 returns-in-Err-clause-crash g c = λ has db left.
@@ -53,6 +50,6 @@ returns-in-Err-clause-crash g c = λ has db left.
     ⊎ (db 0 ≡ (g.S.Store.view c.args.self.now.table.store).committed 0 ++ pulse_row p c.args.moment ∷ []))
     c.places-place.ensures
     (leaves_with_row (g.S.Store.view c.args.self.now.table.store) (pulse_row c.places-place.result c.args.moment)
-    c.args.self.now.bare c.args.self.now.stopped has c.if-self.false (ap (λ p. Int (pos p)) c.places-place.ensures)
+    c.args.self.now.bare has (sym c.stopped.ensures ∙ c.if-stopped.false) (ap (λ p. Int (pos p)) c.places-place.ensures)
     (g.S.Store.recovers c.args.self.now.table.store) (g.S.Store.recovers c.put_pulse.new.self.store)
-    c.put_pulse.ensures.crash db (subst (λ t. g.S.Store.recovers t.store db) c.stop.ensures.same.0 left))
+    c.put_pulse.ensures.crash db (subst (λ t. g.S.Store.recovers t.store db) c.stop.ensures.table left))

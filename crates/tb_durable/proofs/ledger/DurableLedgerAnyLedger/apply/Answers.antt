@@ -1,0 +1,40 @@
+use Rattle.std.proofs.Common.{◌≡◌, ◌∙◌, ap, arith, sym, Bool, true, false, refl, ◌++◌, map}
+use Rattle.sqlite_trees.specs.View.{IsClean}
+use Rattle.tb_core.specs.Journal.{LedgerState}
+use Rattle.tb_durable.specs.Durable.{groups_of, rows_of}
+use Rattle.tb_durable.specs.Rows.{group_in}
+use Rattle.tb_durable.proofs.Applied.{grew}
+use Rattle.tb_durable.proofs.Journals.{groups_more}
+use Rattle.tb_durable.proofs.ledger.DurableLedgerAnyLedger.apply.Goals as goal
+
+-- what hasn't stopped now hadn't stopped before
+went_on : (was now : Bool) → (was ≡ true → now ≡ was) → now ≡ false → was ≡ false
+went_on true now stays goes = absurd (let same = stays refl in cc)
+went_on false now stays goes = refl
+
+pub returns : goal.returns
+returns g c = record {
+  applied = λ old was.
+      let said = c.apply.ensures in
+      let made = said.applying old was.journal in
+      let before = c.args.self.now.bare in (
+        made.0,
+        record {
+          journal = made.1;
+          stored = said.kept was.stored;
+          rows = λ clean goes.
+              let was_clean : IsClean (g.S.Store.view c.args.self.now.table.store) = omega (arith, said.clean) in
+              let went = went_on before.stopped c.apply.new.self.bare.stopped
+              (λ stopped. ap (λ durable. durable.bare.stopped) (said.stays stopped)) goes in
+              let rows = (g.S.Store.view c.args.self.now.table.store).committed 0 in
+              let journal = (was.stored was_clean went).1 in
+              ap groups_of (said.added was.stored clean goes)
+              ∙ groups_more rows (rows_of before.places c.args.parcel) journal.first journal.entries journal.is
+              ∙ ap (λ groups. groups ++ map group_in (rows_of before.places c.args.parcel)) (was.rows was_clean went)
+              ∙ ap (λ groups. old.groups ++ groups) (said.says goes)
+              ∙ sym (grew c.args.parcel old made.0 c.apply.result made.2.refused made.2.step
+              (ap (λ (l : LedgerState). l.stopped) made.1.same ∙ goes));
+        },
+        made.2,
+      );
+}
