@@ -43,7 +43,7 @@ is_outcome_of asked word other = false
 
 -- whether a packet with this user word was committed, and none of its events failed
 abbrev pub is_done : ℕ → ReplyValue → Bool
-is_done asked reply = is_outcome_of asked reply.packet.user reply.outcome
+is_done asked reply = is_outcome_of asked reply.packet.packet.user reply.outcome
 
 abbrev pub one_if : Bool → ℕ
 one_if b = cond b 1 0

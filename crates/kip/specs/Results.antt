@@ -43,10 +43,10 @@ place_of other = 0
 
 -- the head describes this reply
 pub record IsHeadOf (head : KipReply) (reply : ReplyValue) : Type 0 where
-  pub submitter : head.submitter ≡ reply.submitter
-  pub number : head.number ≡ reply.number
-  pub operation : head.operation ≡ reply.packet.operation
-  pub user : head.user_data ≡ reply.packet.user
+  pub submitter : head.submitter ≡ reply.packet.submitter
+  pub number : head.number ≡ reply.packet.number
+  pub operation : head.operation ≡ reply.packet.packet.operation
+  pub user : head.user_data ≡ reply.packet.packet.user
   pub outcome : head.outcome ≡ number_of_outcome reply.outcome
   pub place : head.place ≡ place_of reply.outcome
   pub size : head.size ≡ result_size reply.outcome

@@ -16,7 +16,7 @@ use Rattle.tb_core.specs.Due.{due}
 use Rattle.tb_core.specs.EndedRun.{Run, committed_in, ahead_in, IsPrefix}
 use Rattle.tb_core.specs.Journal.{inputs}
 use Rattle.tb_machine.specs.Replay.{replay}
-use Rattle.tb_core.specs.Headline.{Headline, IsTrueOf, numbered_of, packets_queued}
+use Rattle.tb_core.specs.Headline.{Headline, IsTrueOf, packets_queued}
 use Rattle.tb_core.proofs.EachSubmitter.{at-prefix, known-ahead, job-ahead, from-least, rises, replied-ahead, pulses_are_the_controls}
 use Rattle.tb_core.proofs.HeadlineLemmas.{all-replied, all-true, jobs-queued}
 use Rattle.tb_core.proofs.Packets.{from-numbered}
@@ -24,9 +24,9 @@ use Rattle.tb_core.proofs.Since.{drop-whole}
 
 -- what a reply says of its packet
 says : (run : Run) → Headline run → (submitter : ℕ) (reply : ReplyValue) → IsReplyTo run submitter reply
-    → (outcome : Outcome) → reply.outcome ≡ outcome → IsTrueOf run (numbered_of reply) outcome
+    → (outcome : Outcome) → reply.outcome ≡ outcome → IsTrueOf run reply.packet outcome
 says run is submitter reply its outcome same =
-    subst (IsTrueOf run (numbered_of reply)) same (is.answered submitter its.1.0 reply its.0 its.1.1)
+    subst (IsTrueOf run reply.packet) same (is.answered submitter its.1.0 reply its.0 its.1.1)
 
 -- what is committed is ahead of the Close at the same place
 is_ahead : (run : Run) → Headline run → (place : ℕ) (input : Input) → slice_get (committed_in run) place ≡ Some input
@@ -120,12 +120,12 @@ overtakes run is bad =
 
 pub gives_anothers_reply : Excludes GivesAnothersReply
 gives_anothers_reply run is (submitter, reply, (known, (index, replied)), apart) =
-    let queued : slice_get (packets_queued (run.queued submitter)) index ≡ Some (numbered_of reply) =
+    let queued : slice_get (packets_queued (run.queued submitter)) index ≡ Some reply.packet =
     ap (λ jobs. slice_get jobs index) (sym (is.replied submitter known))
-    ∙ get-map numbered_of (run.replies submitter) index reply replied in
+    ∙ get-map (λ (reply : ReplyValue). reply.packet) (run.replies submitter) index reply replied in
     apart (from-least submitter 0 (packets_queued (run.queued submitter))
     (from-numbered submitter 0 (run.queued submitter) (is.queued.numbered submitter (omega (arith, known)))) index
-    (numbered_of reply) queued).0
+    reply.packet queued).0
 
 pub answers_anotherwise : Excludes AnswersAnotherwise
 answers_anotherwise run is (submitter, place, reply, answer, its, outcome, apart) =
@@ -183,16 +183,17 @@ closed-ended packet (suc zero) within =
 closed-ended packet (suc (suc sender)) within = absurd (omega (arith, within))
 
 closed-replied : (packet : packet.Packet) (submitter : ℕ) → submitter < 1
-    → map numbered_of ((closed_first packet).replies submitter) ≡ packets_queued ((closed_first packet).queued submitter)
+    → map (λ (reply : ReplyValue). reply.packet) ((closed_first packet).replies submitter)
+    ≡ packets_queued ((closed_first packet).queued submitter)
 closed-replied packet zero below = refl
 closed-replied packet (suc submitter) below = absurd (omega (arith, below))
 
 closed-answered : (packet : packet.Packet) (submitter index : ℕ) (reply : ReplyValue) → submitter < 1
     → slice_get ((closed_first packet).replies submitter) index ≡ Some reply
-    → IsTrueOf (closed_first packet) (numbered_of reply) reply.outcome
+    → IsTrueOf (closed_first packet) reply.packet reply.outcome
 closed-answered packet zero zero reply below got =
     let same : reply.outcome ≡ Shutdown = cc in
-    subst (IsTrueOf (closed_first packet) (numbered_of reply)) (sym same) (λ found. cc)
+    subst (IsTrueOf (closed_first packet) reply.packet) (sym same) (λ found. cc)
 closed-answered packet zero (suc index) reply below got = cc
 closed-answered packet (suc submitter) index reply below got = absurd (omega (arith, below))
 

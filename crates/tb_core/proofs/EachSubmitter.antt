@@ -14,7 +14,7 @@ use Rattle.tb_work.specs.declared.item.Item.TheVariants as item
 use Rattle.tb_work.specs.declared.item.Ticket.{Ticket}
 use Rattle.tb_core.specs.EachSubmitter.{is_packet_of, packets_of, moments_in, moments_queued, CommittedOfEachSubmitter, PulsesAreTheControls, CommittedAreAnswered}
 use Rattle.tb_core.specs.EndedRun.{Run, committed_in, ahead_in, IsPrefix}
-use Rattle.tb_core.specs.Headline.{Headline, IsTrueOf, numbered_of}
+use Rattle.tb_core.specs.Headline.{Headline, IsTrueOf}
 use Rattle.tb_core.proofs.HeadlineLemmas.{is-prefix-trans, prefix-filter, jobs-queued}
 use Rattle.tb_core.proofs.Packets.{jobs_of, jobs_with, part-cons, part_with, AreFrom, from-numbered}
 
@@ -240,14 +240,14 @@ pub record IsReplied (run : Run) (submitter number : ℕ) (events : Events) : Ty
   pub reply : ReplyValue
   pub known : submitter < run.submitters
   pub replied : slice_get (run.replies submitter) index ≡ Some reply
-  pub own : input_of (numbered_of reply) ≡ Packet submitter number events
+  pub own : input_of reply.packet ≡ Packet submitter number events
 
 pub replied-ahead : (run : Run) → Headline run → (place submitter number : ℕ) (events : Events)
     → slice_get (ahead_in run) place ≡ Some (Packet submitter number events) → IsReplied run submitter number events
 replied-ahead run is place submitter number events got =
     let known = known-ahead run.submitters run.queue is.queued.submitted place submitter number events got in
     let found = job-ahead submitter number events (items_in run.queue) place got in
-    let reply = at-map numbered_of (run.replies submitter) found.index found.job
+    let reply = at-map (λ (reply : ReplyValue). reply.packet) (run.replies submitter) found.index found.job
     (ap (λ jobs. slice_get jobs found.index) (is.replied submitter known ∙ sym (jobs-queued run is.queued submitter known))
     ∙ found.found) in
     record {
@@ -274,7 +274,7 @@ same-place run is submitter below place other number events one two =
 committed_at : (run : Run) → Headline run → (place submitter number : ℕ) (events : Events)
     → slice_get (committed_in run) place ≡ Some (Packet submitter number events)
     → (reply : IsReplied run submitter number events) → (outcome : Outcome) → reply.reply.outcome ≡ outcome
-    → IsTrueOf run (numbered_of reply.reply) outcome →
+    → IsTrueOf run reply.reply.packet outcome →
     (answer : Answer) × (reply.reply.outcome ≡ Committed (length run.before + place) answer)
 committed_at run is place submitter number events got reply (Committed its answer) says (index, at, there, alone) =
     let other : slice_get (committed_in run) index ≡ Some (Packet submitter number events) =

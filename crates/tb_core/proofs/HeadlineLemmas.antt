@@ -15,7 +15,7 @@ use Rattle.tb_work.specs.declared.item.Item.{Item}
 use Rattle.tb_work.specs.declared.item.Item.TheVariants as item
 use Rattle.tb_core.specs.Due.{outcome_at, outcome_with, all_due_from, due, replies_to, Place, Ahead, Behind, next_place}
 use Rattle.tb_core.specs.Report.{ReportsHeadline}
-use Rattle.tb_core.specs.Headline.{IsTrueOf, packets_queued, numbered_of}
+use Rattle.tb_core.specs.Headline.{IsTrueOf, packets_queued}
 use Rattle.tb_core.specs.EndedRun.{Run, committed_in, ahead_in, IsPrefix}
 use Rattle.tb_core.specs.Journal.{inputs}
 use Rattle.tb_core.proofs.Since.{get-drop}
@@ -48,21 +48,24 @@ at-end (b ∷ before) x others = at-end before x others
 -- ---- one reply for each packet of a submitter, in order
 
 replies-with : (own : Bool) (submitter : ℕ) (reply : ReplyValue) (replies : List ReplyValue)
-    → (reply.submitter == submitter) ≡ own → replies_to (reply ∷ replies) submitter
+    → (reply.packet.submitter == submitter) ≡ own → replies_to (reply ∷ replies) submitter
     ≡ (if own then reply ∷ replies_to replies submitter else replies_to replies submitter)
 replies-with own submitter reply replies is = rw is refl
 
 pub one-each : (clock submitter : ℕ) (inputs : List Input) (place : Place) (items : List Item) →
-    map numbered_of (replies_to (all_due_from clock inputs place items) submitter) ≡ jobs_of submitter items
+    map (λ (reply : ReplyValue). reply.packet) (replies_to (all_due_from clock inputs place items) submitter)
+    ≡ jobs_of submitter items
 one-each clock submitter inputs place [] = refl
 one-each clock submitter inputs place (item.Packet job ∷ items) =
     let others = one-each clock submitter inputs (next_place place (item.Packet job)) items in
     by (job.submitter == submitter) refl others
   where
     by : (own : Bool) → (job.submitter == submitter) ≡ own →
-        map numbered_of (replies_to (all_due_from clock inputs (next_place place (item.Packet job)) items) submitter)
+        map (λ (reply : ReplyValue). reply.packet)
+        (replies_to (all_due_from clock inputs (next_place place (item.Packet job)) items) submitter)
         ≡ jobs_of submitter items →
-        map numbered_of (replies_to (all_due_from clock inputs place (item.Packet job ∷ items)) submitter)
+        map (λ (reply : ReplyValue). reply.packet)
+        (replies_to (all_due_from clock inputs place (item.Packet job ∷ items)) submitter)
         ≡ jobs_of submitter (item.Packet job ∷ items)
     by true is others = rw is (ap (λ jobs. job ∷ jobs) others)
     by false is others = rw is others
@@ -77,7 +80,7 @@ one-each clock submitter inputs place (item.Close ∷ items) =
 
 module _ (run : Run) (submitter : ℕ) (committed : IsPrefix (committed_in run) (ahead_in run)) where
   abbrev IsTrueReply : ReplyValue → Type 0
-  IsTrueReply reply = IsTrueOf run (numbered_of reply) reply.outcome
+  IsTrueReply reply = IsTrueOf run reply.packet reply.outcome
 
   abbrev due_from : Place → List Item → List ReplyValue
   due_from place items = replies_to (all_due_from run.ledger.opening (inputs run.ledger) place items) submitter
@@ -182,11 +185,11 @@ module _ (run : Run) (submitter : ℕ) (committed : IsPrefix (committed_in run) 
       true-behind number items (subst (AreBelow submitter number) (sym (append-nil before) ∙ is) below) from
 
 at-index : (run : Run) (replies : List ReplyValue) (index : ℕ) (reply : ReplyValue)
-    → AllByRecursion (λ (r : ReplyValue). IsTrueOf run (numbered_of r) r.outcome) replies
-    → slice_get replies index ≡ Some reply → IsTrueOf run (numbered_of reply) reply.outcome
+    → AllByRecursion (λ (r : ReplyValue). IsTrueOf run r.packet r.outcome) replies
+    → slice_get replies index ≡ Some reply → IsTrueOf run reply.packet reply.outcome
 at-index run [] index reply all got = cc
 at-index run (first ∷ replies) zero reply all got =
-    let same : first ≡ reply = cc in subst (λ (r : ReplyValue). IsTrueOf run (numbered_of r) r.outcome) same all.0
+    let same : first ≡ reply = cc in subst (λ (r : ReplyValue). IsTrueOf run r.packet r.outcome) same all.0
 at-index run (first ∷ replies) (suc index) reply all got = at-index run replies index reply all.1 got
 
 -- ---- the headline
@@ -205,16 +208,17 @@ jobs-queued run filled submitter below =
     ∙ ap packets_queued (filled.parts submitter (omega (arith, below)))
 
 pub all-replied : (run : Run) → IsQueueOf run.submitters run.queue run.queued → AreDue run → (submitter : ℕ)
-    → submitter < run.submitters → map numbered_of (run.replies submitter) ≡ packets_queued (run.queued submitter)
+    → submitter < run.submitters
+    → map (λ (reply : ReplyValue). reply.packet) (run.replies submitter) ≡ packets_queued (run.queued submitter)
 all-replied run filled are submitter below =
-    ap (map numbered_of) (are submitter below)
+    ap (map (λ (reply : ReplyValue). reply.packet)) (are submitter below)
     ∙ one-each run.ledger.opening submitter (inputs run.ledger) (Ahead (length run.before)) (items_in run.queue)
     ∙ jobs-queued run filled submitter below
 
 pub all-true : (run : Run) → IsQueueOf run.submitters run.queue run.queued
     → IsPrefix (committed_in run) (ahead_in run) → AreDue run → (submitter index : ℕ) (reply : ReplyValue)
     → submitter < run.submitters → slice_get (run.replies submitter) index ≡ Some reply
-    → IsTrueOf run (numbered_of reply) reply.outcome
+    → IsTrueOf run reply.packet reply.outcome
 all-true run filled committed are submitter index reply below got =
     at-index run _ index reply
     (true-ahead run submitter committed (length run.before) 0 [] (items_in run.queue) (omega arith) refl tt

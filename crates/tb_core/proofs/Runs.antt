@@ -158,7 +158,7 @@ none_among q (reply ∷ replies) none =
     (λ taken. or_from (is_stopped reply.outcome) _ parts.0 others) (λ left. others)
 
 abbrev AreAmong : ℕ → List ReplyValue → Type 0
-AreAmong submitters replies = AllByRecursion (λ (reply : ReplyValue). reply.submitter < submitters) replies
+AreAmong submitters replies = AllByRecursion (λ (reply : ReplyValue). reply.packet.submitter < submitters) replies
 
 -- replies to a queue are replies to its submitters
 due_among : (clock submitters : ℕ) (journal : List Input) (place : Place) (queue : List Ticket)
@@ -180,13 +180,14 @@ none_at_all : (submitters : ℕ) (replies : List ReplyValue) → AreAmong submit
     → any_stopped replies ≡ false
 none_at_all submitters [] all none = refl
 none_at_all submitters (reply ∷ replies) all none =
-    or_from (is_stopped reply.outcome) (any_stopped replies) (own (none reply.submitter all.0))
+    or_from (is_stopped reply.outcome) (any_stopped replies) (own (none reply.packet.submitter all.0))
     (none_at_all submitters replies all.1 (λ submitter below.
-    others submitter (reply.submitter == submitter) (none submitter below)))
+    others submitter (reply.packet.submitter == submitter) (none submitter below)))
   where
-    own : any_stopped (replies_to (reply ∷ replies) reply.submitter) ≡ false → is_stopped reply.outcome ≡ false
+    own : any_stopped (replies_to (reply ∷ replies) reply.packet.submitter) ≡ false → is_stopped reply.outcome ≡ false
     own h =
-        let its : (reply.submitter == reply.submitter) ≡ true = eq-eqb reply.submitter reply.submitter refl in
+        let own = reply.packet.submitter in
+        let its : (own == own) ≡ true = eq-eqb own own refl in
         (or_parts (is_stopped reply.outcome) _ (rw its at h)).0
 
     others : (submitter : ℕ) (b : Bool) → any_stopped
@@ -383,7 +384,8 @@ run_is_lawful run start answers filled before_is ran theirs =
             record {
               ledger = (far.nothing_stopped none).0;
               replies = λ submitter below. ap any_stopped (theirs submitter below)
-                  ∙ none_among (λ (reply : ReplyValue). reply.submitter == submitter) answers (far.nothing_stopped none).1;
+                  ∙ none_among (λ (reply : ReplyValue). reply.packet.submitter == submitter) answers
+                  (far.nothing_stopped none).1;
             },
       );
       state = ran.commits.state ∙ ap (λ clock. replay clock journal) (sym ran.commits.from);

@@ -7,7 +7,7 @@ use Rattle.tb_machine.specs.Replay.{replay, answer_of}
 use Rattle.tb_work.specs.Packet.{events_in, input_of}
 use Rattle.tb_core.specs.EachSubmitter.{is_packet_of}
 use Rattle.tb_core.specs.EndedRun.{Run, committed_in}
-use Rattle.tb_core.specs.Headline.{Headline, IsTrueOf, numbered_of}
+use Rattle.tb_core.specs.Headline.{Headline, IsTrueOf}
 use Rattle.tb_core.specs.Journal.{LedgerState, inputs}
 use Rattle.tb_core.specs.TwoRuns.{AnswersStand, TwoRunsAreOne}
 use Rattle.tb_core.proofs.EachSubmitter.{at-prefix, committed_of_each_submitter}
@@ -16,7 +16,7 @@ use Rattle.tb_core.proofs.Since.{prefix-drop, get-drop}
 -- what a run's replies say is true of its own ledger
 own_answers : (run : Run) → Headline run → AnswersStand run run.ledger
 own_answers run is submitter index reply place answer below got outcome =
-    let said = subst (IsTrueOf run (numbered_of reply)) outcome (is.answered submitter index reply below got) in
+    let said = subst (IsTrueOf run reply.packet) outcome (is.answered submitter index reply below got) in
     record {
       there = ap (slice_get (inputs run.ledger)) said.1
           ∙ sym (get-drop (length run.before) said.0 (inputs run.ledger)) ∙ said.2;
@@ -38,7 +38,7 @@ answers_longer : (run : Run) (ledger later : LedgerState) (rest : List Input) �
     → inputs ledger ++ rest ≡ inputs later → AnswersStand run ledger → AnswersStand run later
 answers_longer run ledger later rest opening parts all submitter index reply place answer below got outcome =
     let is = all submitter index reply place answer below got outcome in
-    let packet = numbered_of reply in
+    let packet = reply.packet in
     record {
       there = at-prefix (inputs ledger) (inputs later) place (input_of packet) (rest, parts) is.there;
       alone = is.alone

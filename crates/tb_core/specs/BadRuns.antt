@@ -16,7 +16,7 @@ use Rattle.tb_core.specs.EachSubmitter.{moments_in, moments_queued}
 use Rattle.tb_core.specs.Journal.{inputs}
 use Rattle.tb_core.specs.EndedRun.{Run, committed_in, ahead_in, IsPrefix, NothingStopped}
 use Rattle.tb_core.specs.Due.{due}
-use Rattle.tb_core.specs.Headline.{Headline, IsIn, numbered_of, packets_queued}
+use Rattle.tb_core.specs.Headline.{Headline, IsIn, packets_queued}
 
 abbrev pub IsNotIn : {X : Type 0} → X → List X → Type 0
 IsNotIn {X} x xs = IsIn x xs → ⊥
@@ -35,7 +35,7 @@ CommitsAStranger run =
 abbrev pub SaysOfCommitted : Outcome → Run → Type 0
 SaysOfCommitted outcome run =
     (submitter : ℕ) × (reply : ReplyValue) × IsReplyTo run submitter reply × (reply.outcome ≡ outcome)
-    × IsIn (input_of (numbered_of reply)) (committed_in run)
+    × IsIn (input_of reply.packet) (committed_in run)
 
 -- excluded by `answered` and `committed`: a committed packet is answered Shutdown, so its caller pays again
 abbrev pub ShutsDownACommitted : Run → Type 0
@@ -49,7 +49,7 @@ StopsACommitted run = SaysOfCommitted Stopped run
 abbrev pub StopsBehindTheClose : Run → Type 0
 StopsBehindTheClose run =
     (submitter : ℕ) × (reply : ReplyValue) × IsReplyTo run submitter reply × (reply.outcome ≡ Stopped)
-    × IsNotIn (input_of (numbered_of reply)) (ahead_in run)
+    × IsNotIn (input_of reply.packet) (ahead_in run)
 
 -- excluded by `all`: pulses are dropped though nothing stopped
 abbrev pub DropsPulses : Run → Type 0
@@ -125,14 +125,14 @@ pub record Overtakes (run : Run) : Type 0 where
 -- excluded by `replied` and `queued`: a submitter has another's reply
 abbrev pub GivesAnothersReply : Run → Type 0
 GivesAnothersReply run =
-    (submitter : ℕ) × (reply : ReplyValue) × IsReplyTo run submitter reply × (reply.submitter ≢ submitter)
+    (submitter : ℕ) × (reply : ReplyValue) × IsReplyTo run submitter reply × (reply.packet.submitter ≢ submitter)
 
 -- excluded by `answered`: the answer isn't the state machine's to the packet alone at its place
 abbrev pub AnswersAnotherwise : Run → Type 0
 AnswersAnotherwise run =
     (submitter : ℕ) × (place : ℕ) × (reply : ReplyValue) × (answer : Answer) × IsReplyTo run submitter reply
     × (reply.outcome ≡ Committed place answer)
-    × (answer ≢ answer_of (replay run.ledger.opening (take place (inputs run.ledger))) (events_in reply.packet))
+    × (answer ≢ answer_of (replay run.ledger.opening (take place (inputs run.ledger))) (events_in reply.packet.packet))
 
 -- excluded by `queued`: what a sender queued is never popped
 abbrev pub LosesAnItem : Run → Type 0

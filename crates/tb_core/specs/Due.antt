@@ -51,7 +51,7 @@ abbrev pub all_due : ℕ → ℕ → List Item → List Input → List ReplyValu
 all_due clock before items inputs = all_due_from clock inputs (Ahead before) items
 
 abbrev pub replies_to : List ReplyValue → ℕ → List ReplyValue
-replies_to replies submitter = filter (λ (reply : ReplyValue). reply.submitter == submitter) replies
+replies_to replies submitter = filter (λ (reply : ReplyValue). reply.packet.submitter == submitter) replies
 
 -- the replies to a submitter's packets, in order
 abbrev pub due : ℕ → ℕ → List Ticket → List Input → ℕ → List ReplyValue

@@ -7,7 +7,7 @@ use Rattle.tb_work.specs.declared.item.Item.{Item}
 use Rattle.tb_work.specs.declared.item.Item.TheVariants as item
 use Rattle.tb_work.specs.declared.outcome.Outcome.TheVariants.{Committed}
 use Rattle.tb_core.specs.EndedRun.{Run, committed_in, ahead_in, IsPrefix, NothingStopped}
-use Rattle.tb_core.specs.Headline.{Headline, numbered_of, packets_queued}
+use Rattle.tb_core.specs.Headline.{Headline, packets_queued}
 
 abbrev pub is_packet_of : ℕ → Input → Bool
 is_packet_of submitter (Packet its_submitter number events) = its_submitter == submitter
@@ -49,7 +49,7 @@ pub record IsAnsweredAt (run : Run) (place submitter number : ℕ) (events : Eve
   pub answer : Answer
   pub known : submitter < run.submitters
   pub replied : slice_get (run.replies submitter) index ≡ Some reply
-  pub own : input_of (numbered_of reply) ≡ Packet submitter number events
+  pub own : input_of reply.packet ≡ Packet submitter number events
   pub outcome : reply.outcome ≡ Committed place answer
 
 abbrev pub CommittedAreAnswered : Type 0

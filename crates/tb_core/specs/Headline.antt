@@ -15,9 +15,6 @@ packets_queued [] = []
 packets_queued (item.Packet packet ∷ items) = packet ∷ packets_queued items
 packets_queued (other ∷ items) = packets_queued items
 
-abbrev pub numbered_of : ReplyValue → Numbered
-numbered_of reply = record { submitter = reply.submitter; number = reply.number; packet = reply.packet }
-
 abbrev pub IsIn : {X : Type 0} → X → List X → Type 0
 IsIn {X} x xs = (index : ℕ) × (slice_get xs index ≡ Some x)
 
@@ -41,7 +38,7 @@ pub record Headline (run : Run) : Type 0 where
   pub committed : IsPrefix (committed_in run) (ahead_in run)
   pub all : NothingStopped run → committed_in run ≡ ahead_in run
   pub replied : (submitter : ℕ) → submitter < run.submitters
-      → map numbered_of (run.replies submitter) ≡ packets_queued (run.queued submitter)
+      → map (λ (reply : ReplyValue). reply.packet) (run.replies submitter) ≡ packets_queued (run.queued submitter)
   pub answered : (submitter index : ℕ) (reply : ReplyValue) → submitter < run.submitters
-      → slice_get (run.replies submitter) index ≡ Some reply → IsTrueOf run (numbered_of reply) reply.outcome
+      → slice_get (run.replies submitter) index ≡ Some reply → IsTrueOf run reply.packet reply.outcome
   pub state : run.ledger.state ≡ replay run.ledger.opening (inputs run.ledger)

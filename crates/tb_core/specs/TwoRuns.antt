@@ -6,7 +6,7 @@ use Rattle.tb_work.specs.Packet.{Numbered, ReplyValue, events_in, input_of}
 use Rattle.tb_work.specs.declared.outcome.Outcome.TheVariants.{Committed}
 use Rattle.tb_core.specs.EachSubmitter.{packets_of, IsCommittedOf}
 use Rattle.tb_core.specs.EndedRun.{Run, committed_in}
-use Rattle.tb_core.specs.Headline.{Headline, numbered_of}
+use Rattle.tb_core.specs.Headline.{Headline}
 use Rattle.tb_core.specs.Journal.{LedgerState, inputs}
 
 -- the second run began with the journal and the opening clock that the first ended with
@@ -24,7 +24,7 @@ abbrev pub AnswersStand : Run → LedgerState → Type 0
 AnswersStand run ledger =
     (submitter index : ℕ) (reply : ReplyValue) (place : ℕ) (answer : Answer) → submitter < run.submitters
     → slice_get (run.replies submitter) index ≡ Some reply → reply.outcome ≡ Committed place answer
-    → IsAnsweredIn ledger place (numbered_of reply) answer
+    → IsAnsweredIn ledger place reply.packet answer
 
 -- The journal is what was before, then what the first run committed, then what the second did, and the state is its replay.
 -- Of each submitter there are the packets that the first run committed, and after them those that the second committed. Each

@@ -46,7 +46,7 @@ packet_front submitter number = codes "packet " ++ decimal submitter ++ codes " 
 
 -- the line of a packet that was queued
 abbrev pub reply_line : ReplyValue → List ℕ
-reply_line reply = packet_front reply.submitter reply.number ++ outcome_text reply.outcome ++ codes "\n"
+reply_line reply = packet_front reply.packet.submitter reply.packet.number ++ outcome_text reply.outcome ++ codes "\n"
 
 unfoldable pub pulse_line : ℕ → List ℕ
 pulse_line place = codes "pulse " ++ decimal place ++ codes "\n"

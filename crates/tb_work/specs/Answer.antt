@@ -11,8 +11,7 @@ use Rattle.tb_work.specs.Job.{is_lookup}
 use Rattle.tb_work.specs.Packet.{Numbered, ReplyValue}
 
 abbrev pub reply_with : Outcome → Numbered → ReplyValue
-reply_with outcome job =
-    record { submitter = job.submitter; number = job.number; packet = job.packet; outcome = outcome }
+reply_with outcome job = record { packet = job; outcome = outcome }
 
 -- failures rise below the packet's count; accounts are the answer to a lookup, and are no more than its ids
 abbrev pub IsAnswerTo : Packet → Answer → Type 0

@@ -17,7 +17,5 @@ abbrev pub input_of : Numbered → Input
 input_of job = input.Packet job.submitter job.number (events_in job.packet)
 
 pub record ReplyValue : Type 0 where
-  pub submitter : ℕ
-  pub number : ℕ
-  pub packet : Packet
+  pub packet : Numbered
   pub outcome : Outcome

@@ -31,9 +31,7 @@ impl Model for Reply {
     ghost Value = { ReplyValue };
 
     ghost view = { λ reply. record {
-      submitter = reply.submitter;
-      number = reply.number;
-      packet = reply.packet;
+      packet = record { submitter = reply.submitter; number = reply.number; packet = reply.packet };
       outcome = reply.outcome;
     } };
 

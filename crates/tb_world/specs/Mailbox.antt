@@ -26,4 +26,5 @@ mailbox_at mailboxes submitter = slice_index_or mailboxes submitter empty_mailbo
 
 -- a reply goes to its submitter's ring
 abbrev pub mailboxes_with : List Mailbox → ReplyValue → List Mailbox
-mailboxes_with mailboxes reply = slice_set mailboxes reply.submitter (with_reply (mailbox_at mailboxes reply.submitter) reply)
+mailboxes_with mailboxes reply =
+    slice_set mailboxes reply.packet.submitter (with_reply (mailbox_at mailboxes reply.packet.submitter) reply)

@@ -140,7 +140,8 @@ one_round submitters =
 -- whether the reply ring of the next reply has a free slot
 abbrev pub has_reply_slot : ℕ → WorldState → List ReplyValue → Bool
 has_reply_slot credit world replies =
-    list_all (λ (reply : ReplyValue). nat_lt (unread (mailbox_at world.mailboxes reply.submitter)) credit) (take 1 replies)
+    list_all (λ (reply : ReplyValue). nat_lt (unread (mailbox_at world.mailboxes reply.packet.submitter)) credit)
+    (take 1 replies)
 
 -- Whether a step finds a free slot for what it puts into a ring. The rings between stages have this number of slots, and each
 -- reply ring has `credit`.

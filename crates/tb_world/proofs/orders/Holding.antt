@@ -204,7 +204,7 @@ batch_push_holds Unrefused clock n pushed w [] [] e g h = by (all_ended w.front 
 
 replies_to-append : (submitter : ℕ) (xs ys : List ReplyValue)
     → replies_to (xs ++ ys) submitter ≡ replies_to xs submitter ++ replies_to ys submitter
-replies_to-append submitter xs ys = filter-append (λ (reply : ReplyValue). reply.submitter == submitter) xs ys
+replies_to-append submitter xs ys = filter-append (λ (reply : ReplyValue). reply.packet.submitter == submitter) xs ys
 
 routed_more : (n : ℕ) (answers : List ReplyValue) (mailboxes : List Mailbox) (way more : List ReplyValue)
     → AreRouted n answers mailboxes way → AreRouted n (answers ++ more) mailboxes (way ++ more)
@@ -345,7 +345,7 @@ pub reply_push_holds : (Unrefused : Type 0) (clock n : ℕ) (pushed : List Ticke
     Holds Unrefused clock n pushed w → Holds Unrefused clock n pushed (unwrap_or (reply_push w replies) w)
 reply_push_holds Unrefused clock n pushed w [] r h = h
 reply_push_holds Unrefused clock n pushed w (reply ∷ replies) r h =
-    let own = reply.submitter in
+    let own = reply.packet.submitter in
     let mailbox = mailbox_at w.mailboxes own in
     let way = unrouted replies w.outcomes w.outcome in
     rerouted Unrefused clock n pushed w replies w.outcomes w.outcome (mailboxes_with w.mailboxes reply) h

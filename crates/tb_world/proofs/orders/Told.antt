@@ -80,7 +80,8 @@ module _ (U : Type 0) (clock n : ℕ) (pushed : List Ticket) (w : WorldState) (h
             let answers = is-prefix-trans h.answers (all_due clock 0 before journal) all (far.later, far.due)
             (due-prefix clock journal (Ahead 0) before after) in
             rw items_are (is-prefix-trans mailbox.received (replies_to h.answers submitter) (replies_to all submitter)
-            (others, sym (h.routed.each submitter among)) (prefix-filter (λ (reply : ReplyValue). reply.submitter == submitter) h.answers all answers));
+            (others, sym (h.routed.each submitter among))
+            (prefix-filter (λ (reply : ReplyValue). reply.packet.submitter == submitter) h.answers all answers));
       }
 
   none_stopped : Goes w.front w.ledger → NoneStopped n w
@@ -88,7 +89,7 @@ module _ (U : Type 0) (clock n : ℕ) (pushed : List Ticket) (w : WorldState) (h
       let mailbox = mailbox_at w.mailboxes submitter in
       let others = mailbox.ring ++ replies_to (unrouted w.replies w.outcomes w.outcome) submitter in
       none_of_first mailbox.received others (replies_to h.answers submitter) (sym (h.routed.each submitter among))
-      (none_among (λ (reply : ReplyValue). reply.submitter == submitter) h.answers
+      (none_among (λ (reply : ReplyValue). reply.packet.submitter == submitter) h.answers
       (far.no_stop_seen goes.front goes.ledger))
 
 -- ---- at rest

@@ -13,7 +13,7 @@ use Rattle.tb_work.specs.declared.item.Item.TheVariants as item
 use Rattle.tb_work.specs.declared.item.Ticket.{Ticket}
 use Rattle.tb_core.specs.Due.{all_due, replies_to, Ahead}
 use Rattle.tb_core.specs.EndedRun.{IsPrefix}
-use Rattle.tb_core.specs.Headline.{packets_queued, numbered_of}
+use Rattle.tb_core.specs.Headline.{packets_queued}
 use Rattle.tb_core.specs.Journal.{inputs}
 use Rattle.tb_core.proofs.HeadlineLemmas.{prefix-filter, one-each}
 use Rattle.tb_core.proofs.Packets.{jobs-part}
@@ -129,7 +129,7 @@ as_many clock n s journal queue all =
     let replies = replies_to (all_due clock 0 (items_in queue) journal) s in
     omega (
       arith,
-      length-map replies numbered_of,
+      length-map replies (λ (reply : ReplyValue). reply.packet),
       ap length (one-each clock s journal (Ahead 0) (items_in queue) ∙ sym (jobs-part n s queue all)),
       counted (items_from s queue),
     )
@@ -149,7 +149,8 @@ unread_few U clock n pushed w h s among =
     let way = replies_to (unrouted w.replies w.outcomes w.outcome) s in
     let all = all_due clock 0 (items_in pushed) (inputs w.ledger) in
     let mine : IsPrefix (replies_to h.answers s) (replies_to all s) =
-    prefix-filter (λ (reply : ReplyValue). reply.submitter == s) h.answers all (far_prefix U clock n pushed w h) in
+    prefix-filter (λ (reply : ReplyValue). reply.packet.submitter == s) h.answers all
+    (far_prefix U clock n pushed w h) in
     omega (
       arith,
       ap length (h.routed.each s among),
@@ -165,7 +166,7 @@ room_for : (U : Type 0) (credit clock n : ℕ) (pushed : List Ticket) (w : World
     has_reply_slot credit w replies ≡ true
 room_for U credit clock n pushed w h in_credit some [] r = refl
 room_for U credit clock n pushed w h in_credit some (reply ∷ replies) r =
-    let s = reply.submitter in
+    let s = reply.packet.submitter in
     let less : unread (mailbox_at w.mailboxes s) < credit =
     ⊎_elim
     (λ (among : s < n). omega (arith, in_credit s, unread_few U clock n pushed w h s among, one_more))
@@ -179,9 +180,10 @@ room_for U credit clock n pushed w h in_credit some (reply ∷ replies) r =
     let lt : nat_lt (unread (mailbox_at w.mailboxes s)) credit ≡ true = lt-ltb (unread (mailbox_at w.mailboxes s)) credit less in
     rw lt refl
   where
-    one_more : 0 < length (replies_to (unrouted w.replies w.outcomes w.outcome) reply.submitter)
+    one_more : 0 < length (replies_to (unrouted w.replies w.outcomes w.outcome) reply.packet.submitter)
     one_more =
-        let own : (reply.submitter == reply.submitter) ≡ true = eq-eqb reply.submitter reply.submitter refl in
+        let s = reply.packet.submitter in
+        let own : (s == s) ≡ true = eq-eqb s s refl in
         rw (r, own) (omega arith)
 
 pub credit_leaves_room : CreditLeavesRoom

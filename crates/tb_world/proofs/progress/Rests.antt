@@ -91,9 +91,9 @@ module _ (slots credit : ℕ) (some_slots : 0 < slots) (some_credit : 0 < credit
       has_reply_slot credit w replies ≡ true
   reply_room w [] none = refl
   reply_room w (reply ∷ replies) none =
-      let lt : nat_lt (unread (mailbox_at w.mailboxes reply.submitter)) credit ≡ true =
-      lt-ltb (unread (mailbox_at w.mailboxes reply.submitter)) credit
-      (omega (arith, some_credit, all_read w.mailboxes reply.submitter none)) in
+      let lt : nat_lt (unread (mailbox_at w.mailboxes reply.packet.submitter)) credit ≡ true =
+      lt-ltb (unread (mailbox_at w.mailboxes reply.packet.submitter)) credit
+      (omega (arith, some_credit, all_read w.mailboxes reply.packet.submitter none)) in
       rw lt refl
 
   cutter : (w : WorldState) (replies : List ReplyValue) (outcomes : List Outcomes) → w.replies ≡ replies

@@ -244,7 +244,7 @@ outcome_pop_steps w (reply ∷ replies) outcomes r o = tt
 unread_more : (mailboxes : List Mailbox) (reply : ReplyValue)
     → sum_by unread (mailboxes_with mailboxes reply) ≤ sum_by unread mailboxes + 1
 unread_more mailboxes reply =
-    let own = reply.submitter in
+    let own = reply.packet.submitter in
     let mailbox = mailbox_at mailboxes own in
     let new = with_reply mailbox reply in
     ⊎_elim
@@ -291,7 +291,7 @@ reply_push_steps : (w : WorldState) (replies : List ReplyValue) → w.replies �
     → Steps w (reply_push w replies)
 reply_push_steps w [] r = tt
 reply_push_steps w (reply ∷ replies) r =
-    let own = reply.submitter in
+    let own = reply.packet.submitter in
     let new = with_reply (mailbox_at w.mailboxes own) reply in
     record {
       fewer = omega (arith, ap length r, unread_more w.mailboxes reply);
