@@ -10,9 +10,9 @@ ghost use Rattle.sqlite_trees.specs.View.{IsClean, doubt};
 ghost use Rattle.tb_durable.specs.Rows.{jobs_row, group_in};
 ghost use Rattle.tb_durable.specs.Durable.{Adds, IsAdded, LeavesNothingNew};
 
+use crate::counts::Counts;
 use crate::fault::OpenFault;
 use crate::reading::read_ledger;
-use crate::replaying::number_after;
 use crate::settings::Settings;
 use crate::table::{NotStored, Table, no_memory};
 use sqlite_trees::error::StoreError;
@@ -23,14 +23,14 @@ use tb_batch::{Batch, Parts};
 use tb_core::{AnyLedger, BareLedger, Outcomes, Parcel, Seed};
 use tb_layout::{CREATE_ACCOUNTS, CREATE_TRANSFERS, NoMemory, PLACES_MAX};
 use tb_machine::Machine;
-use tb_work::{Moment, Stub};
+use tb_work::Moment;
 
 /// A ledger whose entries are stored before they are applied.
 pub struct DurableLedger<S: Store> {
     table: Table<S>,
     bare: BareLedger,
     settings: Settings,
-    numbers: [u64; 16],
+    counts: Counts,
     in_doubt: bool,
     fault: Option<StoreError>,
 }
@@ -42,7 +42,7 @@ impl<S: Store + Drop> Drop for DurableLedger<S> {
             table,
             bare,
             settings: _,
-            numbers: _,
+            counts: _,
             in_doubt: _,
             fault: _,
         } = self;
@@ -61,15 +61,6 @@ fn reserve_for(bare: &mut BareLedger, parts: &Parts) -> Result<(), NoMemory>
         CREATE_TRANSFERS => bare.reserve(0, events),
         _ => Ok(()),
     }
-}
-
-/// Returns the next number of each submitter after packets with these stubs. None if one doesn't follow its submitter's last.
-fn numbers_after(numbers: [u64; 16], stubs: &[Stub]) -> Option<[u64; 16]> {
-    let mut next = numbers;
-    for stub in stubs {
-        next[stub.submitter as usize % 16] = number_after(&next, *stub)?;
-    }
-    Some(next)
 }
 
 /// Stores a batch at the next place. Memory for the facts that it may add is reserved before anything is written.
@@ -136,11 +127,11 @@ impl<S: Store + Drop> DurableLedger<S> {
         let read = read_ledger(&mut table, settings, seed);
         match read {
             Ok(read) => {
-                let numbers = read.replaying.numbers;
+                let counts = read.replaying.counts;
                 Ok(DurableLedger {
                     table,
                     settings: read.settings,
-                    numbers,
+                    counts,
                     bare: read.replaying.into_ledger(),
                     in_doubt: false,
                     fault: None,
@@ -157,11 +148,19 @@ impl<S: Store + Drop> DurableLedger<S> {
         self.settings
     }
 
-    /// Returns the number of each submitter's next packet: how many of its packets are stored.
-    pub fn numbers(&self) -> [u64; 16]
-        ensures { result ≡ self.now.numbers }
+    /// Returns how many packets of each submitter are stored, of all runs. A submitter whose packets are its own in each run goes on
+    /// behind as many.
+    pub fn packets(&self) -> [u64; 16]
+        ensures { result ≡ self.now.counts.packets }
     {
-        self.numbers
+        self.counts.packets
+    }
+
+    /// Returns the number of each submitter's next packet if the last run goes on. A new run numbers them from 0, as a pipeline does.
+    pub fn numbers(&self) -> [u64; 16]
+        ensures { result ≡ self.now.counts.numbers }
+    {
+        self.counts.numbers
     }
 
     /// Returns whether it has stopped: it commits nothing more.
@@ -217,7 +216,7 @@ impl<S: Store + Drop> DurableLedger<S> {
             table,
             bare,
             settings: _,
-            numbers: _,
+            counts: _,
             in_doubt: _,
             fault: _,
         } = self;
@@ -279,12 +278,13 @@ impl<S: Store + Drop> DurableLedger<S> {
             return self.bare.apply_as_refused(Parcel::Batch(batch));
         }
         let parts = batch.into_parts();
-        let Some(numbers) = numbers_after(self.numbers, &parts.stubs) else {
+        let mut counts = self.counts;
+        let Some(()) = counts.count_all(&parts.stubs) else {
             return self.bare.apply_as_refused(Parcel::Batch(Batch::whole(parts)));
         };
         match store_batch(&mut self.table, &mut self.bare, &parts) {
             Ok(()) => {
-                self.numbers = numbers;
+                self.counts = counts;
                 self.follow(Parcel::Batch(Batch::whole(parts)))
             }
             Err(refused) => self.stop(refused, Parcel::Batch(Batch::whole(parts))),
@@ -327,9 +327,9 @@ impl<S: Store + Drop> DurableLedger<S> {
     /// and each packet of a batch gets the outcome Stopped: it isn't committed, unless the ledger is `in_doubt`. A batch costs
     /// one transaction: its row is written to the log, and one sync waits for the disk.
     ///
-    /// Each packet must have its submitter's next number (`numbers`), since no file that has another can be opened again. A
-    /// batch with another number stops the ledger, as does one past the last place: nothing is written, and `fault` has
-    /// nothing to say.
+    /// Each packet must have its submitter's next number (`numbers`), or 0 as the first of a run, since no file that has another
+    /// can be opened again. A batch with another number stops the ledger, as does one past the last place: nothing is written,
+    /// and `fault` has nothing to say.
     pub fn apply(&mut self, parcel: Parcel) -> Outcomes
         ensures kept { IsStored (S.Store.view self.old.table.store) self.old.bare
             → IsStored (S.Store.view self.new.table.store) self.new.bare }

@@ -8,6 +8,7 @@
 //! at a path, as a file that any SQLite reads.
 #![tactic(auto)]
 
+mod counts;
 mod fault;
 mod file;
 mod ledger;

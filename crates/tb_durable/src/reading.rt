@@ -8,6 +8,7 @@ ghost use Rattle.tb_durable.specs.Durable.{IsReading, IsReplaying, IsSettled, Is
 ghost use Rattle.tb_durable.specs.Faults.{IsCause, IsFirstFault};
 ghost use Rattle.sqlite_value.specs.Order.{Row};
 
+use crate::counts::Counts;
 use crate::fault::OpenFault;
 use crate::replaying::Replaying;
 use crate::rows::{FORMAT_VERSION, number_in, settings_in};
@@ -174,7 +175,7 @@ pub(crate) fn read_ledger<S: Store>(
     let settings = read_settings(table, settings)?;
     let mut replaying = Replaying {
         ledger: BareLedger::with_seed(alloc, settings.clock, seed),
-        numbers: [0; 16],
+        counts: Counts::new(),
         alloc,
     };
     replay_rows(table, &mut replaying)?;

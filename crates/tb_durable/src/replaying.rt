@@ -13,6 +13,7 @@ ghost use Rattle.tb_durable.specs.Durable.{AddsGroup};
 ghost use Rattle.tb_durable.specs.Faults.{IsEntryFault, IsRowFault};
 ghost use Rattle.tb_durable.specs.declared.fault.OpenFault.TheVariants.{BadEntry as BadEntryFault, NoMemory as NoMemoryFault};
 
+use crate::counts::Counts;
 use crate::fault::OpenFault;
 use crate::rows::{blob_in, number_in, stub_at};
 use sqlite_value::row::Row;
@@ -22,20 +23,10 @@ use tb_core::{BareLedger, Parcel};
 use tb_layout::{BATCH_MAX, CREATE_ACCOUNTS, CREATE_TRANSFERS, LOOKUP_ACCOUNTS, MOMENT_MAX};
 use tb_work::{Bytes, Job, Moment, Packet, Refusal, Stub};
 
-/// Returns the number after a packet's, if the packet follows its submitter's last: it has the submitter's next number, or 0, with
-/// which the submitter's packets begin in each run. There are 16 submitters.
-pub(crate) fn number_after(numbers: &[u64; 16], stub: Stub) -> Option<u64> {
-    let submitter = stub.submitter as usize;
-    if submitter >= 16 || (stub.number != 0 && stub.number != numbers[submitter]) {
-        return None;
-    }
-    stub.number.checked_add(1)
-}
-
-/// A ledger that has applied some rows, and for each submitter the number of its next packet.
+/// A ledger that has applied some rows, and how many packets of each submitter are in them.
 pub(crate) struct Replaying {
     pub(crate) ledger: BareLedger,
-    pub(crate) numbers: [u64; 16],
+    pub(crate) counts: Counts,
     pub(crate) alloc: Global,
 }
 
@@ -44,7 +35,7 @@ impl Drop for Replaying {
     fn drop(self) {
         let Replaying {
             ledger,
-            numbers: _,
+            counts: _,
             alloc: _,
         } = self;
         drop(ledger);
@@ -117,7 +108,7 @@ impl Replaying {
     {
         let Replaying {
             ledger,
-            numbers: _,
+            counts: _,
             alloc: _,
         } = self;
         ledger
@@ -135,11 +126,10 @@ impl Replaying {
         ensures fault { IfErr result (IsEntryFault self.old.ledger.places) }
         ensures same { self.new.ledger ≡ self.old.ledger }
     {
-        let Some(next) = number_after(&self.numbers, stub) else {
-            return Err(self.bad_entry());
-        };
-        self.numbers[stub.submitter as usize % 16] = next;
-        Ok(())
+        match self.counts.count(stub) {
+            Some(()) => Ok(()),
+            None => Err(self.bad_entry()),
+        }
     }
 
     /// Returns the job of the first packet in a body, and the bytes after it.

@@ -1,11 +1,13 @@
 //! Opening a pipeline.
 
-ghost use Rattle.std.specs.Prelude.{◌≡◌, ◌≤◌, ◌<◌, ℕ, [], map, length, slice_index_or, None, OnOk, IfOk, IfErr, IfSome};
+ghost use Rattle.std.specs.Prelude.{◌≡◌, ◌≤◌, ◌<◌, ℕ, [], true, false, map, length, slice_index_or, None, OnOk, OnErr, IfOk, IfErr, IfSome};
+ghost use Rattle.tb_core.specs.Journal.{LedgerState};
 ghost use Rattle.tb_layout.specs.Limits.{clock_max};
 ghost use Rattle.tb_core.specs.Ledger.{new_ledger};
 ghost use Rattle.tb_rings.specs.Ends.{given, taken, IsRing};
 ghost use Rattle.tb_submit.specs.Ends.{Origin, new_submitter, new_control, new_intake, origin_of, seat_at};
 ghost use Rattle.tb_submit.specs.Refusals.{IsQueueRefusal, queue_refusal};
+ghost use Rattle.tb_pipe.specs.Reported.{AreTogether};
 
 use crate::committing::Committer;
 use crate::routing::Demultiplexer;
@@ -26,6 +28,39 @@ pub struct Opened<L: AnyLedger = Ledger> {
     pub pipeline: Pipeline<L>,
     pub submitters: Vec<Submitter>,
     pub control: Control,
+}
+
+impl<L: AnyLedger> Opened<L> {
+    /// Returns the same with its pipeline over another ledger, as `Pipeline::over` does. A ledger that has stopped comes back, and
+    /// all else is spent.
+    pub fn over<M: AnyLedger>(self, ledger: M) -> Result<Opened<M>, M>
+        ensures pipeline { IfOk result (λ opened. opened.pipeline ≡ record {
+          start = ledger; intake = self.pipeline.intake; submitters = self.pipeline.submitters }) }
+        ensures ends { IfOk result (λ opened. (opened.submitters ≡ self.submitters) × (opened.control ≡ self.control)) }
+        ensures together { AreTogether self.pipeline self.submitters.items self.control
+            → IfOk result (λ opened. AreTogether opened.pipeline opened.submitters.items opened.control) }
+        ensures back { IfErr result (λ back. back ≡ ledger) }
+        ensures goes_on { (now : LedgerState) → M.is ledger now → OnOk result (now.stopped ≡ false) }
+        ensures stopped { (now : LedgerState) → M.is ledger now → OnErr result (now.stopped ≡ true) }
+    {
+        let Opened {
+            pipeline,
+            submitters,
+            control,
+        } = self;
+        match pipeline.over(ledger) {
+            Ok(pipeline) => Ok(Opened {
+                pipeline,
+                submitters,
+                control,
+            }),
+            Err(ledger) => {
+                drop(submitters);
+                drop(control);
+                Err(ledger)
+            }
+        }
+    }
 }
 
 /// The rings between the stages: the batcher's to the committer, and the committer's to the demultiplexer.
