@@ -17,7 +17,7 @@
 //! (`way_of_a_packet` in tb_core_tests is this caller, proved.) `run_list` does so with a list of items (`listed`, `ran`,
 //! `grouping`). The front loses, doubles and overtakes nothing (`accounted`, `took`, `passes`, `lawful`). The ledger keeps a
 //! batch as one entry of its journal, and answers each packet by its place (`applied`, `commits`, `joined`). A `BareLedger`
-//! does so without a journal.
+//! does so without a journal. `AnyLedger` is what both have in common, for whoever commits to a ledger and doesn't read its journal.
 //!
 //! The report on any run is one record (`specs/Report.antt`), and the law `headline` says what it means for each submitter
 //! (`specs/Headline.antt`). `run_is_lawful` leads there from what a front and a ledger took, also if an allocation failed;

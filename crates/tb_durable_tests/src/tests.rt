@@ -146,7 +146,7 @@ fn goes_on_at_the_next_place(rt: HostRuntime) {
 /// is there.
 #[test]
 fn packets_out_of_turn(rt: HostRuntime) {
-    for number in [0, 2, u64::MAX] {
+    for number in [2, 3, u64::MAX] {
         let mut ledger = opened(&rt, empty_store(&rt));
         check!(&rt; commit(&rt, &mut ledger, batch_of(&rt, 7, 0, two_accounts(&rt))) == 0);
         check!(&rt; ledger.numbers()[7] == 1);
@@ -157,6 +157,19 @@ fn packets_out_of_turn(rt: HostRuntime) {
         check!(&rt; facts(&again) == Some([1, 7, 0, 0]) && again.numbers()[7] == 1);
         drop(again);
     }
+}
+
+/// A submitter's packets begin at number 0 again in another run. Those of both runs are counted, also when it is opened again.
+#[test]
+fn a_run_numbers_its_packets_anew(rt: HostRuntime) {
+    let mut ledger = opened(&rt, empty_store(&rt));
+    check!(&rt; commit(&rt, &mut ledger, batch_of(&rt, 7, 0, two_accounts(&rt))) == 0);
+    check!(&rt; commit(&rt, &mut ledger, batch_of(&rt, 7, 1, two_accounts(&rt))) == 1);
+    check!(&rt; commit(&rt, &mut ledger, batch_of(&rt, 7, 0, two_accounts(&rt))) == 2);
+    check!(&rt; ledger.numbers()[7] == 1 && ledger.packets()[7] == 3 && ledger.packets()[6] == 0);
+    let again = opened(&rt, ledger.into_store());
+    check!(&rt; again.numbers()[7] == 1 && again.packets()[7] == 3);
+    drop(again);
 }
 
 /// Returns a row with an empty body.

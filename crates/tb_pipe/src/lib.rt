@@ -1,7 +1,8 @@
 //! The pipeline: batcher, committer and demultiplexer as threads, between the submission queue and the reply rings.
 //!
 //! `open` makes a pipeline with its submitters and its control (`opens`, `refusal`, `own`, `seats`); `Pipeline::with_ledger` gives it
-//! a ledger of the caller's: one that an earlier run left, or a new one with a seed or with reserved capacity. `Pipeline::serve` runs the stages until all senders have ended. If a thread can't
+//! a ledger of the caller's: one that an earlier run left, or a new one with a seed or with reserved capacity. `Pipeline::over` gives it
+//! any ledger (`AnyLedger` of `tb_core`), also one whose journal isn't in memory. `Pipeline::serve` runs the stages until all senders have ended. If a thread can't
 //! be started it returns the intake, and nothing was taken from it (`refused`).
 //! `settle` makes the report, which is lawful and has the headline (`report`, `headline`, `grouping`, `pulses`): its caller ensures
 //! by two equations that the ends are those that were opened with the pipeline, in order.
@@ -17,7 +18,8 @@
 //!
 //! `drive_all` runs an opened pipeline until all senders have ended, with a thread for each sender and its driver (`tb_drive`). It
 //! settles with the pipeline's own ends, so its clauses say what those of `settle` say of the report. `submit_ahead` queues a packet
-//! before that.
+//! before that. `drive_over` and `settle_over` do the same over any ledger, of which they say that there is one, of those that the value
+//! may be, with such a report.
 //!
 //! `crates/example_two_tellers`, `crates/example_days` with a run a day over one ledger, and, with threads of its own, `crates/example_own_threads` are examples that the gate compiles.
 #![tactic(auto)]

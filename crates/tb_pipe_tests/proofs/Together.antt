@@ -10,7 +10,7 @@ use Rattle.tb_pipe.specs.Run.{PipelineState, ServedState}
 use Rattle.tb_pipe_tests.specs.Together.{IsOpenedAs, IsRun, run_with}
 
 -- what serving leaves of a pipeline, settled
-pub is_run : (pipeline : PipelineState) (served : ServedState) (queued : ℕ → List Item) (ledger : LedgerState)
+pub is_run : (pipeline : PipelineState LedgerState) (served : ServedState LedgerState) (queued : ℕ → List Item) (ledger : LedgerState)
     (ends : List EndedState) → served.start ≡ pipeline.start
     → served.intake
     ≡ record pipeline.intake { taken = served.intake.taken; seen_empty = served.intake.seen_empty } →
@@ -30,7 +30,7 @@ is_run pipeline served queued ledger ends start intake opening lawful grouping =
 )
 
 -- the same of a pipeline that was opened so
-pub run_as : (clock limit submitters : ℕ) (pipeline : PipelineState) (ledger : LedgerState) (ends : List EndedState)
+pub run_as : (clock limit submitters : ℕ) (pipeline : PipelineState LedgerState) (ledger : LedgerState) (ends : List EndedState)
     → IsOpenedAs clock limit submitters pipeline → IsRun pipeline.start pipeline.intake.limit
     pipeline.intake.submitters ledger ends →
     IsRun (new_ledger clock) limit submitters ledger ends

@@ -11,12 +11,12 @@ use Rattle.tb_work.specs.declared.item.Ticket.{Ticket}
 use Rattle.tb_pipe.specs.Run.{PipelineState}
 
 -- the submitters and the control are a pipeline's own, by rising number
-abbrev pub AreTogether : PipelineState → List SubmitterState → SenderState → Type 0
+abbrev pub AreTogether : {L : Type 0} → PipelineState L → List SubmitterState → SenderState → Type 0
 AreTogether pipeline submitters control =
     (map origin_of submitters ≡ pipeline.submitters) × (control.seat ≡ control_seat pipeline.intake)
 
 -- a pipeline over a new ledger that was opened with this clock and this limit, for this number of submitters
-abbrev pub IsOpenedAs : ℕ → ℕ → ℕ → PipelineState → Type 0
+abbrev pub IsOpenedAs : ℕ → ℕ → ℕ → PipelineState LedgerState → Type 0
 IsOpenedAs clock limit submitters pipeline =
     (pipeline.start ≡ new_ledger clock) × (pipeline.intake.limit ≡ limit) × (pipeline.intake.submitters ≡ submitters)
 

@@ -8,10 +8,10 @@ use std::alloc::Global;
 use std::process::Abort;
 use std::sync::Wait;
 use std::thread::Threads;
-use tb_core::Ledger;
+use tb_core::{AnyLedger, BareLedger, Ledger, Seed};
 use tb_drive::{Action, ControlPlan, Driver};
 use tb_layout::Transfer;
-use tb_pipe::{Finished, Open, Report, drive_all, open, submit_ahead};
+use tb_pipe::{Finished, Open, Report, drive_over, open, submit_ahead};
 use tb_submit::Ended;
 use tb_test_makers::{account, accounts_packet, check};
 use tb_work::{Answer, Outcome, Packet, Refusal, Reply};
@@ -177,26 +177,26 @@ fn clerks(rt: &impl Abort, alloc: Global, first: u64) -> Vec<Clerk> {
     clerks
 }
 
-/// Runs the clerks over a ledger, after a packet that makes their accounts. Returns the ledger, and how many transfers were
-/// made and how many were there already.
-fn run_clerks<R: Threads + Wait + Sync + Abort>(
+/// Runs the clerks over a ledger that has this number of places, after a packet that makes their accounts. Returns the ledger, and
+/// how many transfers were made and how many were there already.
+fn run_clerks<R: Threads + Wait + Sync + Abort, L: AnyLedger + Send>(
     rt: &R,
     alloc: Global,
-    ledger: Ledger,
-) -> (Ledger, u32, u32) {
-    check!(rt; !ledger.stopped());
-    let clerks = clerks(rt, alloc, ledger.places());
+    ledger: L,
+    places: u64,
+) -> (L, u32, u32) {
+    let clerks = clerks(rt, alloc, places);
     check!(rt; clerks.len() == 16);
-    let mut opened = match open(alloc, 0, 8190, 64, 32, CLERKS) {
+    let opened = match open(alloc, 0, 8190, 64, 32, CLERKS) {
         Ok(opened) => opened,
         Err(_) => rt.panic("it isn't opened"),
     };
-    opened.pipeline = opened.pipeline.with_ledger(ledger);
+    let mut opened = opened.over(ledger).ok().expect(rt, "it hasn't stopped");
     let accounts = accounts_packet(alloc, &[account(1, 0), account(2, 0)]).expect(rt, "memory");
     let queued = submit_ahead(rt, alloc, &mut opened, 0, accounts);
     check!(rt; queued.is_ok());
     let control = ControlPlan::none(alloc).driver();
-    let finished = drive_all(rt, alloc, opened, clerks, control)
+    let finished = drive_over(rt, alloc, opened, clerks, control)
         .ok()
         .expect(rt, "it ran");
     let Finished {
@@ -217,10 +217,26 @@ fn run_clerks<R: Threads + Wait + Sync + Abort>(
 /// was made in the first: 46 is `exists`, and the accounts fail with 21.
 #[test]
 fn sixteen_submitters_twice(rt: HostRuntime) {
-    let (ledger, made, existing) = run_clerks(&rt, rt.alloc(), Ledger::new(rt.alloc(), 0));
+    let ledger = Ledger::new(rt.alloc(), 0);
+    let (ledger, made, existing) = run_clerks(&rt, rt.alloc(), ledger, 0);
     check!(&rt; (made, existing) == (3201, 0));
     check!(&rt; ledger.places() == 3201);
-    let (ledger, made, existing) = run_clerks(&rt, rt.alloc(), ledger);
+    let (ledger, made, existing) = run_clerks(&rt, rt.alloc(), ledger, 3201);
+    check!(&rt; (made, existing) == (0, 3200));
+    check!(&rt; ledger.places() == 6402);
+    let first = ledger.machine().account(1).expect(&rt, "account 1");
+    check!(&rt; (first.debits_posted, first.credits_posted) == (3200, 0));
+    drop(ledger);
+}
+
+/// The same over a ledger that keeps no journal: its replies, places and state are those of one that does.
+#[test]
+fn sixteen_submitters_twice_without_a_journal(rt: HostRuntime) {
+    let ledger = BareLedger::with_seed(rt.alloc(), 0, Seed::default());
+    let (ledger, made, existing) = run_clerks(&rt, rt.alloc(), ledger, 0);
+    check!(&rt; (made, existing) == (3201, 0));
+    check!(&rt; ledger.places() == 3201);
+    let (ledger, made, existing) = run_clerks(&rt, rt.alloc(), ledger, 3201);
     check!(&rt; (made, existing) == (0, 3200));
     check!(&rt; ledger.places() == 6402);
     let first = ledger.machine().account(1).expect(&rt, "account 1");
