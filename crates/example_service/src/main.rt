@@ -20,9 +20,12 @@ ghost use Rattle.std.specs.Prelude.{◌≡◌, IfSome, length};
 mod till;
 
 use crate::till::Till;
+use sqlite_trees::store::Store;
 use std::alloc::Global;
 use std::env;
 use std::process::ExitCode;
+use std::sync::Wait;
+use std::thread::Threads;
 use tb_core::Seed;
 use tb_drive::ControlPlan;
 use tb_durable::{DurableLedger, LedgerFile, Settings, open_file};
@@ -83,18 +86,24 @@ fn tills(rt: &HostRuntime, stored: [u64; 16], packets: u64) -> Option<Vec<Till>>
     ensures { IfSome result (λ tills. length tills.items ≡ 4) }
 {
     vec![in rt.alloc();
-        Till::new(rt.clone(), 0, stored[0], packets),
-        Till::new(rt.clone(), 1, stored[1], packets),
-        Till::new(rt.clone(), 2, stored[2], packets),
-        Till::new(rt.clone(), 3, stored[3], packets),
+        Till::new(rt.clone().ok()?, 0, stored[0], packets),
+        Till::new(rt.clone().ok()?, 1, stored[1], packets),
+        Till::new(rt.clone().ok()?, 2, stored[2], packets),
+        Till::new(rt.clone().ok()?, 3, stored[3], packets),
     ]
     .ok()
 }
 
 /// Runs a pipeline over a ledger until all tills have ended, and returns the ledger. None if memory ran out before the run, or a thread
 /// couldn't be started: what was committed is in the file.
-fn run(rt: &HostRuntime, alloc: Global, ledger: FileLedger, packets: u64) -> Option<FileLedger> {
-    let tills = tills(rt, ledger.packets(), packets)?;
+fn run<R: Threads + Wait + Sync, S: Store + Drop + Send>(
+    rt: &R,
+    alloc: Global,
+    ledger: DurableLedger<S>,
+    tills: Vec<Till>,
+) -> Option<DurableLedger<S>>
+    requires { length tills.items ≡ 4 }
+{
     let Ok(opened) = open(alloc, 0, BATCH_MAX, 64, 16, TILLS) else {
         return None;
     };
@@ -133,7 +142,14 @@ fn main(rt: HostRuntime) -> ExitCode {
     };
     let places = ledger.places();
     let _ = println!(rt; "the ledger has {places} places");
-    let Some(ledger) = run(&rt, rt.alloc(), ledger, packets) else {
+    let ran = match tills(&rt, ledger.packets(), packets) {
+        Some(tills) => run(&rt, rt.alloc(), ledger, tills),
+        None => {
+            drop(ledger);
+            None
+        }
+    };
+    let Some(ledger) = ran else {
         let _ = println!(rt; "memory or a thread failed");
         return ExitCode::from(2);
     };

@@ -1,9 +1,9 @@
 //! A till: the driver of one submitter.
 
-use std::alloc::{AllocError, Global};
+use std::alloc::Global;
 use std::sync::Wait;
 use tb_drive::{Action, Driver};
-use tb_layout::{Account, Transfer};
+use tb_layout::{Account, NoMemory, Transfer};
 use tb_work::{Answer, Outcome, Packet, Refusal, Reply};
 
 /// Queues its packets without waiting between them, reads all replies, and prints a line for each as it comes.
@@ -24,6 +24,17 @@ pub(crate) struct Till {
     stopped: bool,
 }
 
+/// Returns the place of a committed packet, and how many of its events failed. None if it isn't committed.
+fn place_and_failures(outcome: Outcome) -> Option<(u64, usize)> {
+    match outcome {
+        Outcome::Committed { place, answer } => match answer {
+            Answer::Failures(failures) => Some((place, failures.as_slice().len())),
+            Answer::Accounts(_) => Some((place, 0)),
+        },
+        Outcome::Shutdown | Outcome::Stopped => None,
+    }
+}
+
 impl Till {
     /// Returns a till of which `stored` packets are in the ledger, and which is to queue this number of packets more.
     pub(crate) fn new(rt: HostRuntime, number: u32, stored: u64, packets: u64) -> Till {
@@ -37,13 +48,18 @@ impl Till {
         }
     }
 
-    /// Returns the id of its wallet. That of its shop is one more.
+    /// Returns the id of a till's wallet.
     pub(crate) fn wallet(number: u32) -> u128 {
         u128::from(number) * 2 + 1
     }
 
+    /// Returns the id of its shop.
+    fn shop(&self) -> u128 {
+        u128::from(self.number) * 2 + 2
+    }
+
     /// Returns its wallet and its shop in a packet.
-    fn accounts(&self, alloc: Global) -> Result<Packet, AllocError> {
+    fn accounts(&self, alloc: Global) -> Result<Packet, NoMemory> {
         let wallet = Account {
             id: Till::wallet(self.number),
             ledger: 1,
@@ -51,19 +67,19 @@ impl Till {
             ..Account::default()
         };
         let shop = Account {
-            id: wallet.id + 1,
+            id: self.shop(),
             ..wallet
         };
         Packet::of_accounts(alloc, &[wallet, shop], 0)
     }
 
     /// Returns its next payment, of 1.
-    fn payment(&self, alloc: Global) -> Result<Packet, AllocError> {
+    fn payment(&self, alloc: Global) -> Result<Packet, NoMemory> {
         let wallet = Till::wallet(self.number);
         let payment = Transfer {
             id: wallet << 64 | u128::from(self.next),
             debit_account_id: wallet,
-            credit_account_id: wallet + 1,
+            credit_account_id: self.shop(),
             amount: 1,
             ledger: 1,
             code: 1,
@@ -115,17 +131,12 @@ impl Driver for Till {
         let Reply { outcome, .. } = reply;
         let (till, packet) = (self.number, self.answered);
         self.answered = packet.saturating_add(1);
-        let printed = match outcome {
-            Outcome::Committed {
-                place,
-                answer: Answer::Failures(failures),
-            } if failures.as_slice().is_empty() => {
+        let printed = match place_and_failures(outcome) {
+            Some((place, 0)) => {
                 println!(self.rt; "till {till}: packet {packet} is committed at place {place}")
             }
-            Outcome::Committed { place, .. } => {
-                println!(self.rt; "till {till}: packet {packet} failed at place {place}")
-            }
-            Outcome::Shutdown | Outcome::Stopped => {
+            Some((place, _)) => println!(self.rt; "till {till}: packet {packet} failed at place {place}"),
+            None => {
                 self.stopped = true;
                 println!(self.rt; "till {till}: packet {packet} is not committed")
             }
