@@ -1,11 +1,12 @@
 //! Drives the pipeline from its submitters' threads, to measure it.
 //!
 //!     bench_pipeline run EVENTS PACKETS SUBMITTERS CREDIT CAPACITY LIMIT
+//!     bench_pipeline bare EVENTS PACKETS SUBMITTERS CREDIT CAPACITY LIMIT
 //!     bench_pipeline live SUBMITTERS LOADS
 //!
 //! `run`: each submitter makes a thousand accounts and sends PACKETS packets of EVENTS plain transfers between them, with
 //! at most CREDIT of them unanswered. The queue has CAPACITY slots, and a batch at most LIMIT events. Prints sums over the
-//! replies and the balances, which are the same in every order.
+//! replies and the balances, which are the same in every order. `bare`: the same over a ledger that keeps no journal.
 //!
 //! `live`: the first submitter sends a packet of one event for each byte of the standard input, and writes a byte when it
 //! has the reply. LOADS others send packets of one event at credit 16 until the input ends, the rest sleep until then.
@@ -22,7 +23,7 @@ ghost use Rattle.std.specs.Prelude.{◌≡◌, length, IfSome};
 use crate::driver::LoadDriver;
 use crate::events::ACCOUNTS;
 use crate::live::{Echo, Over, Party};
-use crate::request::{Asked, LiveRequest, Load, Opening, Request, asked_by};
+use crate::request::{Asked, LiveRequest, Load, Request, asked_by};
 use crate::tally::{Tally, sum_of_balances};
 use std::alloc::Global;
 use std::io::{Read, Write};
@@ -30,8 +31,10 @@ use std::process::ExitCode;
 use std::sync::Wait;
 use std::thread::Threads;
 use std::{env, io};
+use tb_core::{AnyLedger, BareLedger, Ledger, Seed};
 use tb_drive::{ControlPlan, PlanDriver};
-use tb_pipe::{Finished, drive_all, open};
+use tb_machine::Machine;
+use tb_pipe::{Finished, drive_all, drive_over, open};
 
 /// Returns a driver for each submitter, by rising number.
 fn drivers(alloc: Global, submitters: u32, load: Load) -> Option<Vec<LoadDriver>>
@@ -44,14 +47,18 @@ fn drivers(alloc: Global, submitters: u32, load: Load) -> Option<Vec<LoadDriver>
     Some(drivers)
 }
 
-/// Returns a whole run, or None if the opening is refused, memory runs out or a thread can't be started.
-fn run<R: Threads + Wait + Sync>(
+/// Returns a whole run over a ledger, or None if the opening is refused, memory runs out or a thread can't be started.
+fn run<R: Threads + Wait + Sync, L: AnyLedger + Send>(
     rt: &R,
     alloc: Global,
-    opening: Opening,
-    load: Load,
-) -> Option<Finished<LoadDriver, PlanDriver>> {
-    let drivers = drivers(alloc, opening.submitters, load)?;
+    request: Request,
+    ledger: L,
+) -> Option<Finished<LoadDriver, PlanDriver, L>> {
+    let Request { opening, load } = request;
+    let Some(drivers) = drivers(alloc, opening.submitters, load) else {
+        drop(ledger);
+        return None;
+    };
     let opened = open(
         alloc,
         0,
@@ -60,8 +67,12 @@ fn run<R: Threads + Wait + Sync>(
         load.credit,
         opening.submitters,
     );
+    let Ok(opened) = opened else {
+        drop(ledger);
+        return None;
+    };
     let control = ControlPlan::none(alloc).driver();
-    drive_all(rt, alloc, opened.ok()?, drivers, control).ok()
+    drive_over(rt, alloc, opened.over(ledger).ok()?, drivers, control).ok()
 }
 
 /// Returns the sums over all replies.
@@ -73,15 +84,16 @@ fn tally_of(drivers: Vec<LoadDriver>) -> Tally {
     tally
 }
 
-/// Returns the line of a run.
+/// Returns the line of a run that its drivers counted.
 fn line_of_run(
     alloc: Global,
-    finished: Finished<LoadDriver, PlanDriver>,
+    drivers: Vec<LoadDriver>,
+    machine: &Machine,
     submitters: u32,
 ) -> Option<String> {
-    let tally = tally_of(finished.drivers);
+    let tally = tally_of(drivers);
     let accounts = u64::from(submitters).wrapping_mul(ACCOUNTS);
-    let balances = sum_of_balances(finished.report.ledger.machine(), accounts);
+    let balances = sum_of_balances(machine, accounts);
     let replies = tally.replies;
     let failures = tally.failures;
     let places = tally.places;
@@ -92,9 +104,19 @@ fn line_of_run(
 
 /// Returns the line that a request prints.
 fn line_of<R: Threads + Wait + Sync>(rt: &R, alloc: Global, request: Request) -> Option<String> {
-    let Request { opening, load } = request;
-    let finished = run(rt, alloc, opening, load)?;
-    line_of_run(alloc, finished, opening.submitters)
+    let Finished { report, drivers, .. } = run(rt, alloc, request, Ledger::new(alloc, 0))?;
+    line_of_run(alloc, drivers, report.ledger.machine(), request.opening.submitters)
+}
+
+/// Returns the line that a request prints if its ledger keeps no journal.
+fn line_of_bare<R: Threads + Wait + Sync>(
+    rt: &R,
+    alloc: Global,
+    request: Request,
+) -> Option<String> {
+    let ledger = BareLedger::with_seed(alloc, 0, Seed::default());
+    let Finished { report, drivers, .. } = run(rt, alloc, request, ledger)?;
+    line_of_run(alloc, drivers, report.ledger.machine(), request.opening.submitters)
 }
 
 /// Returns the submitters of a live run, by rising number.
@@ -150,6 +172,7 @@ fn main(rt: HostRuntime) -> ExitCode {
     let alloc = rt.alloc();
     let line = match env::args(&rt).ok().and_then(asked_by) {
         Some(Asked::Run(request)) => line_of(&rt, alloc, request),
+        Some(Asked::Bare(request)) => line_of_bare(&rt, alloc, request),
         Some(Asked::Live(request)) => {
             run_live(&rt, alloc, request, Echo::new(rt.reader(), io::writer(&rt))).map(
                 |()| String::new(alloc),
@@ -157,7 +180,7 @@ fn main(rt: HostRuntime) -> ExitCode {
         }
         None => {
             let _ = println!(rt;
-                "usage: bench_pipeline run EVENTS PACKETS SUBMITTERS CREDIT CAPACITY LIMIT | live SUBMITTERS LOADS"
+                "usage: bench_pipeline run|bare EVENTS PACKETS SUBMITTERS CREDIT CAPACITY LIMIT | live SUBMITTERS LOADS"
             );
             return ExitCode::from(1);
         }

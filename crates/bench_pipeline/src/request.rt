@@ -37,6 +37,8 @@ pub(crate) struct LiveRequest {
 #[derive(Clone, Copy)]
 pub(crate) enum Asked {
     Run(Request),
+    /// The same over a ledger that keeps no journal.
+    Bare(Request),
     Live(LiveRequest),
 }
 
@@ -83,6 +85,7 @@ pub(crate) fn asked_by(words: Args) -> Option<Asked> {
     let command = words.next()?;
     match command.as_str() {
         "run" => next_run(&mut words).map(Asked::Run),
+        "bare" => next_run(&mut words).map(Asked::Bare),
         "live" => next_live(&mut words).map(Asked::Live),
         _ => None,
     }
