@@ -49,7 +49,7 @@ fn batch_of(alloc: Global, job: Job) -> Option<Batch> {
 /// Batches that a ledger commits one after the other.
 #[derive(Drop)]
 struct Batches {
-    /// As many transfers as are reserved, which all fail: they leave capacity for the notes by which a commit is undone.
+    /// As many transfers as are reserved. All fail, and leave capacity for the notes by which a commit is undone.
     failing: Batch,
     accounts: Batch,
     transfers: Batch,
