@@ -284,6 +284,29 @@ def chains_with_transient_faults():
     return script, [*printed, f"clock {clock}", f"account 1 1 0 {moved} 0 0", f"account 2 2 0 0 0 {moved}", "account 3 3 0 0 0 0"]
 
 
+# How many items or events the scripts of modest size have: more than a power of two, so that what grows in larger steps has no capacity.
+MODEST = 2100
+
+
+def lookups_and_pulses():
+    """2,100 look-ups, each followed by a pulse: each of both has an entry of its own."""
+    script, printed = [], []
+    for number in range(MODEST):
+        script += ["packet 0 131", "id 0", f"pulse {number}"]
+        printed += [f"packet 0 {number} committed {2 * number}", f"pulse {2 * number + 1}"]
+    return script, [*printed, f"clock {MODEST - 1}"]
+
+
+def accounts_and_pending_transfers():
+    """2,100 accounts, and as many pending transfers with a timeout between the first two."""
+    ids = range(1, MODEST + 1)
+    script = ["packet 0 129", *map(account, ids), "packet 0 130", *(f"{transfer(number, flags=2)} timeout=9" for number in ids)]
+    return script, [
+        "packet 0 0 committed 0", "packet 0 1 committed 1", f"clock {2 * MODEST}", f"account 1 1 {MODEST} 0 0 0",
+        f"account 2 2 0 0 {MODEST} 0", *(f"account {number} {number} 0 0 0 0" for number in ids[2:]),
+    ]
+
+
 # What `list` and `run` print alike: scripts of one submitter, whose order is no schedule's.
 ALIKE = [
     largest_packet, one_event_too_many, many_packets, longest_line, line_too_long, largest_lookup, failed_ids, full_bodies,
@@ -295,3 +318,6 @@ ALIKE = [
 
 # What is for `list` alone: scripts with pulses or of several submitters.
 BY_LIST = [sixteen_submitters, resolved_late, many_entries]
+
+# What takes no allocation of more than 256 bytes for each of its 2,100 items of a kind, or events.
+IN_SMALL_STEPS = [lookups_and_pulses, accounts_and_pending_transfers]

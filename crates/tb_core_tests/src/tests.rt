@@ -17,6 +17,7 @@ mod ledger;
 mod list;
 mod machine;
 mod made;
+mod reserved;
 mod seeds;
 mod tables;
 mod told;

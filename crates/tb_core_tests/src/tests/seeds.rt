@@ -1,4 +1,4 @@
-//! A seed keeps ids that collide without one from slowing a ledger down.
+//! A seed keeps ids from slowing a ledger down that collide without it, or under a part of it.
 
 use super::ledger::alone;
 use super::made::{creating, transferring};
@@ -6,46 +6,133 @@ use super::push;
 use std::alloc::Global;
 use std::process::Abort;
 use std::time::{Clock, Instant};
-use tb_core::{Ledger, Parcel, Seed};
+use tb_core::{BareLedger, Ledger, Outcomes, Parcel, Seed};
+use tb_embed::Engine;
 use tb_test_makers::{account, check, transfer};
 use tb_work::Job;
 
-/// With 0 to 2^64 - 1 added, ids of which each has hash 0 without a seed.
-const COLLIDING: u128 = 0x9e37_79b9_7f4a_7c15 << 64;
+const SEED: Seed = Seed {
+    low: 0x9216_d5d9_8979_fb1b,
+    high: 0xd131_0ba6_98df_b5ad,
+};
+
+/// Without a seed all ids whose lower half is the first number, or whose upper half is the second, have one hash.
+const LOWER: u64 = 0x243f_6a88_85a3_08e3;
+
+const UPPER: u64 = 0x9e37_79b9_7f4a_7c15;
+
+/// The bits of both numbers of the seed that the ids are chosen against: none, two, and the lower half.
+const KNOWN: [u64; 3] = [0, 3, 0xffff_ffff];
+
+/// Which ids a packet has.
+#[derive(Clone, Copy)]
+enum Ids {
+    Rising,
+    /// Ids with one lower half. Under a seed of these bits only they have one hash.
+    OneLower(u64),
+    /// Ids with one upper half, in the same way.
+    OneUpper(u64),
+}
+
+impl Ids {
+    fn nth(self, place: u64) -> u128 {
+        let place = u128::from(place);
+        match self {
+            Ids::Rising => place.saturating_add(1_000),
+            Ids::OneLower(known) => (place << 64) | u128::from(LOWER ^ (SEED.low & known)),
+            Ids::OneUpper(known) => (u128::from(UPPER ^ (SEED.high & known)) << 64) | place,
+        }
+    }
+}
 
 /// What the ids of a packet are stored as.
 #[derive(Clone, Copy)]
-enum Ids {
+enum Stored {
     Accounts,
     Transfers,
     Failed,
 }
 
-/// Returns a full packet with rising ids.
-fn full_packet(rt: &(impl Abort + Alloc<A = Global>), ids: Ids, first: u128) -> Job {
-    let (mut accounts, mut transfers) = (Vec::new(rt.alloc()), Vec::new(rt.alloc()));
-    let credited = if matches!(ids, Ids::Failed) { 9 } else { 2 };
+/// Returns a full packet that creates accounts.
+fn full_of_accounts(rt: &(impl Abort + Alloc<A = Global>), ids: Ids) -> Job {
+    let mut accounts = Vec::new(rt.alloc());
     for place in 0..8_190u64 {
-        let id = first.wrapping_add(u128::from(place));
-        push(rt, &mut accounts, account(id, 0));
-        push(rt, &mut transfers, transfer(id, [1, credited], 1, 0));
+        push(rt, &mut accounts, account(ids.nth(place), 0));
     }
-    let made = match ids {
-        Ids::Accounts => creating(rt.alloc(), 0, 1, &accounts),
-        _ => transferring(rt.alloc(), 1, &transfers),
-    };
+    let made = creating(rt.alloc(), 0, 1, &accounts);
     made.ok().expect(rt, "the packet is admitted")
 }
 
+/// Returns a full packet that creates transfers, or whose transfers fail if there is no such account.
+fn full_of_transfers(rt: &(impl Abort + Alloc<A = Global>), ids: Ids, credited: u128) -> Job {
+    let mut transfers = Vec::new(rt.alloc());
+    for place in 0..8_190u64 {
+        push(
+            rt,
+            &mut transfers,
+            transfer(ids.nth(place), [1, credited], 1, 0),
+        );
+    }
+    let made = transferring(rt.alloc(), 1, &transfers);
+    made.ok().expect(rt, "the packet is admitted")
+}
+
+fn full_packet(rt: &(impl Abort + Alloc<A = Global>), stored: Stored, ids: Ids) -> Job {
+    match stored {
+        Stored::Accounts => full_of_accounts(rt, ids),
+        Stored::Transfers => full_of_transfers(rt, ids, 2),
+        Stored::Failed => full_of_transfers(rt, ids, 9),
+    }
+}
+
+/// A ledger with the seed, by itself or out of an engine.
+#[derive(Drop)]
+enum Seeded {
+    Whole(Ledger),
+    Bare(BareLedger),
+}
+
+impl Seeded {
+    fn open(rt: &(impl Abort + Alloc<A = Global>), is_whole: bool) -> Seeded {
+        if is_whole {
+            return Seeded::Whole(Ledger::with_seed(rt.alloc(), 0, SEED));
+        }
+        let engine = Engine::with_seed(rt.alloc(), 0, 8_190, 1, SEED)
+            .ok()
+            .expect(rt, "settings");
+        let ledger = engine.into_ledger().ok().expect(rt, "nothing is held");
+        Seeded::Bare(ledger)
+    }
+
+    fn apply(&mut self, parcel: Parcel) -> Outcomes {
+        match self {
+            Seeded::Whole(ledger) => ledger.apply(parcel),
+            Seeded::Bare(ledger) => ledger.apply(parcel),
+        }
+    }
+
+    fn places(&self) -> u64 {
+        match self {
+            Seeded::Whole(ledger) => ledger.places(),
+            Seeded::Bare(ledger) => ledger.places(),
+        }
+    }
+}
+
 /// Returns how many nanoseconds it takes to commit a full packet.
-fn commit_time(rt: &(impl Abort + Clock + Alloc<A = Global>), ids: Ids, first: u128) -> u128 {
-    let mut ledger = Ledger::with_seed(rt.alloc(), 0, Seed { low: 3, high: 5 });
+fn commit_time(
+    rt: &(impl Abort + Clock + Alloc<A = Global>),
+    is_whole: bool,
+    stored: Stored,
+    ids: Ids,
+) -> u128 {
+    let mut ledger = Seeded::open(rt, is_whole);
     let accounts = [account(1, 0), account(2, 0)];
     let accounts = creating(rt.alloc(), 0, 0, &accounts)
         .ok()
         .expect(rt, "the packet is admitted");
     drop(ledger.apply(Parcel::Batch(alone(rt, accounts))));
-    let parcel = Parcel::Batch(alone(rt, full_packet(rt, ids, first)));
+    let parcel = Parcel::Batch(alone(rt, full_packet(rt, stored, ids)));
     let start = Instant::now(rt).ok().expect(rt, "a clock");
     let outcomes = ledger.apply(parcel);
     let taken = start.elapsed(rt).ok().expect(rt, "a clock");
@@ -55,21 +142,53 @@ fn commit_time(rt: &(impl Abort + Clock + Alloc<A = Global>), ids: Ids, first: u
     taken.as_nanos()
 }
 
-/// Returns the shortest of five times.
-fn shortest_time(rt: &(impl Abort + Clock + Alloc<A = Global>), ids: Ids, first: u128) -> u128 {
+/// Returns the shortest of three times, of rising ids.
+fn shortest_time(
+    rt: &(impl Abort + Clock + Alloc<A = Global>),
+    is_whole: bool,
+    stored: Stored,
+) -> u128 {
     let mut shortest = u128::MAX;
-    for _ in 0..5 {
-        shortest = shortest.min(commit_time(rt, ids, first));
+    for _ in 0..3 {
+        shortest = shortest.min(commit_time(rt, is_whole, stored, Ids::Rising));
     }
     shortest
 }
 
-/// Without the seed each of 8,190 ids would be compared with all before it.
+/// Returns whether one of five commits takes less than ten times as long as with rising ids. If a ledger used only the known bits of
+/// the seed, each of 8,190 ids would be compared with all before it.
+fn is_spread(
+    rt: &(impl Abort + Clock + Alloc<A = Global>),
+    is_whole: bool,
+    stored: Stored,
+    ids: Ids,
+    rising: u128,
+) -> bool {
+    for _ in 0..5 {
+        if commit_time(rt, is_whole, stored, ids) / 10 < rising {
+            return true;
+        }
+    }
+    false
+}
+
 #[test]
 fn colliding_ids_are_spread(rt: HostRuntime) {
-    for ids in [Ids::Accounts, Ids::Transfers, Ids::Failed] {
-        let spread = shortest_time(&rt, ids, COLLIDING);
-        let others = shortest_time(&rt, ids, 1_000);
-        check!(&rt; spread / 10 < others);
+    for stored in [Stored::Accounts, Stored::Transfers, Stored::Failed] {
+        let rising = shortest_time(&rt, true, stored);
+        for known in KNOWN {
+            for ids in [Ids::OneLower(known), Ids::OneUpper(known)] {
+                check!(&rt; is_spread(&rt, true, stored, ids, rising), known);
+            }
+        }
+    }
+}
+
+/// An engine passes the whole seed on.
+#[test]
+fn colliding_ids_are_spread_in_an_engine(rt: HostRuntime) {
+    let rising = shortest_time(&rt, false, Stored::Accounts);
+    for ids in [Ids::OneLower(3), Ids::OneUpper(3)] {
+        check!(&rt; is_spread(&rt, false, Stored::Accounts, ids, rising));
     }
 }

@@ -1,8 +1,16 @@
 //! The results that a driver receives.
 
-use super::{CREATE_ACCOUNTS, SUBMIT, Saw, Step, run_one};
+use super::{CREATE_ACCOUNTS, SUBMIT, Saw, Step, packet_of, run_one};
+use std::alloc::Global;
+use std::process::Abort;
+use std::sync::Wait;
+use std::thread::Threads;
+use tb_blocking::Client;
+use tb_drive::{Action, ControlPlan, Driver, Stop};
+use tb_layout::NoMemory;
+use tb_pipe::{drive_all, open};
 use tb_test_makers::check;
-use tb_work::Refusal;
+use tb_work::{Packet, Refusal, Reply};
 
 /// A packet of no operation that there is, one of a byte, one of an event more than the limit, and one that is queued.
 const BAD: [Step; 4] = [
@@ -63,4 +71,78 @@ fn not_told_of_a_used_up_credit(rt: HostRuntime) {
     }
     check!(&rt; seen.by_driver.as_slice() == FOUR_SEEN.as_slice());
     drop(seen);
+}
+
+/// Returns a packet of three accounts: the job of no smaller one takes memory.
+fn packet_of_three(alloc: Global) -> Result<Packet, NoMemory> {
+    packet_of(alloc, CREATE_ACCOUNTS, 384, 7)
+}
+
+/// Submits a packet, if there is memory for it, and keeps the refusal that it receives.
+#[derive(Drop)]
+struct Once {
+    has_begun: bool,
+    refusal: Option<Refusal>,
+}
+
+impl Driver for Once {
+    fn next<R: Wait>(&mut self, _rt: &R, alloc: Global) -> Action {
+        if self.has_begun {
+            return Action::End;
+        }
+        self.has_begun = true;
+        packet_of_three(alloc).map_or(Action::End, Action::Submit)
+    }
+
+    fn submitted(&mut self, told: Result<u64, Refusal>) {
+        self.refusal = told.err();
+    }
+
+    fn receive(&mut self, _reply: Reply) {}
+}
+
+/// Returns the refusal that a driver receives; None if there is none, or the run is given up.
+fn refusal_by_driver<R: Threads + Wait + Sync>(rt: &R, alloc: Global) -> Option<Refusal> {
+    let mut drivers = Vec::new(alloc);
+    let once = Once {
+        has_begun: false,
+        refusal: None,
+    };
+    drivers.push(once).ok()?;
+    let submitters = u32::try_from(drivers.len()).ok()?;
+    let opened = open(alloc, 0, 4, 4, 4, submitters).ok()?;
+    let control = ControlPlan::none(alloc).driver();
+    let finished = drive_all(rt, alloc, opened, drivers, control).ok()?;
+    finished.drivers.first()?.refusal
+}
+
+/// Returns the refusal of a client's packet; None if there is none, or no client.
+fn refusal_of_client<R: Wait>(rt: &R, alloc: Global) -> Option<Refusal> {
+    let mut opened = open(alloc, 0, 4, 4, 4, 1).ok()?;
+    let stop = Stop::of(alloc, &opened.submitters).ok()?;
+    let mut client = Client::new(opened.submitters.pop()?, &stop);
+    let packet = packet_of_three(alloc).ok()?;
+    client
+        .submit(rt, alloc, packet)
+        .err()
+        .map(|refused| refused.1)
+}
+
+/// Asserts that only memory is refused, and then prints so.
+fn assert_refusal(rt: &(impl Abort + Print), refusal: Option<Refusal>) {
+    if let Some(refusal) = refusal {
+        check!(rt; refusal == Refusal::NoMemory);
+        let _ = println!(rt; "the packet is refused");
+    }
+}
+
+/// `tools/refuse-each-growth` counts the lines that this prints: some allocation is the job's, and the packet isn't tried again.
+#[test]
+fn driver_told_once_refused_memory(rt: HostRuntime) {
+    assert_refusal(&rt, refusal_by_driver(&rt, rt.alloc()));
+}
+
+#[test]
+fn client_told_once_refused_memory(rt: HostRuntime) {
+    assert_refusal(&rt, refusal_of_client(&rt, rt.alloc()));
 }

@@ -124,10 +124,12 @@ fn calls_return_once_the_run_is_given_up(rt: HostRuntime) {
 enum Then {
     Submit,
     Receive,
+    /// It waits from the start, when there is no reply to come, and so is asked again and again.
+    Wait,
     End,
 }
 
-/// Submits packets, waits for a reply or ends. The control's pulses, ends or shuts.
+/// Submits packets, waits for a reply or ends. The control's pulses, waits, ends or shuts.
 #[derive(Clone, Copy, Drop)]
 struct Busy {
     then: Then,
@@ -136,7 +138,7 @@ struct Busy {
 
 impl Driver for Busy {
     fn next<R: Wait>(&mut self, _rt: &R, alloc: Global) -> Action {
-        if self.has_begun && matches!(self.then, Then::Receive) {
+        if matches!(self.then, Then::Wait) || self.has_begun && matches!(self.then, Then::Receive) {
             return Action::Receive;
         }
         if self.has_begun && matches!(self.then, Then::End) {
@@ -156,6 +158,7 @@ impl ControlDriver for Busy {
         match self.then {
             Then::Submit => ControlAction::Pulse(1),
             Then::Receive => ControlAction::Close,
+            Then::Wait => ControlAction::Wait,
             Then::End => ControlAction::End,
         }
     }
@@ -201,9 +204,10 @@ fn drive_and_stop<R: Threads + Wait + Sync + Abort>(
 }
 
 /// Slots of the queue, each with what the drivers do; one of them at least can't end.
-const BUSY: [(u32, Then); 5] = [
+const BUSY: [(u32, Then); 6] = [
     (1, Then::Submit),
     (1, Then::Receive),
+    (1, Then::Wait),
     (1, Then::End),
     (6, Then::Submit),
     (6, Then::Receive),

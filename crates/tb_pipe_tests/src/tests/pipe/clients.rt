@@ -19,9 +19,6 @@ use tb_pipe::{Open, Report, settle};
 use tb_test_makers::check;
 use tb_work::Refusal;
 
-/// How often a thread yields before it gives a run up, while another goes to sleep.
-const SLEEP_TURNS: u32 = 10_000;
-
 /// Opens a pipeline for one submitter, whose queue has one slot.
 pub(super) fn open_narrow(rt: &impl Abort, alloc: Global, credit: u32) -> (Lone, Stop)
     ensures { AreTogether result.0.pipeline (result.0.submitter ∷ []) result.0.control }
@@ -174,38 +171,6 @@ fn exchange_in_a_run_that_is_given_up(rt: HostRuntime) {
     stop.ask();
     check!(&rt; exchange(&rt, rt.alloc(), &mut client, 1) == Ok(None));
     drop(client);
-    drop(pipeline);
-    drop(control);
-    drop(stop);
-}
-
-/// Gives a run up while a client sleeps for a reply, and returns what the client receives.
-fn wake<R: Threads + Wait + Sync + Abort>(rt: &R, client: Client<'_>, stop: &Stop) -> Option<Told> {
-    thread::scope(thread::scope_env(), rt, |scope| {
-        let started = scope.spawn(move || {
-            let mut client = client;
-            receive(rt, &mut client)
-        });
-        let sleeper = started.ok().expect(rt, "a thread can be started");
-        for _ in 0..SLEEP_TURNS {
-            thread::yield_now();
-        }
-        stop.ask();
-        sleeper.join(rt)
-    })
-}
-
-#[test]
-fn client_that_sleeps_is_woken(rt: HostRuntime) {
-    let (lone, stop) = open_narrow(&rt, rt.alloc(), 1);
-    let Lone {
-        pipeline,
-        submitter,
-        control,
-    } = lone;
-    let mut client = Client::new(submitter, &stop);
-    check!(&rt; submit(&rt, rt.alloc(), &mut client, 1) == Ok(0));
-    check!(&rt; wake(&rt, client, &stop).is_none());
     drop(pipeline);
     drop(control);
     drop(stop);

@@ -144,38 +144,32 @@ fn control_that_shuts_in_a_thread(rt: HostRuntime) {
     assert_run(&rt, report, 0, &[Told::Shutdown]);
 }
 
-/// The queue's one slot is taken by a pulse, and nobody serves.
-#[test]
-fn control_of_a_run_that_is_given_up(rt: HostRuntime) {
-    let (lone, stop) = open_narrow(&rt, rt.alloc(), 1);
+/// Gives up a run that nobody serves, while a pulse is in the queue's only slot. The next pulse is refused, and the control can't end.
+fn assert_given_up<R: Wait + Abort>(rt: &R, alloc: Global, shuts: bool) {
+    let (lone, stop) = open_narrow(rt, alloc, 1);
     let Lone {
         pipeline,
         submitter,
         control,
     } = lone;
     let mut control = ControlClient::new(control, &stop);
-    pulse(&rt, &mut control, 1);
+    pulse(rt, &mut control, 1);
     stop.ask();
-    check!(&rt; control.pulse(&rt, 2) == Err(Refusal::Full));
-    check!(&rt; control.end(&rt).is_none());
+    check!(rt; control.pulse(rt, 2) == Err(Refusal::Full));
+    let end = if shuts {
+        control.shut(rt)
+    } else {
+        control.end(rt)
+    };
+    check!(rt; end.is_none());
     drop(pipeline);
     drop(submitter);
     drop(stop);
 }
 
 #[test]
-fn shut_in_a_run_that_is_given_up(rt: HostRuntime) {
-    let (lone, stop) = open_narrow(&rt, rt.alloc(), 1);
-    let Lone {
-        pipeline,
-        submitter,
-        control,
-    } = lone;
-    let mut control = ControlClient::new(control, &stop);
-    pulse(&rt, &mut control, 1);
-    stop.ask();
-    check!(&rt; control.shut(&rt).is_none());
-    drop(pipeline);
-    drop(submitter);
-    drop(stop);
+fn control_of_a_run_that_is_given_up(rt: HostRuntime) {
+    for shuts in [false, true] {
+        assert_given_up(&rt, rt.alloc(), shuts);
+    }
 }

@@ -5,7 +5,7 @@ ghost use Rattle.tb_submit.specs.Ends.{origin_of};
 
 use super::clients::{exchange, open_narrow, receive, submit};
 use super::controls::pulse;
-use super::stops::give_way;
+use super::stops::{ask_later, give_way};
 use super::{Lone, Told, opened};
 use crate::tests::in_time;
 use std::alloc::Global;
@@ -19,21 +19,40 @@ use tb_pipe::{Open, Opened};
 use tb_submit::Control;
 use tb_test_makers::check;
 
-/// How many packets each client queues, and how many pulses the control.
-const PACKETS: u64 = 1000;
+/// What sixteen clients and the control do.
+#[derive(Clone, Copy)]
+struct Trading {
+    /// How many packets each client queues.
+    packets: u64,
+    pulses: u64,
+    /// How often another thread yields before it gives the run up; None if it doesn't.
+    stops_after: Option<u32>,
+}
 
-/// Queues packets without events, and waits for each reply, every second time by `exchange`.
-fn trade<R: Wait + Abort>(rt: &R, alloc: Global, client: &mut Client<'_>)
+/// Queues a packet without events and waits for its reply, every second time by `exchange`. Returns whether it was committed.
+fn trade_one<R: Wait + Abort>(rt: &R, alloc: Global, client: &mut Client<'_>, number: u64) -> bool
     ensures { origin_of client.new ≡ origin_of client.old }
 {
-    for number in 0..PACKETS {
-        let reply = if number % 2 == 0 {
-            exchange(rt, alloc, client, 0).ok().flatten()
-        } else {
-            check!(rt; submit(rt, alloc, client, 0) == Ok(number));
-            receive(rt, client)
-        };
-        check!(rt; matches!(reply, Some(Told::Committed(_))));
+    let reply = if number % 2 == 0 {
+        exchange(rt, alloc, client, 0).ok().flatten()
+    } else if submit(rt, alloc, client, 0) == Ok(number) {
+        receive(rt, client)
+    } else {
+        None
+    };
+    matches!(reply, Some(Told::Committed(_)))
+}
+
+/// Queues packets, which are all committed unless the run is given up.
+fn trade<R: Wait + Abort>(rt: &R, alloc: Global, client: &mut Client<'_>, packets: u64, stop: &Stop)
+    ensures { origin_of client.new ≡ origin_of client.old }
+{
+    for number in 0..packets {
+        let is_committed = trade_one(rt, alloc, client, number);
+        if stop.is_asked() {
+            return;
+        }
+        check!(rt; is_committed);
     }
 }
 
@@ -47,8 +66,19 @@ fn pulse_often<R: Wait + Abort>(rt: &R, control: &mut ControlClient<'_>, pulses:
     }
 }
 
-/// Serves sixteen clients that trade and a control that pulses. Returns whether all queued their ends.
-fn serve_sixteen<R: Threads + Wait + Sync + Abort>(rt: &R, alloc: Global) -> bool {
+/// Gives a run up after some turns, if there are any.
+fn stop_after(stop: &Stop, turns: Option<u32>) {
+    if let Some(turns) = turns {
+        ask_later(stop, turns);
+    }
+}
+
+/// Serves sixteen clients that trade and a control that pulses. Returns whether they were served, and whether all queued their ends.
+fn serve_sixteen<R: Threads + Wait + Sync + Abort>(
+    rt: &R,
+    alloc: Global,
+    trading: Trading,
+) -> (bool, bool) {
     let opened = opened(alloc, 4, 1, 1, 16).expect(rt, "it is opened");
     let stop = Stop::of(alloc, &opened.submitters).expect(rt, "memory");
     let Opened {
@@ -57,13 +87,13 @@ fn serve_sixteen<R: Threads + Wait + Sync + Abort>(rt: &R, alloc: Global) -> boo
         control,
     } = opened;
     let stop = &stop;
-    thread::scope(thread::scope_env(), rt, |scope| -> bool {
+    thread::scope(thread::scope_env(), rt, |scope| -> (bool, bool) {
         let mut traders = Vec::new(alloc);
         for submitter in submitters {
             let started = Client::new(submitter, stop).start(
                 scope,
                 rt,
-                move |client| trade(rt, alloc, client),
+                move |client| trade(rt, alloc, client, trading.packets, stop),
             );
             traders
                 .push(started.expect(rt, "a thread can be started"))
@@ -71,21 +101,55 @@ fn serve_sixteen<R: Threads + Wait + Sync + Abort>(rt: &R, alloc: Global) -> boo
         }
         let pulser = ControlClient::new(control, stop)
             .start(scope, rt, move |control| {
-                pulse_often(rt, control, PACKETS, 0)
+                pulse_often(rt, control, trading.pulses, 0)
             })
             .expect(rt, "a thread can be started");
-        let mut have_ended = pipeline.serve(rt, &Open).is_ok();
-        have_ended &= pulser.join(rt).is_some();
+        let stopper = scope
+            .spawn(move || stop_after(stop, trading.stops_after))
+            .ok();
+        let is_served = pipeline.serve(rt, &Open).is_ok();
+        stopper.expect(rt, "a thread can be started").join(rt);
+        let mut have_ended = pulser.join(rt).is_some();
         for trader in traders {
             have_ended &= trader.join(rt).is_some();
         }
-        have_ended
+        (is_served, have_ended)
     })
+}
+
+fn assert_served<R: Threads + Wait + Sync + Abort>(rt: &R, alloc: Global, packets: u64) {
+    let trading = Trading {
+        packets,
+        pulses: packets,
+        stops_after: None,
+    };
+    check!(rt; serve_sixteen(rt, alloc, trading) == (true, true));
 }
 
 #[test]
 fn sixteen_clients_of_a_thousand_packets(rt: HostRuntime) {
-    check!(&rt; in_time(&rt, || serve_sixteen(&rt, rt.alloc())));
+    in_time(&rt, || assert_served(&rt, rt.alloc(), 1_000));
+}
+
+/// `tools/check-rest` runs it: on a busy machine it takes longer than `rt` lets a test run.
+#[test]
+#[ignore]
+fn sixteen_clients_of_ten_thousand_packets(rt: HostRuntime) {
+    assert_served(&rt, rt.alloc(), 10_000);
+}
+
+/// Whenever the run is given up, all threads return: the clients queued their ends if they were served.
+#[test]
+fn sixteen_clients_of_a_run_that_is_given_up(rt: HostRuntime) {
+    for turns in [0, 10, 100, 1_000, 10_000, 100_000] {
+        let trading = Trading {
+            packets: 10_000,
+            pulses: 0,
+            stops_after: Some(turns),
+        };
+        let (is_served, have_ended) = in_time(&rt, || serve_sixteen(&rt, rt.alloc(), trading));
+        check!(&rt; is_served == have_ended, turns);
+    }
 }
 
 /// Pulses, and then queues the Close or the End. Returns whether that was queued.
