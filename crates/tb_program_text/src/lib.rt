@@ -44,7 +44,7 @@ pub use output::{
 };
 pub use parsing::{ScriptError, parse};
 pub use program_fault::ProgramFault;
-pub use read::read_script;
+pub use read::{ScriptLength, ScriptText, read_script};
 pub use request::{Request, request_of};
 pub use script::{Script, ScriptParts};
 pub use source::{FaultyScript, Source, read_source, source_of};
