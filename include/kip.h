@@ -477,6 +477,20 @@ static inline const char *kip_transfer_result_name(uint32_t result) {
         default: return "unknown";
     }
 }
+
+/* Returns whether the ledger keeps the id of a transfer that failed with this result: a later transfer with the id fails as
+ * id_already_failed. Each such failure in a reply takes 36 bytes for good. */
+static inline bool kip_transfer_id_is_kept(uint32_t result) {
+    switch (result) {
+        case 21:
+        case 22:
+        case 25:
+        case 54:
+        case 55:
+            return true;
+        default: return false;
+    }
+}
 /* end */
 
 #ifdef __cplusplus

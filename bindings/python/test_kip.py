@@ -179,6 +179,14 @@ class StandIn(unittest.TestCase):
             results = client.create_transfers([Transfer(id=5, amount=1, **ROUTE), Transfer(id=5, amount=1, **ROUTE)])
             self.assertEqual([(it.index, it.result) for it in results], [(1, CreateTransferResult.EXISTS)])
 
+    def test_ids_are_kept_by_result(self):
+        with ClientSync() as client:
+            client.create_accounts(PAIR)
+            failing = [Transfer(id=7, amount=1, **ROUTE | {"credit_account_id": 9}), Transfer(id=8, amount=1, **ROUTE | {"code": 0})]
+            self.assertEqual([it.result.keeps_id for it in client.create_transfers(failing)], [True, False])
+            again = client.create_transfers([Transfer(id=7, amount=1, **ROUTE), Transfer(id=8, amount=1, **ROUTE)])
+            self.assertEqual([(it.index, it.result) for it in again], [(0, CreateTransferResult.ID_ALREADY_FAILED)])
+
     def test_lookups(self):
         with ClientSync() as client:
             client.create_accounts(PAIR)

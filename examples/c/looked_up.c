@@ -35,6 +35,26 @@ static void has_at(kip_t *kip, size_t index, uint64_t id, uint32_t status) {
     assert(kip_transfer_at(kip, index, &found, &pending) == KIP_OK && found.id.low == id && pending == status);
 }
 
+/* Of three transfers that fail, the ledger keeps the ids of those whose results say so, and refuses these ids later. */
+static void keeps_ids(kip_t *kip) {
+    kip_transfer failing[3] = {hold(21, 0), hold(22, 0), hold(23, 0)};
+    kip_failure failures[3];
+    kip_reply_t reply;
+    uint64_t number;
+    failing[0].debit_account_id.low = 9;
+    failing[1].credit_account_id.low = 9;
+    failing[2].code = 0;
+    for (int round = 0; round < 2; round++) {
+        assert(kip_submit(kip, 0, KIP_OPERATION_CREATE_TRANSFERS, failing, sizeof failing, 0, &number) == KIP_OK);
+        assert(kip_flush(kip) == KIP_OK && kip_reply(kip, &reply, failures, sizeof failures) == KIP_OK);
+        assert(reply.size == sizeof failures && failures[2].result == 20 && !kip_transfer_id_is_kept(20));
+        for (int index = 0; index < 2; index++) {
+            assert(failures[index].result == (round == 0 ? 21u + (unsigned)index : 68u));
+            assert(kip_transfer_id_is_kept(failures[index].result) == (round == 0));
+        }
+    }
+}
+
 int main(void) {
     kip_t kip = {0};
     kip_account accounts[2] = {{.id = {7, 0}, .ledger = 1, .code = 1}, {.id = {5, 1}, .ledger = 1, .code = 1}}, account;
@@ -65,7 +85,8 @@ int main(void) {
     assert(kip_transfer_at(&kip, SIZE_MAX, &transfer, &pending) == KIP_NOT_FOUND);
     assert(kip_lookup_transfer(&kip, 5, 0, &transfer, &pending) == KIP_NOT_FOUND);
     assert(kip_lookup_transfer(&kip, 1, 1, &transfer, &pending) == KIP_NOT_FOUND && transfer.code == 3 && pending == 99);
+    keeps_ids(&kip);
     assert(kip_close(&kip) == KIP_OK);
-    puts("accounts by order, transfers with their status");
+    puts("accounts by order, transfers with their status, ids that are kept");
     return 0;
 }

@@ -284,3 +284,18 @@ impl CreateTransferResult {
         }
     }
 }
+
+impl CreateTransferResult {
+    /// Returns whether the ledger keeps the id of a transfer that failed so: a later transfer with the id fails as `IdAlreadyFailed`. Each
+    /// such failure in a reply takes 36 bytes for good.
+    pub fn keeps_id(self) -> bool {
+        matches!(
+            self,
+            CreateTransferResult::DebitAccountNotFound
+                | CreateTransferResult::CreditAccountNotFound
+                | CreateTransferResult::PendingTransferNotFound
+                | CreateTransferResult::ExceedsCredits
+                | CreateTransferResult::ExceedsDebits
+        )
+    }
+}

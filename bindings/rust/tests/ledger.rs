@@ -97,6 +97,25 @@ fn calls_of_a_client() -> Result<(), Error> {
     Ok(())
 }
 
+/// The ids of transfers whose results keep them, and no others, are refused as `IdAlreadyFailed` later.
+#[test]
+fn ids_are_kept_by_result() -> Result<(), Error> {
+    let mut ledger = Ledger::open(0, 8190, 1)?;
+    let limited = Account { id: 3, flags: AccountFlags::DEBITS_MUST_NOT_EXCEED_CREDITS, ..ACCOUNT };
+    ledger.create_accounts(&[Account { id: 1, ..ACCOUNT }, Account { id: 2, ..ACCOUNT }, limited])?;
+    let post = Transfer { id: 12, pending_id: 99, flags: TransferFlags::POST_PENDING_TRANSFER, ..Transfer::default() };
+    let failing = [transfer(10, 9, 2), transfer(11, 1, 9), post, transfer(13, 3, 1), transfer(14, 1, 1), transfer(15, 0, 1)];
+    let results = ledger.create_transfers(&failing)?;
+    assert_eq!(results.len(), failing.len());
+    let kept: Vec<u128> = results.iter().filter(|it| it.result.keeps_id()).map(|it| failing[it.index as usize].id).collect();
+    assert_eq!(kept, [10, 11, 12, 13]);
+    let again: Vec<Transfer> = failing.iter().map(|it| transfer(it.id, 1, 2)).collect();
+    let refused = ledger.create_transfers(&again)?;
+    assert!(refused.iter().all(|it| it.result == CreateTransferResult::IdAlreadyFailed));
+    assert_eq!(refused.iter().map(|it| again[it.index as usize].id).collect::<Vec<_>>(), kept);
+    Ok(())
+}
+
 #[test]
 fn a_call_returns_its_own_reply() -> Result<(), Error> {
     let mut ledger = Ledger::open(0, 8190, 2)?;

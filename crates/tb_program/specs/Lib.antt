@@ -4,6 +4,7 @@ pub mod Listing
 pub mod Printing
 pub mod Faults
 pub mod Sharing
+pub mod Operations
 pub mod Noting
 pub mod Drivers
 pub mod Answering

@@ -7,6 +7,7 @@
 #![tactic(auto)]
 
 mod list;
+mod operations;
 mod run;
 mod state;
 

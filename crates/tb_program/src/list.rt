@@ -1,10 +1,12 @@
 //! A script in one thread.
 
-ghost use Rattle.std.specs.Prelude.{◌≡◌, ◌≢◌, ◌≤◌, List, map, IfOk, IfErr, IfSome, IsErrOf, string_bytes};
+ghost use Rattle.std.specs.Prelude.{◌≡◌, ◌≢◌, ◌≤◌, List, true, map, IfOk, IfErr, IfSome, IsErrOf, string_bytes};
 ghost use Rattle.std.specs.Io.KnownBytes.{Appends, Keeps};
 ghost use Rattle.tb_layout.specs.inside.Limits.{batch_max};
 ghost use Rattle.tb_layout.specs.Limits.{clock_max};
 ghost use Rattle.tb_program.specs.Listing.{plan_text, listing, out, is_faultless};
+ghost use Rattle.tb_program_text.specs.Source.{source_in};
+ghost use Rattle.tb_program.specs.Operations.{operation_in, operations_listed, operations_told};
 ghost use Rattle.tb_program.specs.SplitPlan.{line_of};
 ghost use Rattle.tb_program.specs.Plan.{Planned, queue_of};
 
@@ -15,12 +17,14 @@ mod planning;
 use crate::list::listing::put_listing;
 use crate::list::plan::Line;
 use crate::list::planning::{PlanParts, plan_all};
+use crate::operations::operation_in;
 use std::alloc::Global;
 use std::io::{Read, Write};
 use tb_core::run_list;
 use tb_layout::NoMemory;
 use tb_program_text::{
-    Output, ProgramFault, Script, ScriptParts, Source, read_script, source_of, write_out,
+    Output, ProgramFault, Script, ScriptItem, ScriptParts, Source, read_script, source_of,
+    write_out,
 };
 use tb_work::Item;
 
@@ -49,17 +53,36 @@ fn text_of(
     Ok(out)
 }
 
+/// Returns the operation of each item's line.
+fn operations_of(alloc: Global, items: &[ScriptItem]) -> Result<Vec<u8>, NoMemory>
+    ensures { IfOk result (λ operations. operations.items ≡ map operation_in items.now) }
+{
+    let mut operations = Vec::with_capacity(alloc, items.len())?;
+    for item in items {
+        operations.push(operation_in(item))?;
+    }
+    Ok(operations)
+}
+
 /// Returns the output for a script that has no fault.
-fn output_for(alloc: Global, script: Script) -> Result<String, NoMemory>
-    ensures { IfOk result (λ text. string_bytes text ≡ listing script) }
+fn output_for(alloc: Global, script: Script) -> Result<Output, NoMemory>
+    ensures text { IfOk result (λ output. string_bytes output.text ≡ listing script) }
+    ensures faultless { IfOk result (λ output. output.faultless ≡ true) }
+    ensures operations { IfOk result (λ output. output.operations.items ≡ operations_listed script) }
 {
     let ScriptParts {
         settings,
         mut items,
     } = script.finish()?;
+    let operations = operations_of(alloc, &items)?;
     let limit = settings.limit();
     let PlanParts { queue, lines } = plan_all(alloc, limit, &mut items)?.into_parts();
-    text_of(alloc, settings.clock(), limit, queue, &lines)
+    Ok(Output {
+        text: text_of(alloc, settings.clock(), limit, queue, &lines)?,
+        faultless: true,
+        remark: String::new(alloc),
+        operations,
+    })
 }
 
 /// Reads a script to its end, and returns what `run_script` writes of it, whether it has no fault, and if it has one a remark on that for
@@ -68,16 +91,15 @@ fn output_for(alloc: Global, script: Script) -> Result<String, NoMemory>
 pub fn list_output<R: Read>(alloc: Global, reader: &mut R) -> Result<Output, ProgramFault>
     ensures output { IfOk result (λ output. IfSome (R.remaining reader.old) (λ bytes.
         (string_bytes output.text ≡ out bytes) × (output.faultless ≡ is_faultless bytes))) }
+    // The operations that name its codes are those of the items, in order.
+    ensures operations { IfOk result (λ output. IfSome (R.remaining reader.old) (λ bytes.
+        output.operations.items ≡ operations_told operations_listed (source_in bytes))) }
     ensures thread { IfErr result (λ fault. fault ≢ ProgramFault.NoThread) }
 {
     let text = read_script(alloc, reader)?;
     match source_of(alloc, &text)? {
-        Source::Script(script) => Ok(Output {
-            text: output_for(alloc, script)?,
-            faultless: true,
-            remark: String::new(alloc),
-        }),
-        Source::Faulty(faulty) => Ok(Output::of_faulty(faulty)),
+        Source::Script(script) => Ok(output_for(alloc, script)?),
+        Source::Faulty(faulty) => Ok(Output::of_faulty(alloc, faulty)),
     }
 }
 

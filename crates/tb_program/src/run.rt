@@ -9,6 +9,8 @@ ghost use Rattle.tb_layout.specs.inside.Limits.{submitters_max};
 ghost use Rattle.tb_program.specs.Drivers.{AreNew, lists_of, share_of};
 ghost use Rattle.tb_program.specs.Noting.{AreFresh, HaveCredit};
 ghost use Rattle.tb_program.specs.Listing.{out, is_faultless};
+ghost use Rattle.tb_program_text.specs.Source.{source_in};
+ghost use Rattle.tb_program.specs.Operations.{operations_run, operations_told};
 ghost use Rattle.tb_program.specs.RunText.{IsRunOf, IsRunText, IsTextOf};
 ghost use Rattle.tb_program_text.specs.Script.{InBounds, capacity_of, clock_of, credit_of, limit_of, submitters_of};
 
@@ -18,6 +20,7 @@ mod notes;
 mod report;
 mod share;
 
+use crate::operations::operations_shared;
 use crate::run::driver::ScriptDriver;
 use crate::run::fault::program_fault_of;
 use crate::run::report::text_of;
@@ -100,21 +103,46 @@ fn run_opened<T: Threads + Wait + Sync>(
     }
 }
 
+/// Returns the text of a run of these shares with these settings.
+fn text_for<T: Threads + Wait + Sync>(
+    rt: &T,
+    alloc: Global,
+    settings: &Settings,
+    shares: Shares,
+) -> Result<String, ProgramFault>
+    requires bounds { InBounds settings.now }
+    requires number { length shares.packets.items ≡ submitters_of settings.now }
+    ensures { IfOk result (λ text. IsRunText (clock_of settings.now) (limit_of settings.now) (lists_of shares.packets.items)
+        (planned_items shares.lines.moments.items shares.lines.shuts) (refused_of shares.lines.moments.items)
+        (string_bytes text)) }
+{
+    let Shares { packets, lines } = shares;
+    let drivers = drivers(alloc, packets)?;
+    match open_for(alloc, settings) {
+        Ok(opened) => run_opened(rt, alloc, opened, drivers, lines),
+        Err(fault) => Err(ProgramFault::from(fault)),
+    }
+}
+
 /// Returns the output for a script that has no fault.
 fn output_for<T: Threads + Wait + Sync>(
     rt: &T,
     alloc: Global,
     script: Script,
-) -> Result<String, ProgramFault>
-    ensures { IfOk result (λ text. IsTextOf script (string_bytes text)) }
+) -> Result<Output, ProgramFault>
+    ensures text { IfOk result (λ output. IsTextOf script (string_bytes output.text)) }
+    ensures faultless { IfOk result (λ output. output.faultless ≡ true) }
+    ensures operations { IfOk result (λ output. output.operations.items ≡ operations_run script) }
 {
     let ScriptParts { settings, items } = script.finish()?;
-    let Shares { packets, lines } = share_out(alloc, settings.submitters(), items)?;
-    let drivers = drivers(alloc, packets)?;
-    match open_for(alloc, &settings) {
-        Ok(opened) => run_opened(rt, alloc, opened, drivers, lines),
-        Err(fault) => Err(ProgramFault::from(fault)),
-    }
+    let shares = share_out(alloc, settings.submitters(), items)?;
+    let operations = operations_shared(alloc, &shares.packets)?;
+    Ok(Output {
+        text: text_for(rt, alloc, &settings, shares)?,
+        faultless: true,
+        remark: String::new(alloc),
+        operations,
+    })
 }
 
 /// Reads a script to its end, and returns what `run_threads` writes of it, whether it has no fault, and if it has one a remark on that for
@@ -130,14 +158,13 @@ pub fn run_output<T: Threads + Wait + Sync, R: Read>(
         → string_bytes output.text ≡ out bytes)) }
     ensures ran { IfOk result (λ output. IfSome (R.remaining reader.old) (λ bytes. is_faultless bytes ≡ true
         → IsRunOf bytes (string_bytes output.text))) }
+    // The operations that name its codes are those of each submitter's packets, in order.
+    ensures operations { IfOk result (λ output. IfSome (R.remaining reader.old) (λ bytes.
+        output.operations.items ≡ operations_told operations_run (source_in bytes))) }
 {
     match read_source(alloc, reader)? {
-        Source::Script(script) => Ok(Output {
-            text: output_for(rt, alloc, script)?,
-            faultless: true,
-            remark: String::new(alloc),
-        }),
-        Source::Faulty(faulty) => Ok(Output::of_faulty(faulty)),
+        Source::Script(script) => output_for(rt, alloc, script),
+        Source::Faulty(faulty) => Ok(Output::of_faulty(alloc, faulty)),
     }
 }
 

@@ -4,6 +4,7 @@ pub mod FirstLines
 pub mod Numbers
 pub mod Lines
 pub mod Named
+pub mod NamedLines
 pub mod UsualLines
 pub mod Spelling
 pub mod Fields

@@ -3,7 +3,7 @@ use Rattle.std.specs.Prelude.{ℕ, Bool, true, false, List, [], Result, Ok, Err,
 use Rattle.tb_program_text.specs.declared.program_fault.ProgramFault.{ProgramFault}
 use Rattle.tb_program_text.specs.declared.program_fault.ProgramFault.TheVariants.{Read, Write, NoMemory, NoThread}
 use Rattle.tb_program_text.specs.declared.ending.Ending.{Ending}
-use Rattle.tb_program_text.specs.declared.ending.Ending.TheVariants.{Done, FaultyScript, Help, Version, Usage, Failed}
+use Rattle.tb_program_text.specs.declared.ending.Ending.TheVariants.{Done, FaultyScript, NotAllSucceeded, Help, Version, Usage, Failed}
 
 abbrev pub ending_of : Result Bool ProgramFault → Ending
 ending_of (Ok true) = Done
@@ -13,6 +13,7 @@ ending_of (Err fault) = Failed fault
 abbrev pub status_of : Ending → ℕ
 status_of Done = 0
 status_of FaultyScript = 1
+status_of NotAllSucceeded = 1
 status_of Help = 0
 status_of Version = 0
 status_of Usage = 1
@@ -27,8 +28,9 @@ fault_text NoThread = codes "fault no thread\n"
 abbrev pub text_of : Ending → List ℕ
 text_of Done = []
 text_of FaultyScript = []
+text_of NotAllSucceeded = []
 text_of Help = codes
-    "usage: tbpipe list|run < SCRIPT\n\nCommits the packets of a script to a ledger in memory, and prints what becomes of each.\n\n  list       in one thread\n  run        in a pipeline with a thread for each submitter\n  --help     prints this\n  --version  prints the version and the kit that proved it\n\nScripts and output: docs/FORMATS.md. The exit status is 0, or 1 for a faulty script or other arguments, or 2 if the program failed.\n"
+    "usage: tbpipe list|run [--names] [--strict] < SCRIPT\n\nCommits the packets of a script to a ledger in memory, and prints the result of each.\n\n  list       in one thread\n  run        in a pipeline with a thread for each submitter\n  --names    prints the name of each failure's code after it, as 1:22:credit_account_not_found\n  --strict   ends with status 1 if a packet or pulse was refused or an event failed, and says how many\n  --help     prints this\n  --version  prints the version and the kit that proved it\n\nScripts and output: docs/FORMATS.md; tools/name-codes names the codes of a saved output. The exit status is 0, or 1 for a\nfaulty script or other arguments, or 2 if the program failed.\n"
 text_of Version = codes "tbpipe 0.1.0\nrattle-kit-13f logic dac8208d650f15bf\n"
 text_of Usage = codes "usage: tbpipe list|run\n"
 text_of (Failed fault) = fault_text fault
@@ -37,10 +39,11 @@ text_of (Failed fault) = fault_text fault
 abbrev pub remark_of : Ending → List ℕ
 remark_of Done = []
 remark_of FaultyScript = []
+remark_of NotAllSucceeded = []
 remark_of Help = []
 remark_of Version = []
 remark_of Usage = codes
-    "give one word, list or run, and the script on standard input, as in `tbpipe list < SCRIPT`; --help says more"
+    "give one word, list or run, options after it, and the script on standard input, as in `tbpipe list < SCRIPT`; --help says more"
 remark_of (Failed Read) = codes "standard input can't be read to its end"
 remark_of (Failed Write) = codes
     "standard output can't be written, so a part of the output is missing: is the disk full, or the pipe closed?"

@@ -9,6 +9,7 @@ pub mod Parsing
 pub mod Spelling
 pub mod Laws
 pub mod Output
+pub mod Naming
 pub mod Source
 pub mod Request
 pub mod Ending

@@ -1,7 +1,8 @@
 -- What a reader's bytes are: a script, or a fault.
-use Rattle.std.specs.Prelude.{◌≡◌, ◌<◌, ◌≤◌, ℕ, nat_lt, if◌then◌else◌, Result, Ok, Err, List, length, codes, Option, Some, None, Vec, string_bytes}
-use Rattle.std.specs.declared.alloc.Global.{Global}
+use Rattle.std.specs.Prelude.{◌≡◌, ◌<◌, ◌≤◌, ℕ, nat_lt, if◌then◌else◌, Result, Ok, Err, List, length, codes, string_bytes}
 use Rattle.tb_program_text.specs.declared.fault.Fault.{Fault}
+use Rattle.tb_program_text.specs.declared.read.ScriptText.{ScriptText}
+use Rattle.tb_program_text.specs.declared.read.ScriptText.TheVariants.{Whole, TooLong}
 use Rattle.tb_program_text.specs.declared.source.Source.{Source}
 use Rattle.tb_program_text.specs.declared.source.Source.TheVariants.{Script, Faulty}
 use Rattle.tb_program_text.specs.Fault.{fault_text}
@@ -29,6 +30,6 @@ IsFound (Script parsed) found = found ≡ Ok parsed
 IsFound (Faulty faulty) found = found ≡ Err (string_bytes faulty.line)
 
 -- the text that was read is all of the bytes, or there are too many
-abbrev pub IsWhole : Option (Vec ℕ Global) → List ℕ → Type 0
-IsWhole None bytes = script_max < length bytes
-IsWhole (Some text) bytes = (text.items ≡ bytes) × (length bytes ≤ script_max)
+abbrev pub IsWhole : ScriptText → List ℕ → Type 0
+IsWhole (TooLong counted) bytes = script_max < length bytes
+IsWhole (Whole text) bytes = (text.items ≡ bytes) × (length bytes ≤ script_max)

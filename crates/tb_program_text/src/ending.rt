@@ -6,7 +6,7 @@ ghost use Rattle.tb_program_text.specs.Ending.{ending_of, remark_of, status_of, 
 use crate::program_fault::ProgramFault;
 
 const HELP: &str =
-    "usage: tbpipe list|run < SCRIPT\n\nCommits the packets of a script to a ledger in memory, and prints what becomes of each.\n\n  list       in one thread\n  run        in a pipeline with a thread for each submitter\n  --help     prints this\n  --version  prints the version and the kit that proved it\n\nScripts and output: docs/FORMATS.md. The exit status is 0, or 1 for a faulty script or other arguments, or 2 if the program failed.\n";
+    "usage: tbpipe list|run [--names] [--strict] < SCRIPT\n\nCommits the packets of a script to a ledger in memory, and prints the result of each.\n\n  list       in one thread\n  run        in a pipeline with a thread for each submitter\n  --names    prints the name of each failure's code after it, as 1:22:credit_account_not_found\n  --strict   ends with status 1 if a packet or pulse was refused or an event failed, and says how many\n  --help     prints this\n  --version  prints the version and the kit that proved it\n\nScripts and output: docs/FORMATS.md; tools/name-codes names the codes of a saved output. The exit status is 0, or 1 for a\nfaulty script or other arguments, or 2 if the program failed.\n";
 
 const VERSION: &str = "tbpipe 0.1.0\nrattle-kit-13f logic dac8208d650f15bf\n";
 
@@ -15,6 +15,8 @@ const VERSION: &str = "tbpipe 0.1.0\nrattle-kit-13f logic dac8208d650f15bf\n";
 pub enum Ending {
     Done,
     FaultyScript,
+    /// A packet or pulse was refused, or an event failed, and none might.
+    NotAllSucceeded,
     Help,
     Version,
     Usage,
@@ -39,20 +41,24 @@ impl Ending {
     {
         match self {
             Ending::Done | Ending::Help | Ending::Version => 0,
-            Ending::FaultyScript | Ending::Usage => 1,
+            Ending::FaultyScript | Ending::NotAllSucceeded | Ending::Usage => 1,
             Ending::Failed(_) => 2,
         }
     }
 
-    /// Returns what is said on standard error, in one sentence: of what failed, and of arguments that ask for nothing. Of a fault in the script
-    /// nothing is said here, since the script has it.
+    /// Returns what is said on standard error, in one sentence: of what failed, and of arguments that ask for nothing. Of a fault in the script,
+    /// and of what didn't succeed, nothing is said here, since the script has it.
     pub fn remark(&self) -> &'static str
         ensures { result.now ≡ remark_of self.now }
     {
         match self {
-            Ending::Done | Ending::FaultyScript | Ending::Help | Ending::Version => "",
+            Ending::Done
+            | Ending::FaultyScript
+            | Ending::NotAllSucceeded
+            | Ending::Help
+            | Ending::Version => "",
             Ending::Usage => {
-                "give one word, list or run, and the script on standard input, as in `tbpipe list < SCRIPT`; --help says more"
+                "give one word, list or run, options after it, and the script on standard input, as in `tbpipe list < SCRIPT`; --help says more"
             }
             Ending::Failed(ProgramFault::Read) => "standard input can't be read to its end",
             Ending::Failed(ProgramFault::Write) => {
@@ -68,7 +74,7 @@ impl Ending {
         ensures { result.now ≡ text_of self.now }
     {
         match self {
-            Ending::Done | Ending::FaultyScript => "",
+            Ending::Done | Ending::FaultyScript | Ending::NotAllSucceeded => "",
             Ending::Help => HELP,
             Ending::Version => VERSION,
             Ending::Usage => "usage: tbpipe list|run\n",

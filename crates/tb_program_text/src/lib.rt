@@ -18,6 +18,7 @@ mod fault;
 mod item;
 mod keyword;
 mod laws;
+mod naming;
 mod number;
 mod output;
 mod parsing;
@@ -38,14 +39,15 @@ pub use laws::{
     faultless_lines_are_parsed, first_fault_decides, spelled_accounts_are_laid_out,
     spelled_ids_are_laid_out, spelled_scripts_are_read, spelled_transfers_are_laid_out,
 };
+pub use naming::{Tally, named_text, tally_of};
 pub use output::{
     Output, put_account, put_clock, put_close, put_pulse, put_refused, put_refused_pulse,
-    put_reply, write_out,
+    put_reply, write_bytes, write_out,
 };
 pub use parsing::{ScriptError, parse};
 pub use program_fault::ProgramFault;
-pub use read::read_script;
-pub use request::{Request, request_of};
+pub use read::{ScriptLength, ScriptText, read_script};
+pub use request::{Options, Request, request_of};
 pub use script::{Script, ScriptParts};
 pub use source::{FaultyScript, Source, read_source, source_of};
 pub use submitter_number::SubmitterNumber;

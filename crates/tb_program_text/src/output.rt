@@ -1,15 +1,17 @@
 //! The lines of the output.
 
 ghost use Rattle.std.specs.Io.KnownBytes.{Appends};
-ghost use Rattle.std.specs.Prelude.{◌≡◌, ◌++◌, false, OnOk, IfErr, codes, string_bytes};
+ghost use Rattle.std.specs.Prelude.{◌≡◌, ◌++◌, [], false, IfOk, OnOk, IfErr, codes, string_bytes};
 ghost use Rattle.tb_program_text.specs.declared.program_fault.ProgramFault.TheVariants.{Write as WriteFault};
 ghost use Rattle.std.specs.List.{flat_map};
+ghost use Rattle.tb_program_text.specs.Naming.{named_text as text_with_names};
 ghost use Rattle.tb_program_text.specs.Output.{fault_line, refused_line, failure_text, found_debits, found_credits, found_text, answer_text, outcome_text, packet_front, reply_line, pulse_line, refused_pulse_line, clock_line, account_front, balances_text, account_line};
 
+use crate::naming::named_text;
 use crate::program_fault::ProgramFault;
 use crate::source::FaultyScript;
 use itoa::{Buffer, Integer};
-use std::alloc::AllocError;
+use std::alloc::{AllocError, Global};
 use std::io::Write;
 use tb_layout::{Account, Failure};
 use tb_work::{Answer, Outcome, Refusal, Reply};
@@ -22,19 +24,30 @@ pub struct Output {
     pub faultless: bool,
     /// What is said of the fault on standard error; of a script without one it has no byte.
     pub remark: String,
+    /// The operation of each of the first lines that is a packet's, and any number for another line. Of a faulty script there is none.
+    pub operations: Vec<u8>,
 }
 
 impl Output {
     /// Returns what is written of a faulty script.
-    pub fn of_faulty(faulty: FaultyScript) -> Output
+    pub fn of_faulty(alloc: Global, faulty: FaultyScript) -> Output
         ensures text { result.text ≡ faulty.line }
         ensures faultless { result.faultless ≡ false }
+        ensures operations { result.operations.items ≡ [] }
     {
         Output {
             text: faulty.line,
             faultless: false,
             remark: faulty.remark,
+            operations: Vec::new(alloc),
         }
+    }
+
+    /// Returns the text with a name after the code of each failure, as `named_text` does.
+    pub fn named(&self, alloc: Global) -> Result<Vec<u8>, AllocError>
+        ensures { IfOk result (λ named. named.items ≡ text_with_names self.now.operations.items (string_bytes self.now.text)) }
+    {
+        named_text(alloc, &self.operations, self.text.as_bytes())
     }
 }
 
@@ -206,16 +219,24 @@ pub fn put_account(out: &mut String, account: &Account) -> Result<(), AllocError
     put_balances(out, account)
 }
 
-/// Writes all of a text, once it is made.
-pub fn write_out<W: Write>(writer: &mut W, text: &str) -> Result<(), ProgramFault>
-    ensures written { OnOk result (Appends (W.contents writer.old) (W.contents writer.new) text.now) }
+/// Writes all of some bytes, once they are made.
+pub fn write_bytes<W: Write>(writer: &mut W, bytes: &[u8]) -> Result<(), ProgramFault>
+    ensures written { OnOk result (Appends (W.contents writer.old) (W.contents writer.new) bytes.now) }
     ensures refused { IfErr result (λ fault. fault ≡ WriteFault) }
 {
-    if writer.write_all(text.as_bytes()).is_err() {
+    if writer.write_all(bytes).is_err() {
         return Err(ProgramFault::Write);
     }
     if writer.flush().is_err() {
         return Err(ProgramFault::Write);
     }
     Ok(())
+}
+
+/// Writes all of a text, once it is made.
+pub fn write_out<W: Write>(writer: &mut W, text: &str) -> Result<(), ProgramFault>
+    ensures written { OnOk result (Appends (W.contents writer.old) (W.contents writer.new) text.now) }
+    ensures refused { IfErr result (λ fault. fault ≡ WriteFault) }
+{
+    write_bytes(writer, text.as_bytes())
 }

@@ -5,14 +5,12 @@ use crate::event::{Layout, faulty_field, size_of_first};
 use crate::fault::Fault;
 use crate::keyword::{Keyword, keyword_of};
 use crate::number::number_within;
+use crate::read::ScriptLength;
 use crate::text::{FirstWord, first_word, split_first_word, split_line};
 use std::alloc::{AllocError, Global};
 
 /// The most bytes of a word that are repeated.
 const SHOWN_MAX: usize = 40;
-
-/// What is said of a script of more bytes than one may have.
-pub(crate) const TOO_LONG: &str = "the script has more than 16777216 bytes, and no script may";
 
 /// The first faulty line of a script, with its number, from 1.
 #[derive(Clone, Copy)]
@@ -257,6 +255,22 @@ fn wrong_operand<'a>(keyword: Keyword, rest: &'a [u8]) -> Option<FirstWord<'a>> 
         },
         _ => Some(first),
     }
+}
+
+/// Returns what is said of a script that has more bytes than one may have.
+pub(crate) fn remark_on_length(alloc: Global, length: ScriptLength) -> Result<String, AllocError> {
+    let mut out = String::new(alloc);
+    match length {
+        ScriptLength::Exactly(bytes) => write!(
+            out,
+            "the script has {bytes} bytes, and a script at most 16777216"
+        ),
+        ScriptLength::MoreThan(bytes) => write!(
+            out,
+            "the script has more than {bytes} bytes, and a script at most 16777216"
+        ),
+    }?;
+    Ok(out)
 }
 
 /// Returns what is said of the fault that a line of a script has, whose number counts from 1.

@@ -8,8 +8,8 @@ ghost use Rattle.tb_program_text.specs.Source.{IsFound, IsWhole, source_in, sour
 use crate::output::put_fault;
 use crate::parsing::{ScriptError, parse};
 use crate::program_fault::ProgramFault;
-use crate::read::read_script;
-use crate::remark::{TOO_LONG, remark_on};
+use crate::read::{ScriptLength, ScriptText, read_script};
+use crate::remark::{remark_on, remark_on_length};
 use crate::script::Script;
 use std::alloc::Global;
 use std::io::Read;
@@ -45,11 +45,10 @@ fn source_of_fault(
 }
 
 /// Returns a script that is too long.
-fn source_too_long(alloc: Global) -> Result<Source, NoMemory>
+fn source_too_long(alloc: Global, length: ScriptLength) -> Result<Source, NoMemory>
     ensures { IfOk result (λ source. IsFound source (Err (fault_line 0 (codes "script too long")))) }
 {
-    let mut remark = String::new(alloc);
-    remark.push_str(TOO_LONG)?;
+    let remark = remark_on_length(alloc, length)?;
     source_of_fault(alloc, 0, "script too long", remark)
 }
 
@@ -68,12 +67,12 @@ fn source_of_bytes(alloc: Global, text: &[u8]) -> Result<Source, NoMemory>
 }
 
 /// Returns what the text that was read says, or the fault of a text that is too long.
-pub fn source_of(alloc: Global, text: &Option<Vec<u8>>) -> Result<Source, NoMemory>
+pub fn source_of(alloc: Global, text: &ScriptText) -> Result<Source, NoMemory>
     ensures { IfOk result (λ source. (bytes : List ℕ) → IsWhole text.now bytes → IsFound source (source_in bytes)) }
 {
     match text {
-        Some(text) => source_of_bytes(alloc, text),
-        None => source_too_long(alloc),
+        ScriptText::Whole(text) => source_of_bytes(alloc, text),
+        ScriptText::TooLong(length) => source_too_long(alloc, *length),
     }
 }
 

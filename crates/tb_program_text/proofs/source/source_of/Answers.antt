@@ -2,5 +2,5 @@
 use Rattle.std.proofs.Common.{rules}
 use Rattle.tb_program_text.proofs.source.source_of.Goals as goal
 
-pub returns-in-None : goal.returns-in-None
-returns-in-None c = search rules
+pub returns-in-TooLong : goal.returns-in-TooLong
+returns-in-TooLong c = search rules

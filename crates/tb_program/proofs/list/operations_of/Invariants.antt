@@ -1,0 +1,6 @@
+use Rattle.std.proofs.Common.{◌≡◌, map, take}
+use Rattle.tb_program.specs.Operations.{operation_in}
+use Rattle.tb_program.proofs.list.operations_of.Given as goal
+
+abbrev pub invariant-loop-item : goal.invariant-loop-item
+invariant-loop-item l = l.operations.items ≡ map operation_in (take l.item-index l.items)

@@ -1,0 +1,16 @@
+use Rattle.std.proofs.Common.{rules, tests, ◌∙◌}
+use Rattle.std.specs.Prelude.{◌==◌, ◌||◌, is_some}
+use Rattle.std.proofs.lemmas.Iterator.Consumers.{YieldsList-at, YieldsList-from_filter, count_from_yields_List}
+use Rattle.std.proofs.lemmas.Iterator.Splits.{YieldsList-from_slice_split}
+use Rattle.std.proofs.lemmas.List.Sums.{length-filter}
+use Rattle.tb_program_text.specs.Naming.{all_words, code_in}
+use Rattle.tb_program_text.proofs.naming.failed_in.Goals as goal
+
+pub returns : goal.returns
+returns c =
+    count_from_yields_List c.filter.result _ c.count.ensures.ran
+    (YieldsList-from_filter _ (λ word. is_some (code_in word))
+    (YieldsList-at c.filter.ensures.source (YieldsList-from_slice_split _ (λ byte. (byte == 32) || (byte == 10)) c.args.text.now
+    c.split.ensures.rest c.split.ensures.done c.split.ensures.closure (λ x r q k. search (rules, tests))))
+    c.filter.ensures.closure (λ x r q k. search (rules, tests)))
+    ∙ length-filter (λ word. is_some (code_in word)) (all_words c.args.text.now)
