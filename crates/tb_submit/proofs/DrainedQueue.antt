@@ -14,7 +14,7 @@ use Rattle.tb_submit.specs.Ends.{EndedState, IntakeState, Seat, SenderState, con
 use Rattle.tb_submit.specs.Inside.{AreUnended, entry_of}
 use Rattle.tb_submit.specs.Lists.{AreAheadOfClose, AreWithin, BeginsWith, IsCompleteQueue, IsWithin}
 use Rattle.tb_submit.specs.Rule.{IsWhole, entry}
-use Rattle.tb_submit.proofs.RuleSteps.{each_map, part_append, stands_in}
+use Rattle.tb_submit.proofs.RuleSteps.{part_append, stands_in}
 
 -- ---- a part with its end
 

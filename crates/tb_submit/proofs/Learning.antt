@@ -1,5 +1,5 @@
 -- What a sender learned has no end of its own.
-use Rattle.std.proofs.Common.{◌≡◌, ℕ, true, List, [], ◌∷◌, ◌++◌, refl, ap, sym, ◌∙◌, subst}
+use Rattle.std.proofs.Common.{◌≡◌, ℕ, List, [], ◌∷◌, ◌++◌, refl, ap, sym, ◌∙◌, subst}
 use Rattle.std.specs.List.{AllByRecursion}
 use Rattle.tb_work.specs.Ahead.{items_from}
 use Rattle.tb_work.specs.Queue.{is_end, IsUnended}

@@ -16,7 +16,7 @@ use Rattle.tb_submit.specs.Lists.{BeginsWith}
 use Rattle.tb_submit.specs.declared.rule.PassEntry.{PassEntry}
 use Rattle.tb_submit.specs.declared.rule.IntakeMark.{IntakeMark}
 use Rattle.tb_submit.specs.declared.rule.View.{View}
-use Rattle.tb_submit.specs.Rule.{sender, intake, opening, empty_view, witness, next_of, view_counting_on, newcomer, view_seen_empty, both_views, view_learning, with_pushed, HasPushed, with_taken, Stands, FitsEntry, FitsMark, AllBegin, Fits, InView, QueueInvariant, IsWhole, Tells, TellsOwn}
+use Rattle.tb_submit.specs.Rule.{sender, intake, opening, empty_view, witness, next_of, view_counting_on, newcomer, view_seen_empty, both_views, view_learning, HasPushed, with_taken, Stands, FitsEntry, FitsMark, AllBegin, Fits, InView, QueueInvariant, IsWhole, Tells, TellsOwn}
 
 -- a new value at a place that is taken
 put_here : {A : Type 0} (l : List A) (i : ℕ) (a b : A) → get_elem? l i ≡ some a → get_elem? (set l i b) i ≡ some b
