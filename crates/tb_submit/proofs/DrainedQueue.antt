@@ -1,5 +1,5 @@
 -- What was taken of a sender, with its end, is all that it queued.
-use Rattle.std.proofs.Common.{◌≡◌, ◌<◌, ◌≤◌, ◌⊎◌, inl, inr, ⊎_elim, ℕ, zero, suc, ◌+◌, Bool, true, false, true≢false, List, [], ◌∷◌, ◌++◌, map, length, get_or, sym, refl, ap, ◌∙◌, subst, arith, append-nil, nat_lt}
+use Rattle.std.proofs.Common.{◌≡◌, ◌≢◌, ◌<◌, ◌≤◌, ◌⊎◌, inl, inr, ⊎_elim, ℕ, zero, suc, ◌+◌, Bool, true, false, true≢false, List, [], ◌∷◌, ◌++◌, map, length, get_or, sym, refl, ap, ◌∙◌, subst, arith, append-nil, nat_lt}
 use Rattle.std.specs.Prelude.{◌==◌, ◌||◌, ◌&&◌, not, filter, if◌then◌else◌}
 use Rattle.std.specs.List.{list_any, AllByRecursion}
 use Rattle.std.proofs.lemmas.Bool.{eq-eqb}
@@ -7,13 +7,14 @@ use Rattle.std.proofs.lemmas.Bool.Decides.{nat_tests}
 use Rattle.tb_work.specs.Ahead.{items_from}
 use Rattle.tb_work.specs.Queue.{is_end, IsUnended, IsEnded, IsSubmitted, IsQueueOf}
 use Rattle.tb_work.specs.declared.item.Item.{Item}
+use Rattle.tb_work.specs.declared.item.Item.TheVariants.{Close}
 use Rattle.tb_work.specs.declared.item.Ticket.{Ticket}
 use Rattle.tb_submit.specs.declared.rule.PassEntry.{PassEntry}
 use Rattle.tb_submit.specs.Ends.{EndedState, IntakeState, Seat, SenderState, control_seat, queued_by, seat_at}
-use Rattle.tb_submit.specs.Inside.{entry_of}
-use Rattle.tb_submit.specs.Lists.{AreWithin, IsCompleteQueue, IsWithin}
+use Rattle.tb_submit.specs.Inside.{AreUnended, entry_of}
+use Rattle.tb_submit.specs.Lists.{AreAheadOfClose, AreWithin, BeginsWith, IsCompleteQueue, IsWithin}
 use Rattle.tb_submit.specs.Rule.{IsWhole, entry}
-use Rattle.tb_submit.proofs.RuleSteps.{part_append}
+use Rattle.tb_submit.proofs.RuleSteps.{part_append, stands_in}
 
 -- ---- a part with its end
 
@@ -29,9 +30,13 @@ or_parts : (a b : Bool) → (a || b) ≡ true → (a ≡ true) ⊎ (b ≡ true)
 or_parts true b e = inl refl
 or_parts false b e = inr e
 
-and_parts : (a b : Bool) → (not a && b) ≡ true → (a ≡ false) × (b ≡ true)
+pub and_parts : (a b : Bool) → (not a && b) ≡ true → (a ≡ false) × (b ≡ true)
 and_parts true b e = absurd (true≢false (sym e))
 and_parts false b e = (refl, e)
+
+pub and_made : (a b : Bool) → a ≡ false → b ≡ true → (not a && b) ≡ true
+and_made true b a_is b_is = absurd (true≢false a_is)
+and_made false b a_is b_is = b_is
 
 after_end : (body : List Item) (last : Item) (xs ys : List Item) → IsUnended body → xs ++ ys ≡ body ++ last ∷ []
     → list_any is_end xs ≡ true → ys ≡ []
@@ -43,6 +48,10 @@ after_end (b ∷ body) last (x ∷ xs) ys clear is has =
     let none = and_parts (is_end b) _ clear in
     ⊎_elim (λ (t : is_end x ≡ true). absurd (true≢false (sym t ∙ ap is_end first ∙ none.0)))
     (λ t. after_end body last xs ys none.1 rest t) (or_parts (is_end x) (list_any is_end xs) has)
+
+nothing_more : {A : Type 0} (xs ys : List A) → xs ++ ys ≡ xs → ys ≡ []
+nothing_more [] ys e = e
+nothing_more (x ∷ xs) ys e = nothing_more xs ys cc
 
 -- what was taken, with an end in it, of a list that ends there
 whole_part : (items xs ys : List Item) → IsEnded items → xs ++ ys ≡ items → list_any is_end xs ≡ true → xs ≡ items
@@ -111,9 +120,11 @@ within_or_above n m = by (nat_lt m n) refl
 
 -- ---- all senders of a queue
 
--- a sender's part was taken whole
-abbrev IsDrained : IntakeState → ℕ → List Item → Type 0
-IsDrained intake sender items = (items_from sender intake.taken ≡ items) × IsCompleteQueue intake.limit intake.submitters sender items
+-- a sender's part was taken whole, and nothing of it is among those that are left
+abbrev IsDrained : IntakeState → List Ticket → ℕ → List Item → Type 0
+IsDrained intake left sender items =
+    (items_from sender intake.taken ≡ items) × IsCompleteQueue intake.limit intake.submitters sender items
+    × (items_from sender left ≡ [])
 
 -- all have ended, and the end of each was taken
 pub record AreSettled (intake : IntakeState) (ends : List EndedState) (control : SenderState) : Type 0 where
@@ -126,34 +137,34 @@ pub record AreSettled (intake : IntakeState) (ends : List EndedState) (control :
   pub control_filed : IsCompleteQueue control.seat.limit control.seat.submitters control.seat.number control.queued
   pub items : List Ticket
   pub whole : IsWhole (map entry_of ends ++ entry control.seat.number control.queued ∷ []) intake.taken
-      (intake.submitters + 1) items
+      (intake.submitters + 1) control.learned items
+  pub unended : AreUnended control.seat.number control.learned
   pub finished : (sender : ℕ) → sender ≤ intake.submitters → list_any is_end (items_from sender intake.taken) ≡ true
 
 drained : (intake : IntakeState) (items : List Ticket) (number : ℕ) (seat : Seat) (queued : List Item)
     → seat ≡ seat_at intake number → IsCompleteQueue seat.limit seat.submitters seat.number queued →
     items_from seat.number (intake.taken ++ items) ≡ queued → list_any is_end (items_from number intake.taken) ≡ true
-    → IsDrained intake number queued
+    → IsDrained intake items number queued
 drained intake items number seat queued seat_is filed is has =
     let mine : IsCompleteQueue intake.limit intake.submitters number queued = subst
     (λ (s : Seat). IsCompleteQueue s.limit s.submitters s.number queued) seat_is filed in
     let all : items_from number (intake.taken ++ items)
-    ≡ queued = subst (λ (s : Seat). items_from s.number (intake.taken ++ items) ≡ queued) seat_is is in (
-      whole_part queued (items_from number intake.taken) (items_from number items) mine.ended
-          (sym (part_append number intake.taken items) ∙ all) has,
-      mine,
-    )
+    ≡ queued = subst (λ (s : Seat). items_from s.number (intake.taken ++ items) ≡ queued) seat_is is in
+    let parts = sym (part_append number intake.taken items) ∙ all in
+    let whole = whole_part queued (items_from number intake.taken) (items_from number items) mine.ended parts has in
+    (whole, mine, nothing_more (items_from number intake.taken) (items_from number items) (parts ∙ sym whole))
 
 all_drained : (intake : IntakeState) (ends : List EndedState) (control : SenderState)
-    → AreSettled intake ends control → (sender : ℕ) → sender ≤ intake.submitters
-    → IsDrained intake sender (queued_by ends control sender)
+    → (is : AreSettled intake ends control) → (sender : ℕ) → sender ≤ intake.submitters
+    → IsDrained intake is.items sender (queued_by ends control sender)
 all_drained intake ends control is sender below =
     let IsPart : PassEntry → Type 0 = λ e. items_from e.number (intake.taken ++ is.items) ≡ e.pushed in
     let last = entry control.seat.number control.queued in
-    by_number (IsDrained intake) ends control
+    by_number (IsDrained intake is.items) ends control
     (λ k d within. drained intake is.items k (get_or ends k d).origin.seat (get_or ends k d).queued
     (is.seats k d within) (is.filed k d within) (entry_at IsPart ends last is.whole.0 k d within)
     (is.finished k (omega (arith, within, is.long))))
-    (subst (λ n. IsDrained intake n control.queued) (sym is.long)
+    (subst (λ n. IsDrained intake is.items n control.queued) (sym is.long)
     (drained intake is.items intake.submitters control.seat control.queued is.control_seat_is is.control_filed
     (last_entry IsPart ends last is.whole.0) (is.finished intake.submitters (omega arith))))
     sender (omega (arith, below, is.long))
@@ -192,3 +203,65 @@ pub settled_within : (intake : IntakeState) (ends : List EndedState) (control : 
 settled_within intake ends control is =
     all_of_parts (λ sender. IsWithin intake.limit) intake.taken
     (each_part (λ sender. IsWithin intake.limit) intake ends control is (λ sender items filed. filed.within))
+
+-- ---- what is ahead of the Close
+
+-- nothing is left once all was taken
+none_left : (intake : IntakeState) (ends : List EndedState) (control : SenderState)
+    → (is : AreSettled intake ends control) → is.items ≡ []
+none_left intake ends control is = no_part is.items (λ sender. ⊎_elim
+    (λ (below : sender ≤ intake.submitters). (all_drained intake ends control is sender below).2)
+    (λ (above : intake.submitters < sender). nothing_left (items_from sender intake.taken) (items_from sender is.items)
+    (sym (part_append sender intake.taken is.items) ∙ is.whole.1 sender (omega (arith, above))))
+    (within_or_above sender intake.submitters))
+  where
+    no_part : (items : List Ticket) → ((sender : ℕ) → items_from sender items ≡ []) → items ≡ []
+    no_part [] none = refl
+    no_part (ticket ∷ items) none = absurd (stands_in [] items ticket (none ticket.sender))
+
+all_front : {A : Type 0} (P : A → Type 0) (xs ys : List A) → AllByRecursion P (xs ++ ys) → AllByRecursion P xs
+all_front P [] ys all = tt
+all_front P (x ∷ xs) ys all = (all.0, all_front P xs ys all.1)
+
+unended_after : (b : Bool) (ticket : Ticket) (sender : ℕ) (queue : List Ticket)
+    → IsUnended (part_if b ticket sender queue) → IsUnended (items_from sender queue)
+unended_after true ticket sender queue clear = (and_parts (is_end ticket.item) _ clear).1
+unended_after false ticket sender queue clear = clear
+
+-- a Close is the control's, so it is an end of the control's part
+no_close : (submitters : ℕ) (seen : List Ticket)
+    → AllByRecursion (λ (ticket : Ticket). IsSubmitted submitters ticket.sender ticket.item) seen
+    → IsUnended (items_from submitters seen) → AllByRecursion (λ (ticket : Ticket). ticket.item ≢ Close) seen
+no_close submitters [] own clear = tt
+no_close submitters (ticket ∷ seen) own clear = (
+  (λ (closes : ticket.item ≡ Close).
+      let control : ticket.sender ≡ submitters = subst (IsSubmitted submitters ticket.sender) closes own.0 in
+      let first : IsUnended (part_if true ticket submitters seen) =
+      subst (λ b. IsUnended (part_if b ticket submitters seen)) (eq-eqb ticket.sender submitters control) clear in
+      true≢false (sym (ap is_end closes) ∙ (and_parts (is_end ticket.item) _ first).0)),
+  no_close submitters seen own.1 (unended_after (ticket.sender == submitters) ticket submitters seen clear),
+)
+
+pub settled_ahead : (intake : IntakeState) (ends : List EndedState) (control : SenderState)
+    → AreSettled intake ends control → AllByRecursion (AreAheadOfClose intake.taken) control.learned
+settled_ahead intake ends control is =
+    let queue = settled_queue intake ends control is in
+    let all : intake.taken ++ is.items ≡ intake.taken =
+    ap (λ left. intake.taken ++ left) (none_left intake ends control is) ∙ append-nil intake.taken in
+    both control.learned (subst (λ tickets. AllByRecursion (BeginsWith tickets) control.learned) all is.whole.2)
+    (subst (λ (seat : Seat). AllByRecursion (λ seen. IsUnended (items_from seat.number seen)) control.learned)
+    is.control_seat_is is.unended) queue.submitted
+  where
+    both : (learned : List (List Ticket)) → AllByRecursion (BeginsWith intake.taken) learned
+        → AllByRecursion (λ seen. IsUnended (items_from intake.submitters seen)) learned
+        → AllByRecursion (λ (ticket : Ticket). IsSubmitted intake.submitters ticket.sender ticket.item) intake.taken
+        → AllByRecursion (AreAheadOfClose intake.taken) learned
+    both [] begin unended submitted = tt
+    both (seen ∷ learned) begin unended submitted = (
+      (
+        begin.0,
+        no_close intake.submitters seen (all_front _ seen begin.0.0 (subst (AllByRecursion (λ (ticket : Ticket).
+            IsSubmitted intake.submitters ticket.sender ticket.item)) (sym begin.0.1) submitted)) unended.0,
+      ),
+      both learned begin.1 unended.1 submitted,
+    )

@@ -1,6 +1,7 @@
 pub mod QueuedItems
 pub mod DrainedQueue
 pub mod RuleSteps
+pub mod Learning
 pub mod OpenedSubmitters
 pub mod SubmitterCounts
 pub mod ReplyRefusals

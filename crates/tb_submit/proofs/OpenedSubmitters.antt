@@ -34,9 +34,9 @@ origins_back credit [] = refl
 origins_back credit (origin ∷ origins) = ap (λ rest. origin ∷ rest) (origins_back credit origins)
 
 pub reader_counted : (a b : ReaderState) (count : ℕ) → (a.queue ≡ b.queue) × (a.capacity ≡ b.capacity)
-    → a.entries ≡ b.entries → a.taken ≡ b.taken → a.seen_empty ≡ b.seen_empty → a.count ≡ count →
-    a ≡ record b { count = count }
-reader_counted a b count queue entries taken seen is =
+    → a.entries ≡ b.entries → a.taken ≡ b.taken → a.seen_empty ≡ b.seen_empty → a.learned ≡ b.learned
+    → a.count ≡ count → a ≡ record b { count = count }
+reader_counted a b count queue entries taken seen learned is =
     λ i. record {
       queue = queue.0 i;
       capacity = queue.1 i;
@@ -44,6 +44,7 @@ reader_counted a b count queue entries taken seen is =
       taken = taken i;
       count = is i;
       seen_empty = seen i;
+      learned = learned i;
     }
 
 -- ---- ends with their outlets

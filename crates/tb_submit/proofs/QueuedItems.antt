@@ -99,7 +99,7 @@ pulses_numbered sender (Pulse moment ∷ items) last end all = pulses_numbered s
 pulses_numbered sender (End ∷ items) last end all = absurd all
 pulses_numbered sender (Close ∷ items) last end all = absurd all
 
-pulses_unended : (items : List Item) → ArePulses items → IsUnended items
+pub pulses_unended : (items : List Item) → ArePulses items → IsUnended items
 pulses_unended [] all = refl
 pulses_unended (Packet job ∷ items) all = absurd all
 pulses_unended (Pulse moment ∷ items) all = pulses_unended items all

@@ -12,10 +12,11 @@ use Rattle.crossbeam_queue.proofs.Lists.{at_set, set_else, at_longer, at_last}
 use Rattle.tb_work.specs.Ahead.{items_from}
 use Rattle.tb_work.specs.declared.item.Item.{Item}
 use Rattle.tb_work.specs.declared.item.Ticket.{Ticket}
+use Rattle.tb_submit.specs.Lists.{BeginsWith}
 use Rattle.tb_submit.specs.declared.rule.PassEntry.{PassEntry}
 use Rattle.tb_submit.specs.declared.rule.IntakeMark.{IntakeMark}
 use Rattle.tb_submit.specs.declared.rule.View.{View}
-use Rattle.tb_submit.specs.Rule.{sender, intake, opening, empty_view, next_of, view_counting_on, newcomer, view_seen_empty, both_views, with_pushed, with_taken, Stands, FitsEntry, FitsMark, Fits, InView, QueueInvariant, IsWhole, Tells}
+use Rattle.tb_submit.specs.Rule.{sender, intake, opening, empty_view, witness, next_of, view_counting_on, newcomer, view_seen_empty, both_views, view_learning, HasPushed, with_taken, Stands, FitsEntry, FitsMark, AllBegin, Fits, InView, QueueInvariant, IsWhole, Tells, TellsOwn}
 
 -- a new value at a place that is taken
 put_here : {A : Type 0} (l : List A) (i : ℕ) (a b : A) → get_elem? l i ≡ some a → get_elem? (set l i b) i ≡ some b
@@ -39,7 +40,7 @@ all_set F views pass w mine others j u e =
     ⊎_elim (λ (x : (j ≡ pass) × (w ≡ u)). subst (λ (y : ℕ × View). F y.0 y.1) (λ i. (sym x.0 i, x.1 i)) mine)
     (λ (x : (j ≢ pass) × (get_elem? views j ≡ some u)). others j u x.0 x.1) (at_set views pass j w u e)
 
-each_map : {A : Type 0} (P Q : A → Type 0) (xs : List A) → ((x : A) → P x → Q x)
+pub each_map : {A : Type 0} (P Q : A → Type 0) (xs : List A) → ((x : A) → P x → Q x)
     → AllByRecursion P xs → AllByRecursion Q xs
 each_map P Q [] f e = tt
 each_map P Q (x ∷ xs) f e = (f x e.0, each_map P Q xs f e.1)
@@ -93,16 +94,29 @@ in_set views pass v w at keeps p s h = ⊎_elim
     (λ (n : p ≢ pass). (h.0, set_else views pass p w n ∙ h.1, h.2))
     (cases_eq p pass)
 
+-- all tickets still begin with the same lists when one more is pushed
+still_begin : (got items : List Ticket) (x : Ticket) (seen : List (List Ticket))
+    → AllBegin (got ++ items) seen → AllBegin (got ++ (items ++ x ∷ [])) seen
+still_begin got items x seen = each_map (BeginsWith (got ++ items)) (BeginsWith (got ++ (items ++ x ∷ []))) seen
+    (λ l f. (
+      f.0 ++ x ∷ [],
+      sym (append_assoc l f.0 (x ∷ [])) ∙ ap (λ k. k ++ x ∷ []) f.1 ∙ append_assoc got items (x ∷ []),
+    ))
+
 none_there : (u : View) (j : ℕ) → j ≢ 0 → get_elem? (opening ∷ []) j ≡ some u → ⊥
 none_there u zero n e = n refl
 none_there u (suc j) n e = some-ne-none u (sym e)
 
-pushes_here : (n pass : ℕ) (x : Ticket) (k : ℕ) (l : List Item) → x.sender ≡ k
-    → Pushes QueueInvariant n pass (sender k l) x (λ w. w ≡ with_pushed (sender k l) x)
-pushes_here n pass x k l own items views _ h at =
-    let w : View = sender k (l ++ x.item ∷ []) in
-    let mine = (h.fits pass (sender k l) at).0.0 in
-    let more = items ++ x ∷ [] in (
+pushes_here : (n pass : ℕ) (x : Ticket) (k : ℕ) (l : List Item) (was : List Ticket) (learned : List (List Ticket))
+    → x.sender ≡ k → Pushes QueueInvariant n pass (sender k l was learned) x (HasPushed (sender k l was learned) x)
+pushes_here n pass x k l was learned own items views _ h at =
+    let more = items ++ x ∷ [] in
+    let all = h.taken ++ more in
+    let w : View = sender k (l ++ x.item ∷ []) all learned in
+    let old = h.fits pass (sender k l was learned) at in
+    let mine = old.0.0 in
+    let part : items_from k all ≡ l ++ x.item ∷ [] =
+    part_more k h.taken items x ∙ (λ i. mine.2 i ++ part_one k x own i) in (
       w,
       record {
         pass_of = h.pass_of;
@@ -110,7 +124,7 @@ pushes_here n pass x k l own items views _ h at =
         count = h.count;
         taken = h.taken;
         fits = all_set (Fits h.pass_of h.reader h.count h.taken more) views pass w
-            (((mine.0, mine.1, part_more k h.taken items x ∙ (λ i. mine.2 i ++ part_one k x own i)), tt), tt)
+            (((mine.0, mine.1, part), tt), tt, (([], append-nil all), still_begin h.taken items x learned old.2.1))
             (λ j u other e. (
               each_map (FitsEntry h.pass_of h.count (h.taken ++ items) j)
                   (FitsEntry h.pass_of h.count (h.taken ++ more) j) u.entries
@@ -122,12 +136,14 @@ pushes_here n pass x k l own items views _ h at =
                   ))
                   (h.fits j u e).0,
               (h.fits j u e).1,
+              still_begin h.taken items x (u.history ∷ u.learned) (h.fits j u e).2,
             ));
-        stands = λ s below. in_set views pass (sender k l) w at (λ t stands. stands) (h.pass_of s) s (h.stands s below);
+        stands = λ s below. in_set views pass (sender k l was learned) w at (λ t stands. stands) (h.pass_of s) s
+            (h.stands s below);
         no_other_sender = λ s above. part_same s h.taken items x
             (λ same. (let f = mine.0 in let g = sym own ∙ same in absurd (omega arith))) ∙ h.no_other_sender s above;
       },
-      refl,
+      (all, refl, ap (λ s. items_from s all) own ∙ part),
     )
 
 -- a pass other than the reader's has no mark, so the list taken and the count may change
@@ -142,23 +158,25 @@ begins = record {
   reader = 0;
   count = 0;
   taken = [];
-  fits = all_set (Fits (λ s. 0) 0 0 [] []) (opening ∷ []) 0 opening (tt, (refl, refl, refl))
+  fits = all_set (Fits (λ s. 0) 0 0 [] []) (opening ∷ []) 0 opening (tt, (refl, refl, refl), (([], refl), tt))
       (λ j u n e. absurd (none_there u j n e));
   stands = λ s below. absurd (omega arith);
   no_other_sender = λ s above. refl;
 }
 
-pub pushes : (n pass : ℕ) (v : View) (x : Ticket) (k : ℕ) (l : List Item) → v ≡ sender k l → x.sender ≡ k
-    → Pushes QueueInvariant n pass v x (λ w. w ≡ with_pushed v x)
-pushes n pass v x k l is mine =
-    subst (λ (u : View). Pushes QueueInvariant n pass u x (λ w. w ≡ with_pushed u x)) (sym is) (pushes_here n pass x k l mine)
+pub pushes : (n pass : ℕ) (v : View) (x : Ticket) (k : ℕ) (l : List Item) (was : List Ticket)
+    (learned : List (List Ticket)) → v ≡ sender k l was learned → x.sender ≡ k
+    → Pushes QueueInvariant n pass v x (HasPushed v x)
+pushes n pass v x k l was learned is mine =
+    subst (λ (u : View). Pushes QueueInvariant n pass u x (HasPushed u x)) (sym is)
+    (pushes_here n pass x k l was learned mine)
 
 nothing_in : {A : Type 0} (xs ys : List A) (y : A) → xs ++ y ∷ ys ≡ [] → ⊥
 nothing_in [] ys y e = cc
 nothing_in (x ∷ xs) ys y e = cc
 
 -- a number that has no part in the list isn't the sender of one in it
-stands_in : (got items : List Ticket) (x : Ticket) → items_from x.sender (got ++ x ∷ items) ≡ [] → ⊥
+pub stands_in : (got items : List Ticket) (x : Ticket) → items_from x.sender (got ++ x ∷ items) ≡ [] → ⊥
 stands_in got items x e =
     nothing_in (items_from x.sender got) (items_from x.sender items) x.item
     (ap (λ l. items_from x.sender got ++ l) (sym (part_append x.sender (x ∷ []) items
@@ -179,30 +197,36 @@ given_out got items x count none = by (nat_lt x.sender count) refl
     by true e = below e
     by false e = absurd (stands_in got items x (none x.sender (above e)))
 
-takes_here : (pass : ℕ) (es : List PassEntry) (got : List Ticket) (n : ℕ) (seen : List ℕ)
-    → Pops QueueInvariant pass (intake es got n seen) (λ x w. (w ≡ with_taken (intake es got n seen) x) × (x.sender < n))
-takes_here pass es got n seen x items views h at =
-    let w : View = intake es (got ++ x ∷ []) n seen in
-    let mine = h.fits pass (intake es got n seen) at in
+takes_here : (pass : ℕ) (es : List PassEntry) (got : List Ticket) (n : ℕ) (seen : List ℕ) (learned : List (List Ticket))
+    → Pops QueueInvariant pass (intake es got n seen learned)
+    (λ x w. (w ≡ with_taken (intake es got n seen learned) x) × (x.sender < n))
+takes_here pass es got n seen learned x items views h at =
+    let w : View = intake es (got ++ x ∷ []) n seen learned in
+    let mine = h.fits pass (intake es got n seen learned) at in
     let more = h.taken ++ x ∷ [] in
     let same : more ++ items ≡ h.taken ++ (x ∷ items) = append_assoc h.taken (x ∷ []) items in
-    let old : AllAt (λ j u. AllByRecursion (FitsEntry h.pass_of h.count (more ++ items) j) u.entries) views =
-    λ j u e. subst (λ all. AllByRecursion (FitsEntry h.pass_of h.count all j) u.entries)
-    (sym same) (h.fits j u e).0 in (
+    let old : AllAt (λ j u. AllByRecursion (FitsEntry h.pass_of h.count (more ++ items) j) u.entries
+    × AllBegin (more ++ items) (u.history ∷ u.learned)) views =
+    λ j u e. subst (λ all. AllByRecursion (FitsEntry h.pass_of h.count all j) u.entries
+    × AllBegin all (u.history ∷ u.learned)) (sym same) ((h.fits j u e).0, (h.fits j u e).2) in (
       w,
       record {
         pass_of = h.pass_of;
         reader = h.reader;
         count = h.count;
         taken = more;
-        fits = all_set (Fits h.pass_of h.reader h.count more items) views pass w
-            (old pass (intake es got n seen) at, (mine.1.0, ap (λ g. g ++ x ∷ []) mine.1.1, mine.1.2))
+        fits = all_set (Fits h.pass_of h.reader h.count more items) views pass w (
+          (old pass (intake es got n seen learned) at).0,
+          (mine.1.0, ap (λ g. g ++ x ∷ []) mine.1.1, mine.1.2),
+          (old pass (intake es got n seen learned) at).1,
+        )
             (λ j u other e. (
-              old j u e,
+              (old j u e).0,
               mark_apart h.reader h.count h.count h.taken more j pass u.mark other
                   mine.1.0 (h.fits j u e).1,
+              (old j u e).1,
             ));
-        stands = λ s below. in_set views pass (intake es got n seen) w at (λ t stands. stands)
+        stands = λ s below. in_set views pass (intake es got n seen learned) w at (λ t stands. stands)
             (h.pass_of s) s (h.stands s below);
         no_other_sender = λ s above. ap (items_from s) same ∙ h.no_other_sender s above;
       },
@@ -210,10 +234,11 @@ takes_here pass es got n seen x items views h at =
     )
 
 pub takes : (pass : ℕ) (v : View) (es : List PassEntry) (got : List Ticket) (n : ℕ) (seen : List ℕ)
-    → v ≡ intake es got n seen → Pops QueueInvariant pass v (λ x w. (w ≡ with_taken v x) × (x.sender < next_of v.mark))
-takes pass v es got n seen is =
+    (learned : List (List Ticket)) → v ≡ intake es got n seen learned
+    → Pops QueueInvariant pass v (λ x w. (w ≡ with_taken v x) × (x.sender < next_of v.mark))
+takes pass v es got n seen learned is =
     subst (λ (u : View). Pops QueueInvariant pass u (λ x w. (w ≡ with_taken u x) × (x.sender < next_of u.mark))) (sym is)
-    (takes_here pass es got n seen)
+    (takes_here pass es got n seen learned)
 
 -- one number is in another pass
 abbrev pass_at : (ℕ → ℕ) → ℕ → ℕ → ℕ → ℕ
@@ -228,13 +253,15 @@ passed_else pass_of n pass s e = ap (λ (b : Bool). cond b pass (pass_of s)) (ne
 in_longer : (views : List View) (r : View) (p s : ℕ) → InView views p s → InView (views ++ r ∷ []) p s
 in_longer views r p s h = (h.0, at_longer views (r ∷ []) p h.0 h.1, h.2)
 
-forks_here : (pass : ℕ) (es : List PassEntry) (got : List Ticket) (n : ℕ) (seen : List ℕ)
-    → Forks QueueInvariant pass (intake es got n seen) (view_counting_on (intake es got n seen)) (newcomer (intake es got n seen))
-forks_here pass es got n seen items views h at =
-    let l : View = intake es got (n + 1) seen in
-    let r : View = sender n [] in
+forks_here : (pass : ℕ) (es : List PassEntry) (got : List Ticket) (n : ℕ) (seen : List ℕ) (learned : List (List Ticket))
+    → Forks QueueInvariant pass (intake es got n seen learned) (view_counting_on (intake es got n seen learned))
+    (newcomer (intake es got n seen learned))
+forks_here pass es got n seen learned items views h at =
+    let v : View = intake es got n seen learned in
+    let l : View = intake es got (n + 1) seen learned in
+    let r : View = sender n [] [] [] in
     let vs : List View = set views pass l in
-    let mine = h.fits pass (intake es got n seen) at in
+    let mine = h.fits pass v at in
     let pass_of : ℕ → ℕ = pass_at h.pass_of n (length vs) in
     let all : List Ticket = h.taken ++ items in
     let entry_on : (j : ℕ) (e : PassEntry) → FitsEntry h.pass_of h.count all j e → FitsEntry pass_of (h.count + 1) all j e
@@ -250,11 +277,13 @@ forks_here pass es got n seen items views h at =
       each_map (FitsEntry h.pass_of h.count all pass) (FitsEntry pass_of (h.count + 1) all pass) es
           (entry_on pass) mine.0,
       (mine.1.0, mine.1.1, ap (λ c. c + 1) mine.1.2),
+      mine.2,
     )
     (λ j u other e. (
       each_map (FitsEntry h.pass_of h.count all j) (FitsEntry pass_of (h.count + 1) all j) u.entries
           (entry_on j) (h.fits j u e).0,
       mark_apart h.reader h.count (h.count + 1) h.taken h.taken j pass u.mark other mine.1.0 (h.fits j u e).1,
+      (h.fits j u e).2,
     )) in
     record {
       pass_of = pass_of;
@@ -274,6 +303,7 @@ forks_here pass es got n seen items views h at =
               tt,
             ),
             tt,
+            ((all, refl), tt),
           ))
           (at_end vs r u j e);
       stands = λ s below. ⊎_elim
@@ -284,44 +314,87 @@ forks_here pass es got n seen items views h at =
             inl (sym is),
           ))
           (λ (no : s ≢ n). subst (λ (p : ℕ). InView (vs ++ r ∷ []) p s) (sym (passed_else h.pass_of n (length vs) s no))
-          (in_longer vs r (h.pass_of s) s (in_set views pass (intake es got n seen) l at (λ t stands. stands)
+          (in_longer vs r (h.pass_of s) s (in_set views pass v l at (λ t stands. stands)
           (h.pass_of s) s (h.stands s (let e = mine.1.2 in omega arith)))))
           (cases_eq s n);
       no_other_sender = λ s above. h.no_other_sender s (omega arith);
     }
 
 pub forks : (pass : ℕ) (v : View) (es : List PassEntry) (got : List Ticket) (n : ℕ) (seen : List ℕ)
-    → v ≡ intake es got n seen → Forks QueueInvariant pass v (view_counting_on v) (newcomer v)
-forks pass v es got n seen is =
-    subst (λ (u : View). Forks QueueInvariant pass u (view_counting_on u) (newcomer u)) (sym is) (forks_here pass es got n seen)
+    (learned : List (List Ticket)) → v ≡ intake es got n seen learned
+    → Forks QueueInvariant pass v (view_counting_on v) (newcomer v)
+forks pass v es got n seen learned is =
+    subst (λ (u : View). Forks QueueInvariant pass u (view_counting_on u) (newcomer u)) (sym is)
+    (forks_here pass es got n seen learned)
 
--- the reader's pass notes that the queue was seen empty: the second pass knows nothing
-notes_here : (pass : ℕ) (es : List PassEntry) (got : List Ticket) (n : ℕ) (seen : List ℕ)
-    → Forks QueueInvariant pass (intake es got n seen) (view_seen_empty (intake es got n seen)) empty_view
-notes_here pass es got n seen items views h at =
-    let l : View = view_seen_empty (intake es got n seen) in
+-- a new pass with no number, which knows no more than this one does
+adds_here : (pass : ℕ) (v l : View) (history : List Ticket) → l.entries ≡ v.entries →
+    ((pass_of : ℕ → ℕ) (reader count : ℕ) (taken items : List Ticket) → Fits pass_of reader count taken items pass v
+    → Fits pass_of reader count taken items pass l × BeginsWith (taken ++ items) history)
+    → Forks QueueInvariant pass v l (witness history)
+adds_here pass v l history same fits items views h at =
     let vs : List View = set views pass l in
-    let mine = h.fits pass (intake es got n seen) at in
+    let mine = fits h.pass_of h.reader h.count h.taken items (h.fits pass v at) in
     let old : AllAt (Fits h.pass_of h.reader h.count h.taken items) vs
-    = all_set (Fits h.pass_of h.reader h.count h.taken items) views pass l mine (λ j u other e. h.fits j u e) in
+    = all_set (Fits h.pass_of h.reader h.count h.taken items) views pass l mine.0 (λ j u other e. h.fits j u e) in
     record {
       pass_of = h.pass_of;
       reader = h.reader;
       count = h.count;
       taken = h.taken;
       fits = λ j u e. ⊎_elim (λ x. old j u x)
-          (λ (is : (j ≡ length vs) × (empty_view ≡ u)). subst (Fits h.pass_of h.reader h.count h.taken items j)
-          is.1 (tt, tt))
-          (at_end vs empty_view u j e);
-      stands = λ s below. in_longer vs empty_view (h.pass_of s) s (in_set views pass (intake es got n seen) l at
-          (λ t stands. stands) (h.pass_of s) s (h.stands s below));
+          (λ (is : (j ≡ length vs) × (witness history ≡ u)). subst (Fits h.pass_of h.reader h.count h.taken items j)
+          is.1 (tt, tt, (mine.1, tt)))
+          (at_end vs (witness history) u j e);
+      stands = λ s below. in_longer vs (witness history) (h.pass_of s) s (in_set views pass v l at
+          (λ t. subst (Stands t) (sym same)) (h.pass_of s) s (h.stands s below));
       no_other_sender = h.no_other_sender;
     }
 
+-- the reader's pass notes that the queue was seen empty: the second pass knows nothing
 pub notes : (pass : ℕ) (v : View) (es : List PassEntry) (got : List Ticket) (n : ℕ) (seen : List ℕ)
-    → v ≡ intake es got n seen → Forks QueueInvariant pass v (view_seen_empty v) empty_view
-notes pass v es got n seen is =
-    subst (λ (u : View). Forks QueueInvariant pass u (view_seen_empty u) empty_view) (sym is) (notes_here pass es got n seen)
+    (learned : List (List Ticket)) → v ≡ intake es got n seen learned
+    → Forks QueueInvariant pass v (view_seen_empty v) empty_view
+notes pass v es got n seen learned is =
+    subst (λ (u : View). Forks QueueInvariant pass u (view_seen_empty u) empty_view) (sym is)
+    (adds_here pass (intake es got n seen learned) (view_seen_empty (intake es got n seen learned)) [] refl
+    (λ pass_of reader count taken items fits. (fits, (taken ++ items, refl))))
+
+-- the second pass knows which tickets were queued at this one's last push
+pub witnesses : (pass : ℕ) (v : View) → Forks QueueInvariant pass v v (witness v.history)
+witnesses pass v = adds_here pass v v v.history refl (λ pass_of reader count taken items fits. (fits, fits.2.0))
+
+-- a pass learns what a second one knows that has no number
+pub learns_of : (pass : ℕ) (v : View) (other : ℕ) (u : View) → u.entries ≡ []
+    → Merges QueueInvariant pass v other u (view_learning v u) empty_view
+learns_of pass v other u none items views h at two at' =
+    let both : View = view_learning v u in
+    let vs : List View = set views pass both in
+    let was : get_elem? views other ≡ some u = ⊎_elim (λ x. absurd (two x.0)) (λ x. x.1)
+    (at_set views pass other both u at') in
+    let mine = h.fits pass v at in
+    let theirs = h.fits other u was in
+    let F : ℕ → View → Type 0 = Fits h.pass_of h.reader h.count h.taken items in
+    let now : AllAt F vs = all_set F views pass both (
+      mine.0,
+      mine.1,
+      (
+        mine.2.0,
+        each_append (BeginsWith (h.taken ++ items)) v.learned (u.history ∷ []) mine.2.1
+            (theirs.2.0, tt),
+      ),
+    )
+    (λ j y no e. h.fits j y e) in
+    record {
+      pass_of = h.pass_of;
+      reader = h.reader;
+      count = h.count;
+      taken = h.taken;
+      fits = all_set F vs other empty_view (tt, tt, ((h.taken ++ items, refl), tt)) (λ j y no e. now j y e);
+      stands = λ s below. in_set vs other u empty_view at' (λ t. subst (Stands t) none) (h.pass_of s) s
+          (in_set views pass v both at (λ t stands. stands) (h.pass_of s) s (h.stands s below));
+      no_other_sender = h.no_other_sender;
+    }
 
 -- any two passes may be joined: the numbers of the second one are in the first from then on
 pub merges : (pass : ℕ) (v : View) (other : ℕ) (u : View) → Merges QueueInvariant pass v other u (both_views v u) empty_view
@@ -352,11 +425,13 @@ merges pass v other u items views h at two at' =
           (each_map (FitsEntry h.pass_of h.count all other)
           (FitsEntry pass_of h.count all pass) u.entries taken_in theirs.0),
       mine.1,
+      (mine.2.0, theirs.2.1),
     ))
     (λ j y _ e no. (
       each_map (FitsEntry h.pass_of h.count all j) (FitsEntry pass_of h.count all j) y.entries
           (λ x. apart j x no) (h.fits j y e).0,
       (h.fits j y e).1,
+      (h.fits j y e).2,
     )) in
     let two' : pass ≢ other = λ e. two (sym e) in
     let here : get_elem? (set vs other empty_view) pass ≡ some both = set_else vs other pass empty_view two'
@@ -366,7 +441,8 @@ merges pass v other u items views h at two at' =
       reader = h.reader;
       count = h.count;
       taken = h.taken;
-      fits = all_set (Fits pass_of h.reader h.count h.taken items) vs other empty_view (tt, tt)
+      fits = all_set (Fits pass_of h.reader h.count h.taken items) vs other empty_view
+          (tt, tt, ((all, refl), tt))
           (λ j y no e. now j y e no);
       stands = λ s below. let c = h.stands s below in ⊎_elim
           (λ (is : h.pass_of s ≡ other). subst (λ (p : ℕ). InView (set vs other empty_view) p s) (sym (moved s is)) (
@@ -384,17 +460,27 @@ merges pass v other u items views h at two at' =
     }
 
 learns_here : (pass : ℕ) (es : List PassEntry) (got : List Ticket) (n : ℕ) (seen : List ℕ)
-    → Learns QueueInvariant pass (intake es got n seen) (IsWhole es got n)
-learns_here pass es got n seen items views h at =
-    let mine = h.fits pass (intake es got n seen) at in
+    (learned : List (List Ticket)) → Learns QueueInvariant pass (intake es got n seen learned) (IsWhole es got n learned)
+learns_here pass es got n seen learned items views h at =
+    let mine = h.fits pass (intake es got n seen learned) at in
     let same : h.taken ++ items ≡ got ++ items = ap (λ g. g ++ items) (sym mine.1.1) in (
       each_map (FitsEntry h.pass_of h.count (h.taken ++ items) pass)
           (λ (e : PassEntry). items_from e.number (got ++ items) ≡ e.pushed) es
           (λ e f. ap (items_from e.number) (sym same) ∙ f.2) mine.0,
       (λ s above. ap (items_from s) (sym same) ∙ h.no_other_sender s (omega (arith, mine.1.2))),
+      subst (λ all. AllBegin all learned) same mine.2.1,
     )
 
 pub learns : (pass : ℕ) (v : View) (es : List PassEntry) (got : List Ticket) (n : ℕ) (seen : List ℕ)
-    → v ≡ intake es got n seen → Learns QueueInvariant pass v (Tells v)
-learns pass v es got n seen is =
-    subst (λ (u : View). Learns QueueInvariant pass u (Tells u)) (sym is) (learns_here pass es got n seen)
+    (learned : List (List Ticket)) → v ≡ intake es got n seen learned → Learns QueueInvariant pass v (Tells v)
+learns pass v es got n seen learned is =
+    subst (λ (u : View). Learns QueueInvariant pass u (Tells u)) (sym is) (learns_here pass es got n seen learned)
+
+pub learns_own : (pass : ℕ) (v : View) → Learns QueueInvariant pass v (TellsOwn v)
+learns_own pass v items views h at =
+    let mine = h.fits pass v at in (
+      h.taken,
+      each_map (FitsEntry h.pass_of h.count (h.taken ++ items) pass)
+          (λ (e : PassEntry). items_from e.number (h.taken ++ items) ≡ e.pushed) v.entries (λ e f. f.2) mine.0,
+      mine.2.1,
+    )

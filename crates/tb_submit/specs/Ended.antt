@@ -19,10 +19,11 @@ pub record Origin : Type 0 where
   pub seat : Seat
   pub ring : RingId
 
--- the control, or its end
+-- the control, or its end, with the tickets that it learned of (`Control::learn`)
 pub record SenderState : Type 0 where
   pub seat : Seat
   pub queued : List Item
+  pub learned : List (List Ticket)
 
 -- a submitter that has ended; once it was settled, all of its unread replies are in its ring
 pub record EndedState : Type 0 where

@@ -23,6 +23,11 @@ with_taken intake ticket = record intake { taken = intake.taken ++ ticket ∷ []
 abbrev pub with_empty : IntakeState → IntakeState
 with_empty intake = record intake { seen_empty = intake.seen_empty ++ length intake.taken ∷ [] }
 
+-- the tickets that were queued up to a submitter's last packet
+pub record SeenState : Type 0 where
+  pub queue : TableId
+  pub tickets : List Ticket
+
 -- ---- the senders of an intake's queue
 
 abbrev pub seat_at : IntakeState → ℕ → Seat
@@ -53,7 +58,7 @@ abbrev pub new_submitter : ℕ → Origin → SubmitterState
 new_submitter credit origin = record { origin = origin; credit = credit; queued = []; read = []; lying = [] }
 
 abbrev pub new_control : IntakeState → SenderState
-new_control intake = record { seat = control_seat intake; queued = [] }
+new_control intake = record { seat = control_seat intake; queued = []; learned = [] }
 
 abbrev pub new_intake : TableId → ℕ → ℕ → ℕ → IntakeState
 new_intake queue submitters limit capacity =

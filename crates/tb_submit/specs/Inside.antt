@@ -1,9 +1,12 @@
 -- What the private types keep.
 use Rattle.std.specs.Prelude.{◌≡◌, ℕ, ◌-◌, ◌<◌, ◌≤◌, min, length, List, [], ◌∷◌, ◌++◌, Option, Some, None, ⊤}
+use Rattle.std.specs.List.{AllByRecursion}
 use Rattle.atomic_table.specs.Seated.{TableId}
 use Rattle.crossbeam_queue.specs.Passes.{Pass, view}
 use Rattle.tb_layout.specs.inside.Limits.{batch_max, capacity_max}
+use Rattle.tb_work.specs.Ahead.{items_from}
 use Rattle.tb_work.specs.Packet.{ReplyValue}
+use Rattle.tb_work.specs.Queue.{IsUnended}
 use Rattle.tb_work.specs.declared.item.Item.{Item}
 use Rattle.tb_work.specs.declared.item.Ticket.{Ticket}
 use Rattle.tb_work.specs.declared.refusal.Refusal.{Refusal}
@@ -13,14 +16,10 @@ use Rattle.tb_submit.specs.declared.rule.View.{View}
 use Rattle.tb_submit.specs.Ends.{Seat, SenderState, EndedState}
 use Rattle.tb_submit.specs.Lists.{ArePackets, IsCompleteQueue}
 use Rattle.tb_submit.specs.Refusals.{told_in}
-use Rattle.tb_submit.specs.Rule.{entry, sender}
+use Rattle.tb_submit.specs.Rule.{entry, first_pushed, sender}
 
 abbrev pub view_of : Pass Ticket View → View
 view_of pass = view pass
-
-abbrev pub first_pushed : List PassEntry → List Item
-first_pushed [] = []
-first_pushed (e ∷ entries) = e.pushed
 
 abbrev pub taken_of : Option IntakeMark → List Ticket
 taken_of None = []
@@ -35,7 +34,8 @@ seen_empty_of None = []
 seen_empty_of (Some mark) = mark.seen_empty
 
 -- the pass with the mark: its queue and that one's capacity, the entries that were gathered, what was taken, how many
--- numbers were assigned, and after how many tickets the queue was seen empty
+-- numbers were assigned, and after how many tickets the queue was seen empty. `learned` is from the sender that was
+-- gathered last.
 pub record ReaderState : Type 0 where
   pub queue : TableId
   pub capacity : ℕ
@@ -43,6 +43,7 @@ pub record ReaderState : Type 0 where
   pub taken : List Ticket
   pub count : ℕ
   pub seen_empty : List ℕ
+  pub learned : List (List Ticket)
 
 -- the reader, which sees its queue empty after all that was taken
 abbrev pub reader_with_empty : ReaderState → ReaderState
@@ -57,18 +58,29 @@ state_while_open pass submitters limit number =
     record {
       seat = seat_with (Some pass.table_id) submitters limit number;
       queued = first_pushed (view_of pass).entries;
+      learned = (view_of pass).learned;
     }
 
 -- a sender that has ended, whose pass may be gone
 abbrev pub state_once_ended : Option (Pass Ticket View) → ℕ → ℕ → ℕ → SenderState
-state_once_ended None submitters limit number = record { seat = seat_with None submitters limit number; queued = [] }
+state_once_ended None submitters limit number =
+    record { seat = seat_with None submitters limit number; queued = []; learned = [] }
 state_once_ended (Some pass) submitters limit number = state_while_open pass submitters limit number
+
+-- the view is that of a sender's pass
+abbrev pub IsSenderView : ℕ → View → Type 0
+IsSenderView number view = view ≡ sender number (first_pushed view.entries) view.history view.learned
+
+-- no list has an end of this sender
+abbrev pub AreUnended : ℕ → List (List Ticket) → Type 0
+AreUnended number learned = AllByRecursion (λ (seen : List Ticket). IsUnended (items_from number seen)) learned
 
 abbrev pub IsLeft : Option (Pass Ticket View) → ℕ → ℕ → ℕ → Type 0
 IsLeft None submitters limit number = ⊤
 IsLeft (Some pass) submitters limit number =
-    (pass.me.1 ≡ []) × (view_of pass ≡ sender number (first_pushed (view_of pass).entries))
+    (pass.me.1 ≡ []) × IsSenderView number (view_of pass)
     × IsCompleteQueue limit submitters number (first_pushed (view_of pass).entries)
+    × AreUnended number (view_of pass).learned
 
 -- once it was settled it counts the replies in its ring
 abbrev pub CountsUnread : Option ℕ → List ReplyValue → Type 0

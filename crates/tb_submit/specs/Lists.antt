@@ -1,10 +1,10 @@
 -- What a sender queues.
-use Rattle.std.specs.Prelude.{◌≡◌, ℕ, ◌+◌, List, [], ◌∷◌, IsOk}
+use Rattle.std.specs.Prelude.{◌≡◌, ◌≢◌, ℕ, ◌+◌, List, [], ◌∷◌, ◌++◌, IsOk}
 use Rattle.std.specs.List.{AllByRecursion}
 use Rattle.tb_work.specs.Admission.{admission_of}
 use Rattle.tb_work.specs.Queue.{IsSubmitted, AreNumbered, IsEnded}
 use Rattle.tb_work.specs.declared.item.Item.{Item}
-use Rattle.tb_work.specs.declared.item.Item.TheVariants.{Packet, Pulse}
+use Rattle.tb_work.specs.declared.item.Item.TheVariants.{Packet, Pulse, Close}
 use Rattle.tb_work.specs.declared.item.Ticket.{Ticket}
 
 -- a packet was admitted, and so has at most `limit` events
@@ -28,6 +28,13 @@ abbrev pub ArePulses : List Item → Type 0
 ArePulses [] = Unit {0}
 ArePulses (Pulse moment ∷ items) = ArePulses items
 ArePulses (other ∷ items) = ⊥
+
+abbrev pub BeginsWith : List Ticket → List Ticket → Type 0
+BeginsWith queue seen = (rest : List Ticket) × (seen ++ rest ≡ queue)
+
+-- these tickets are the first of the queue, and the Close isn't one of them
+abbrev pub AreAheadOfClose : List Ticket → List Ticket → Type 0
+AreAheadOfClose queue seen = BeginsWith queue seen × AllByRecursion (λ (ticket : Ticket). ticket.item ≢ Close) seen
 
 -- all that a sender queued, with its end: each item is its own, and packets are numbered from 0 and within the limit
 pub record IsCompleteQueue (limit submitters sender : ℕ) (items : List Item) : Type 0 where

@@ -6,6 +6,7 @@ use lib.ListN.{get_elem?}
 use Rattle.tb_work.specs.Ahead.{items_from}
 use Rattle.tb_work.specs.declared.item.Item.{Item}
 use Rattle.tb_work.specs.declared.item.Ticket.{Ticket}
+use Rattle.tb_submit.specs.Lists.{BeginsWith}
 use Rattle.tb_submit.specs.declared.rule.PassEntry.{PassEntry}
 use Rattle.tb_submit.specs.declared.rule.IntakeMark.{IntakeMark}
 use Rattle.tb_submit.specs.declared.rule.View.{View}
@@ -15,25 +16,31 @@ use Rattle.tb_submit.specs.declared.rule.View.{View}
 abbrev pub entry : ℕ → List Item → PassEntry
 entry number pushed = record { number = number; pushed = pushed }
 
-abbrev pub view_with : List PassEntry → Option IntakeMark → View
-view_with entries mark = record { entries = entries; mark = mark }
+abbrev pub view_with : List PassEntry → Option IntakeMark → List Ticket → List (List Ticket) → View
+view_with entries mark history learned =
+    record { entries = entries; mark = mark; history = history; learned = learned }
 
--- a sender's pass: one number, and what was pushed under it
-abbrev pub sender : ℕ → List Item → View
-sender number pushed = view_with (entry number pushed ∷ []) None
+-- a sender's pass: one number, what was pushed under it, all tickets up to its own last push, and such lists of other
+-- passes
+abbrev pub sender : ℕ → List Item → List Ticket → List (List Ticket) → View
+sender number pushed history learned = view_with (entry number pushed ∷ []) None history learned
 
--- the intake's pass: what was taken, how many numbers were given out, and after how many tickets the queue was seen
--- empty
-abbrev pub intake : List PassEntry → List Ticket → ℕ → List ℕ → View
-intake entries taken count seen_empty =
-    view_with entries (Some (record { taken = taken; count = count; seen_empty = seen_empty }))
+-- the intake's pass: what was taken, how many numbers were given out, after how many tickets the queue was seen empty,
+-- and what the sender had learned whose pass it took in last
+abbrev pub intake : List PassEntry → List Ticket → ℕ → List ℕ → List (List Ticket) → View
+intake entries taken count seen_empty learned =
+    view_with entries (Some (record { taken = taken; count = count; seen_empty = seen_empty })) [] learned
 
 abbrev pub opening : View
-opening = intake [] [] 0 []
+opening = intake [] [] 0 [] []
 
 -- a pass that was joined to another
 abbrev pub empty_view : View
-empty_view = view_with [] None
+empty_view = view_with [] None [] []
+
+-- a pass that knows only which tickets were queued at a moment
+abbrev pub witness : List Ticket → View
+witness history = view_with [] None history []
 
 -- ---- what a step makes of them
 
@@ -47,20 +54,34 @@ one_number_more (Some mark) =
     Some (record { taken = mark.taken; count = mark.count + 1; seen_empty = mark.seen_empty })
 
 abbrev pub view_counting_on : View → View
-view_counting_on view = view_with view.entries (one_number_more view.mark)
+view_counting_on view = record view { mark = one_number_more view.mark }
 
 abbrev pub newcomer : View → View
-newcomer view = sender (next_of view.mark) []
+newcomer view = sender (next_of view.mark) [] [] []
 
 abbrev pub both_views : View → View → View
-both_views view other = view_with (view.entries ++ other.entries) view.mark
+both_views view other = view_with (view.entries ++ other.entries) view.mark view.history other.learned
+
+-- a pass learns which tickets were queued at another one's last push
+abbrev pub view_learning : View → View → View
+view_learning view other = record view { learned = view.learned ++ other.history ∷ [] }
 
 abbrev pub first_entry_with : Item → List PassEntry → List PassEntry
 first_entry_with item [] = []
 first_entry_with item (e ∷ entries) = entry e.number (e.pushed ++ item ∷ []) ∷ entries
 
-abbrev pub with_pushed : View → Ticket → View
-with_pushed view ticket = view_with (first_entry_with ticket.item view.entries) view.mark
+abbrev pub with_pushed : View → Ticket → List Ticket → View
+with_pushed view ticket history =
+    view_with (first_entry_with ticket.item view.entries) view.mark history view.learned
+
+abbrev pub first_pushed : List PassEntry → List Item
+first_pushed [] = []
+first_pushed (e ∷ entries) = e.pushed
+
+abbrev pub HasPushed : View → Ticket → View → Type 0
+HasPushed view ticket next =
+    (history : List Ticket) × (next ≡ with_pushed view ticket history)
+    × (items_from ticket.sender history ≡ first_pushed next.entries)
 
 abbrev pub taken_more : Ticket → Option IntakeMark → Option IntakeMark
 taken_more ticket None = None
@@ -68,7 +89,7 @@ taken_more ticket (Some mark) =
     Some (record { taken = mark.taken ++ ticket ∷ []; count = mark.count; seen_empty = mark.seen_empty })
 
 abbrev pub with_taken : View → Ticket → View
-with_taken view ticket = view_with view.entries (taken_more ticket view.mark)
+with_taken view ticket = record view { mark = taken_more ticket view.mark }
 
 -- the queue was seen empty, after all that was taken
 abbrev pub empty_more : Option IntakeMark → Option IntakeMark
@@ -77,7 +98,7 @@ empty_more (Some mark) =
     Some (record { taken = mark.taken; count = mark.count; seen_empty = mark.seen_empty ++ length mark.taken ∷ [] })
 
 abbrev pub view_seen_empty : View → View
-view_seen_empty view = view_with view.entries (empty_more view.mark)
+view_seen_empty view = record view { mark = empty_more view.mark }
 
 -- ---- the rule
 
@@ -94,10 +115,13 @@ abbrev pub FitsMark : ℕ → ℕ → List Ticket → ℕ → Option IntakeMark 
 FitsMark reader count taken pass None = ⊤
 FitsMark reader count taken pass (Some mark) = (pass ≡ reader) × (mark.taken ≡ taken) × (mark.count ≡ count)
 
+abbrev pub AllBegin : List Ticket → List (List Ticket) → Type 0
+AllBegin all seen = AllByRecursion (BeginsWith all) seen
+
 abbrev pub Fits : (ℕ → ℕ) → ℕ → ℕ → List Ticket → List Ticket → ℕ → View → Type 0
 Fits pass_of reader count taken items pass view =
     AllByRecursion (FitsEntry pass_of count (taken ++ items) pass) view.entries
-    × FitsMark reader count taken pass view.mark
+    × FitsMark reader count taken pass view.mark × AllBegin (taken ++ items) (view.history ∷ view.learned)
 
 abbrev pub InView : List View → ℕ → ℕ → Type 0
 InView views pass number = (view : View) × (get_elem? views pass ≡ some view) × Stands number view.entries
@@ -115,15 +139,24 @@ pub record QueueInvariant (items : List Ticket) (views : List View) : Type 0 whe
 
 -- ---- what the intake's pass learns of what is queued
 
--- of each number in the pass, taken and queued together are what was pushed
-abbrev pub IsWhole : List PassEntry → List Ticket → ℕ → List Ticket → Type 0
-IsWhole entries taken count items =
+-- of each number in the pass, taken and queued together are what was pushed, and they begin with each list that was
+-- learned
+abbrev pub IsWhole : List PassEntry → List Ticket → ℕ → List (List Ticket) → List Ticket → Type 0
+IsWhole entries taken count learned items =
     AllByRecursion (λ (e : PassEntry). items_from e.number (taken ++ items) ≡ e.pushed) entries
-    × ((number : ℕ) → count ≤ number → items_from number (taken ++ items) ≡ [])
+    × ((number : ℕ) → count ≤ number → items_from number (taken ++ items) ≡ []) × AllBegin (taken ++ items) learned
 
-abbrev pub TellsMark : List PassEntry → Option IntakeMark → List Ticket → Type 0
-TellsMark entries None items = ⊤
-TellsMark entries (Some mark) items = IsWhole entries mark.taken mark.count items
+abbrev pub TellsMark : List PassEntry → Option IntakeMark → List (List Ticket) → List Ticket → Type 0
+TellsMark entries None learned items = ⊤
+TellsMark entries (Some mark) learned items = IsWhole entries mark.taken mark.count learned items
 
 abbrev pub Tells : View → List Ticket → Type 0
-Tells view items = TellsMark view.entries view.mark items
+Tells view items = TellsMark view.entries view.mark view.learned items
+
+-- what a sender's pass learns of all tickets: its own part is what it pushed, and they begin with each list that it
+-- learned
+abbrev pub TellsOwn : View → List Ticket → Type 0
+TellsOwn view items =
+    (taken : List Ticket)
+    × AllByRecursion (λ (e : PassEntry). items_from e.number (taken ++ items) ≡ e.pushed) view.entries
+    × AllBegin (taken ++ items) view.learned

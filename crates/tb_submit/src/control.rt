@@ -1,11 +1,12 @@
 //! The control.
 
-ghost use Rattle.std.specs.Prelude.{◌≡◌, ◌<◌, ◌≤◌, [], length, OnOk, IfOk, IfErr, Err};
+ghost use Rattle.std.specs.Prelude.{◌≡◌, ◌<◌, ◌≤◌, [], ◌∷◌, ◌++◌, length, Some, OnOk, IfOk, IfErr, Err};
 ghost use Rattle.tb_layout.specs.inside.Limits.{moment_max, queued_max};
 ghost use Rattle.tb_submit.specs.Ends.{sender_with};
 ghost use Rattle.tb_work.specs.declared.item.Item.TheVariants as item;
 ghost use Rattle.tb_work.specs.declared.refusal.Refusal.TheVariants as refusal;
 
+use crate::seen::Seen;
 use crate::sender::{EndedSender, Sender};
 use std::marker::Model;
 use std::sync::Wait;
@@ -69,6 +70,15 @@ impl Control {
             }
             Err(_) => Err(Refusal::Full),
         }
+    }
+
+    /// Records that these tickets are queued: a Close that is queued later is behind them (`settle_queue`: `ahead`).
+    /// Costs three atomic loads and takes no memory.
+    pub fn learn(&mut self, seen: Seen)
+        requires { self.old.seat.queue ≡ Some seen.queue }
+        ensures { self.new ≡ record self.old { learned = self.old.learned ++ seen.tickets ∷ [] } }
+    {
+        self.sender.learn(seen);
     }
 
     /// Returns whether the queue is given up, as `Submitter::give_up` does.

@@ -84,6 +84,7 @@ impl Ended {
         ensures entries { reader.new ≡ record reader.old {
           entries = reader.old.entries
               ++ entry self.old.origin.seat.number self.old.queued ∷ [];
+          learned = reader.new.learned;
         } }
         ensures filed { IsCompleteQueue self.old.origin.seat.limit self.old.origin.seat.submitters
             self.old.origin.seat.number self.old.queued }

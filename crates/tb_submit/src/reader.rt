@@ -2,7 +2,7 @@
 
 ghost use Rattle.std.specs.Prelude.{◌≡◌, ◌+◌, ◌<◌, [], ◌∷◌, ◌++◌, List, Some, OnOk, IfOk, IfSome, IfNone};
 ghost use Rattle.tb_work.specs.declared.item.Ticket.{Ticket};
-ghost use Rattle.tb_submit.specs.Inside.{reader_with_empty, seat_with};
+ghost use Rattle.tb_submit.specs.Inside.{AreUnended, reader_with_empty, seat_with};
 ghost use Rattle.tb_submit.specs.Lists.{IsCompleteQueue};
 ghost use Rattle.tb_submit.specs.Rule.{entry, IsWhole};
 
@@ -56,11 +56,12 @@ impl Model for Reader {
       taken = taken_of (view_of s.pass).mark;
       count = count_of (view_of s.pass).mark;
       seen_empty = seen_empty_of (view_of s.pass).mark;
+      learned = (view_of s.pass).learned;
     } };
 
     ghost invariant = { λ s. IsPassOf (arc_value s.queue) s.pass
         × (view_of s.pass ≡ intake (view_of s.pass).entries (taken_of (view_of s.pass).mark)
-        (count_of (view_of s.pass).mark) (seen_empty_of (view_of s.pass).mark)) };
+        (count_of (view_of s.pass).mark) (seen_empty_of (view_of s.pass).mark) (view_of s.pass).learned) };
 }
 
 impl Reader {
@@ -68,7 +69,7 @@ impl Reader {
     pub(crate) fn new(alloc: Global, capacity: usize) -> Result<Reader, NoMemory>
         requires { 0 < capacity }
         ensures fresh { IfOk result (λ reader. (reader.entries ≡ []) × (reader.taken ≡ []) × (reader.count ≡ 0)
-            × (reader.seen_empty ≡ [])) }
+            × (reader.seen_empty ≡ []) × (reader.learned ≡ [])) }
         ensures capacity { IfOk result (λ reader. reader.capacity ≡ capacity) }
     {
         let sleeper = Sleeper::new(alloc)?;
@@ -93,10 +94,10 @@ impl Reader {
         requires { number ≡ self.old.count }
         ensures queue { (self.new.queue ≡ self.old.queue) × (self.new.capacity ≡ self.old.capacity) }
         ensures same { (self.new.entries ≡ self.old.entries) × (self.new.taken ≡ self.old.taken)
-            × (self.new.seen_empty ≡ self.old.seen_empty) }
+            × (self.new.seen_empty ≡ self.old.seen_empty) × (self.new.learned ≡ self.old.learned) }
         ensures count { OnOk result (self.new.count ≡ self.old.count + 1) }
         ensures sender { IfOk result (λ sender. sender
-            ≡ record { seat = seat_with (Some self.old.queue) submitters limit number; queued = [] }) }
+            ≡ record { seat = seat_with (Some self.old.queue) submitters limit number; queued = []; learned = [] }) }
     {
         let waker = self.sleeper.waker()?;
         let service = Arc::try_clone(&self.service)?;
@@ -148,14 +149,16 @@ impl Reader {
         self.sleeper.wait(rt, spin);
     }
 
-    /// Takes in what an ended sender pushed, so that it is known here from now on.
+    /// Takes in what an ended sender pushed and learned, so that it is known here from now on.
     pub(crate) fn gather(&mut self, ended: &mut EndedSender)
         requires { ended.old.seat.queue ≡ Some self.old.queue }
         ensures entries { self.new ≡ record self.old {
           entries = self.old.entries
               ++ entry ended.old.seat.number ended.old.queued ∷ [];
+          learned = ended.old.learned;
         } }
         ensures filed { IsCompleteQueue ended.old.seat.limit ended.old.seat.submitters ended.old.seat.number ended.old.queued }
+        ensures unended { AreUnended ended.old.seat.number ended.old.learned }
     {
         let Some(pass) = ended.pass.take() else {
             unreachable!()
@@ -163,10 +166,12 @@ impl Reader {
         self.queue.absorb::<Gathers>(&mut self.pass, pass);
     }
 
-    /// Learns that what was taken and what is queued is, of each sender that was gathered, all that it pushed.
+    /// Establishes that the taken and the queued tickets are, of each sender that was gathered, all that it pushed. They
+    /// begin with each list that the last one had learned.
     pub(crate) fn learn(&mut self)
         ensures same { self.new ≡ self.old }
-        ensures whole { (items : List Ticket) × IsWhole self.new.entries self.new.taken self.new.count items }
+        ensures whole { (items : List Ticket) × IsWhole self.new.entries self.new.taken self.new.count
+            self.new.learned items }
     {
         self.queue.learn_as::<Queued>(&mut self.pass);
     }

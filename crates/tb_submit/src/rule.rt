@@ -23,6 +23,10 @@ pub(crate) struct IntakeMark {
 pub(crate) struct View {
     pub(crate) entries: LinkedList<PassEntry>,
     pub(crate) mark: Option<IntakeMark>,
+    /// All tickets up to its own last push.
+    pub(crate) history: LinkedList<Ticket>,
+    /// Such lists of other passes.
+    pub(crate) learned: LinkedList<LinkedList<Ticket>>,
 }
 
 /// The rule, in the form in which the kit's queue asks for it.
@@ -58,6 +62,28 @@ impl Split<View> for SeenEmpty {
     ghost right = { λ view. empty_view };
 }
 
+/// A new pass knows which tickets were queued at this one's last push.
+pub(crate) struct Witnessed;
+
+impl Split<View> for Witnessed {
+    ghost use Rattle.tb_submit.specs.Rule.{witness};
+
+    ghost left = { λ view. view };
+
+    ghost right = { λ view. witness view.history };
+}
+
+/// A pass learns which tickets were queued at another one's last push.
+pub(crate) struct Learned;
+
+impl Join<View> for Learned {
+    ghost use Rattle.tb_submit.specs.Rule.{view_learning, empty_view};
+
+    ghost both = { view_learning };
+
+    ghost spent = { empty_view };
+}
+
 /// A pass takes in what another knows.
 pub(crate) struct Gathers;
 
@@ -69,14 +95,14 @@ impl Join<View> for Gathers {
     ghost spent = { empty_view };
 }
 
-/// A push puts its ticket at the end of what its own pass pushed.
+/// A push puts its ticket at the end of what its own pass pushed, which is its sender's part of all tickets up to
+/// this one.
 pub(crate) struct Pushed;
 
 impl Outcome<Ticket, View> for Pushed {
-    ghost use Rattle.std.specs.Prelude.{◌≡◌};
-    ghost use Rattle.tb_submit.specs.Rule.{with_pushed};
+    ghost use Rattle.tb_submit.specs.Rule.{HasPushed};
 
-    ghost then = { λ view ticket next. next ≡ with_pushed view ticket };
+    ghost then = { HasPushed };
 }
 
 impl Lesson<Ticket, View> for Pushed {
@@ -108,6 +134,15 @@ impl Lesson<Ticket, View> for Queued {
     ghost use Rattle.tb_submit.specs.Rule.{Tells};
 
     ghost fact = { Tells };
+}
+
+/// What a sender's pass learns of the queued tickets.
+pub(crate) struct Own;
+
+impl Lesson<Ticket, View> for Own {
+    ghost use Rattle.tb_submit.specs.Rule.{TellsOwn};
+
+    ghost fact = { TellsOwn };
 }
 
 /// The queue of tickets, under the rule.

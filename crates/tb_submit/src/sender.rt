@@ -1,10 +1,13 @@
 //! Those that push under a number of their own.
 
-ghost use Rattle.std.specs.Prelude.{◌≡◌, [], ◌∷◌, ◌++◌, OnOk, IfOk, IfErr};
+ghost use Rattle.std.specs.Prelude.{◌≡◌, [], ◌∷◌, ◌++◌, Some, OnOk, IfOk, IfErr};
 ghost use Rattle.tb_submit.specs.Ends.{sender_with};
 ghost use Rattle.tb_submit.specs.Lists.{IsCompleteQueue};
+ghost use Rattle.tb_work.specs.Ahead.{items_from};
+ghost use Rattle.tb_work.specs.Queue.{IsUnended};
 
-use crate::rule::{Pushed, Queue, QueuePass};
+use crate::rule::{Learned, Own, Pushed, Queue, QueuePass, Witnessed};
+use crate::seen::Seen;
 use crate::service::Service;
 use std::alloc::Global;
 use std::marker::Model;
@@ -47,15 +50,18 @@ impl Model for Sender {
     ghost use Rattle.std.specs.Arc.{arc_value};
     ghost use Rattle.crossbeam_queue.specs.Passes.{IsPassOf};
     ghost use Rattle.tb_submit.specs.Ends.{SenderState};
-    ghost use Rattle.tb_submit.specs.Inside.{first_pushed, view_of, state_while_open};
-    ghost use Rattle.tb_submit.specs.Rule.{sender};
+    ghost use Rattle.tb_submit.specs.Inside.{AreUnended, IsSenderView, view_of, state_while_open};
+    ghost use Rattle.tb_submit.specs.Rule.{first_pushed};
+    ghost use Rattle.tb_work.specs.Ahead.{items_from};
 
     ghost Value = { SenderState };
 
     ghost view = { λ s. state_while_open s.pass s.submitters s.limit s.number };
 
     ghost invariant = { λ s. IsPassOf (arc_value s.queue) s.pass
-        × (view_of s.pass ≡ sender s.number (first_pushed (view_of s.pass).entries)) };
+        × IsSenderView s.number (view_of s.pass)
+        × (items_from s.number (view_of s.pass).history ≡ first_pushed (view_of s.pass).entries)
+        × AreUnended s.number (view_of s.pass).learned };
 }
 
 impl Sender {
@@ -76,6 +82,28 @@ impl Sender {
     /// Returns whether the queue is given up: unless it is served, it is from now on.
     pub(crate) fn give_up(&self) -> bool {
         self.service.give_up()
+    }
+
+    /// Returns the tickets that were queued up to its last push. Costs one atomic load.
+    pub(crate) fn seen(&mut self) -> Seen
+        ensures same { self.new ≡ self.old }
+        ensures queue { self.old.seat.queue ≡ Some result.queue }
+        ensures tickets { items_from self.old.seat.number result.tickets ≡ self.old.queued }
+    {
+        Seen {
+            pass: self.queue.another::<Witnessed>(&mut self.pass),
+        }
+    }
+
+    /// Records that these tickets are queued, and that no end of its own is one of them. Costs three atomic loads.
+    pub(crate) fn learn(&mut self, seen: Seen)
+        requires queue { self.old.seat.queue ≡ Some seen.queue }
+        requires unended { IsUnended self.old.queued }
+        ensures { self.new ≡ record self.old { learned = self.old.learned ++ seen.tickets ∷ [] } }
+    {
+        let Seen { pass } = seen;
+        self.queue.absorb::<Learned>(&mut self.pass, pass);
+        self.queue.learn_as::<Own>(&mut self.pass);
     }
 
     /// Pushes an item, and wakes the intake if it waits. If the queue was full the item is returned.

@@ -1,12 +1,12 @@
 //! A queue, once all its senders have ended.
 
 ghost use Rattle.std.specs.Prelude.{◌≡◌, ◌≤◌, ◌<◌, ◌++◌, ℕ, map, length, slice_index_or, true, All};
-ghost use Rattle.std.specs.List.{list_any};
+ghost use Rattle.std.specs.List.{AllByRecursion, list_any};
 ghost use Rattle.tb_rings.specs.Ends.{given};
 ghost use Rattle.tb_rings.specs.declared.Outlet.{Outlet as OutletValue};
 ghost use Rattle.tb_submit.specs.Ends.{EndedState, IntakeState, control_seat, end_origin, origins, queued_by, replies_of, seat_at};
 ghost use Rattle.tb_submit.specs.Inside.{entry_of};
-ghost use Rattle.tb_submit.specs.Lists.{AreWithin, IsCompleteQueue};
+ghost use Rattle.tb_submit.specs.Lists.{AreAheadOfClose, AreWithin, IsCompleteQueue};
 ghost use Rattle.tb_work.specs.Ahead.{items_from};
 ghost use Rattle.tb_work.specs.Queue.{IsQueueOf, is_end};
 ghost use Rattle.tb_work.specs.Packet.{ReplyValue};
@@ -22,7 +22,10 @@ use tb_work::Reply;
 fn settle_all(reader: &mut Reader, ends: Vec<Ended>, outlets: Vec<Outlet<Reply>>) -> Vec<Ended>
     requires { (intake : IntakeState) × (intake.queue ≡ reader.old.queue)
         × (map end_origin ends.items ≡ origins intake outlets.items) }
-    ensures reader { reader.new ≡ record reader.old { entries = reader.old.entries ++ map entry_of ends.items } }
+    ensures reader { reader.new ≡ record reader.old {
+      entries = reader.old.entries ++ map entry_of ends.items;
+      learned = reader.new.learned;
+    } }
     ensures filed { (k : ℕ) (d : EndedState) → k < length ends.items
         → IsCompleteQueue (slice_index_or ends.items k d).origin.seat.limit
         (slice_index_or ends.items k d).origin.seat.submitters
@@ -45,7 +48,8 @@ fn settle_all(reader: &mut Reader, ends: Vec<Ended>, outlets: Vec<Outlet<Reply>>
 }
 
 /// Establishes, once all senders have ended and the end of each was taken, that what was taken is the queue as they
-/// filled it. Each submitter's end sees all replies that it was given. Takes no memory, and waits for nobody.
+/// filled it. The tickets that the control had learned of are ahead of the Close. Each submitter's end sees all replies
+/// that it was given. Takes no memory, and waits for nobody.
 pub fn settle_queue(
     intake: Intake,
     ends: Vec<Ended>,
@@ -58,6 +62,7 @@ pub fn settle_queue(
     requires finished { (sender : ℕ) → sender ≤ intake.submitters → list_any is_end (items_from sender intake.taken) ≡ true }
     ensures queue { IsQueueOf intake.submitters intake.taken (queued_by ends.items control) }
     ensures within { AreWithin intake.limit intake.taken }
+    ensures ahead { AllByRecursion (AreAheadOfClose intake.taken) control.learned }
     ensures long { length result.items ≡ intake.submitters }
     ensures replies { (sender : ℕ) (d : OutletValue ReplyValue) → sender < intake.submitters
         → replies_of result.items sender ≡ given (slice_index_or outlets.items sender d) }

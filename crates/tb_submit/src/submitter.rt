@@ -1,17 +1,19 @@
 //! Submitters.
 
-ghost use Rattle.std.specs.Prelude.{◌≡◌, ◌<◌, ◌≤◌, [], ◌∷◌, ◌++◌, length, None, OnOk, IfOk, IfErr, IfSome, IfNone, IsSomeAnd};
+ghost use Rattle.std.specs.Prelude.{◌≡◌, ◌<◌, ◌≤◌, [], ◌∷◌, ◌++◌, length, Some, None, OnOk, IfOk, IfErr, IfSome, IfNone, IsSomeAnd};
 ghost use Rattle.tb_layout.specs.inside.Limits.{batch_max, capacity_max, queued_max};
 ghost use Rattle.tb_rings.specs.Ends.{inlet_ring, taken, lies};
 ghost use Rattle.tb_submit.specs.Ends.{ended_with, with_item, new_submitter};
 ghost use Rattle.tb_submit.specs.Lists.{ArePackets};
 ghost use Rattle.tb_submit.specs.Refusals as spec;
 ghost use Rattle.tb_submit.specs.Refusals.{IsSubmitRefusal, in_flight, submit_refusal};
+ghost use Rattle.tb_work.specs.Ahead.{items_from};
 ghost use Rattle.tb_work.specs.Job.{numbered_packet};
 ghost use Rattle.tb_work.specs.declared.item.Item.TheVariants as item;
 ghost use Rattle.tb_work.specs.declared.refusal.Refusal.TheVariants as refusal;
 
 use crate::ended::Ended;
+use crate::seen::Seen;
 use crate::sender::Sender;
 use std::alloc::Global;
 use std::marker::Model;
@@ -134,6 +136,16 @@ impl Submitter {
             Err(Item::Packet(job)) => Err((job.into_packet(), Refusal::Full)),
             Err(_) => unreachable!(),
         }
+    }
+
+    /// Returns the tickets that were queued up to its last packet, by any sender. Costs one atomic load and takes no
+    /// memory.
+    pub fn seen(&mut self) -> Seen
+        ensures same { self.new ≡ self.old }
+        ensures queue { self.old.origin.seat.queue ≡ Some result.queue }
+        ensures own { items_from self.old.origin.seat.number result.tickets ≡ self.old.queued }
+    {
+        self.sender.seen()
     }
 
     /// Returns the next reply; None if none is seen. It takes no memory and waits for nobody.

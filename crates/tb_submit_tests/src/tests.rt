@@ -1,5 +1,7 @@
 //! What no clause says: worked examples by name, each refusal once, senders in threads of their own.
 
+ghost use Rattle.std.specs.Prelude.{◌≡◌};
+
 use std::alloc::{AllocError, Global};
 use std::process::Abort;
 use std::sync::Wait;
@@ -7,6 +9,7 @@ use tb_submit::{Control, Ends, Intake, Submitter, open_queue};
 use tb_test_makers::{check, packet_of};
 use tb_work::{Answer, Failures, Item, Job, Outcome, Packet, Refusal, Reply, Ticket};
 
+mod ahead;
 mod calls;
 mod memory;
 mod openings;
@@ -54,7 +57,9 @@ fn submit(
     submitter: &mut Submitter,
     operation: u8,
     length: usize,
-) -> Result<u64, Refusal> {
+) -> Result<u64, Refusal>
+    ensures { submitter.new.origin ≡ submitter.old.origin }
+{
     check!(rt; submitter.queued() < 1 << 56);
     let packet = sevens(rt.alloc(), operation, length).expect(rt, "memory");
     match submitter.submit(rt, rt.alloc(), packet) {

@@ -8,7 +8,7 @@ use tb_test_makers::check;
 use tb_work::{Bytes, Item, Packet, Stub, Ticket};
 
 /// How often in all a thread gives way before it gives up.
-const MOST_TURNS: u64 = 100_000_000;
+pub(super) const MOST_TURNS: u64 = 100_000_000;
 
 fn empty_packet(alloc: Global, user: u64) -> Packet {
     Packet {
@@ -41,7 +41,7 @@ fn submit_one<R: Wait>(
 }
 
 /// Submits `count` packets and ends; whether all were queued.
-fn submit_all<R: Wait>(rt: &R, alloc: Global, submitter: Submitter, count: u64) -> bool {
+pub(super) fn submit_all<R: Wait>(rt: &R, alloc: Global, submitter: Submitter, count: u64) -> bool {
     let mut submitter = submitter;
     let mut turns = MOST_TURNS;
     for user in 0..count {
@@ -65,13 +65,21 @@ fn end_all<R: Wait>(rt: &R, submitter: Submitter, turns: u64) -> bool {
 /// What was taken so far: how many packets of each sender in a row, how many ends, and whether a
 /// packet came out of turn.
 #[derive(Drop)]
-struct Counts {
-    next: [u64; 17],
+pub(super) struct Counts {
+    pub(super) next: [u64; 17],
     ended: u32,
-    torn: bool,
+    pub(super) torn: bool,
 }
 
 impl Counts {
+    pub(super) fn new() -> Counts {
+        Counts {
+            next: [0; 17],
+            ended: 0,
+            torn: false,
+        }
+    }
+
     fn note_packet(&mut self, sender: u32, stub: Stub) {
         let place = sender as usize;
         if place >= 17 || stub.submitter != sender || stub.number != self.next[place] {
@@ -81,7 +89,7 @@ impl Counts {
         }
     }
 
-    fn note(&mut self, ticket: Ticket) {
+    pub(super) fn note(&mut self, ticket: Ticket) {
         let Ticket { sender, item } = ticket;
         match item {
             Item::Packet(job) => self.note_packet(sender, job.stub()),
@@ -94,11 +102,7 @@ impl Counts {
 
 /// Takes until this number of senders has ended.
 fn take_all<R: Wait>(rt: &R, intake: &mut Intake, senders: u32) -> Counts {
-    let mut counts = Counts {
-        next: [0; 17],
-        ended: 0,
-        torn: false,
-    };
+    let mut counts = Counts::new();
     for _ in 0..MOST_TURNS {
         if counts.ended == senders {
             break;

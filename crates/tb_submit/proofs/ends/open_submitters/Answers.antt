@@ -29,7 +29,7 @@ loop-number-preserved c =
       reader = reader_counted c.sender.new.self before (loop.number + 1)
           (queue.0 ∙ ap (λ (r : ReaderState). r.queue) was, queue.1 ∙ ap (λ (r : ReaderState). r.capacity) was)
           (same.0 ∙ ap (λ (r : ReaderState). r.entries) was) (same.1 ∙ ap (λ (r : ReaderState). r.taken) was)
-          (same.2 ∙ ap (λ (r : ReaderState). r.seen_empty) was)
+          (same.2 ∙ ap (λ (r : ReaderState). r.seen_empty) was) (same.3 ∙ ap (λ (r : ReaderState). r.learned) was)
           (c.in_ok-sender.ensures.count ∙ ap (λ (r : ReaderState). r.count + 1) was);
       opened = c.in_ok-push-2.ensures.items
           ∙ opened_more c.args.credit loop.number seats loop.outlets.items loop.opened.items outlet c.new.result

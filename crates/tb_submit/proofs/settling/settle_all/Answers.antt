@@ -36,12 +36,13 @@ origin_here intake xs ls os ms k x y is within x_is x_same y_is y_same =
     ∙ ap (λ (o : Outlet ReplyValue). record { seat = seat_at intake k; ring = outlet_ring o }) (sym (y_is ∙ y_same))
 
 reader_more : (old was new : ReaderState) (xs : List EndedState) (k : ℕ) (x : EndedState) → k < length xs
-    → x ≡ get_or xs k x → was ≡ record old { entries = old.entries ++ map entry_of (take k xs) } →
-    new ≡ record was { entries = was.entries ++ entry_of x ∷ [] }
-    → new ≡ record old { entries = old.entries ++ map entry_of (take (k + 1) xs) }
+    → x ≡ get_or xs k x →
+    was ≡ record old { entries = old.entries ++ map entry_of (take k xs); learned = was.learned } →
+    new ≡ record was { entries = was.entries ++ entry_of x ∷ []; learned = new.learned }
+    → new ≡ record old { entries = old.entries ++ map entry_of (take (k + 1) xs); learned = new.learned }
 reader_more old was new xs k x within same was_is new_is =
-    new_is ∙ ap (λ (r : ReaderState). record r { entries = r.entries ++ entry_of x ∷ [] }) was_is
-    ∙ ap (λ es. record old { entries = es })
+    new_is ∙ ap (λ (r : ReaderState). record r { entries = r.entries ++ entry_of x ∷ []; learned = new.learned }) was_is
+    ∙ ap (λ es. record old { entries = es; learned = new.learned })
     (append_assoc old.entries (map entry_of (take k xs)) (entry_of x ∷ [])
     ∙ ap (λ (e : EndedState). old.entries ++ (map entry_of (take k xs) ++ entry_of e ∷ [])) same
     ∙ ap (λ es. old.entries ++ es) (sym (ap (map entry_of) (take_more xs k x within)

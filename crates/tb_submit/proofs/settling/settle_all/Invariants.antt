@@ -9,7 +9,11 @@ use Rattle.tb_submit.proofs.settling.settle_all.Given as goal
 
 abbrev pub invariant-loop-k : goal.invariant-loop-k
 invariant-loop-k l = record {
-  reader : l.reader ≡ record l.fn.reader { entries = l.fn.reader.entries ++ map entry_of (take l.k l.fn.ends.items) };
+  reader : l.reader
+      ≡ record l.fn.reader {
+        entries = l.fn.reader.entries ++ map entry_of (take l.k l.fn.ends.items);
+        learned = l.reader.learned;
+      };
   long : length l.ends.items ≡ length l.fn.ends.items;
   outlets : length l.outlets.items ≡ length l.fn.outlets.items;
   rest : (j : ℕ) (d : EndedState) → l.k ≤ j → slice_index_or l.ends.items j d ≡ slice_index_or l.fn.ends.items j d;

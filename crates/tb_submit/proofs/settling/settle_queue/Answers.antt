@@ -5,26 +5,28 @@ use Rattle.tb_work.specs.declared.item.Ticket.{Ticket}
 use Rattle.tb_rings.specs.Ends.{given}
 use Rattle.tb_submit.specs.declared.rule.PassEntry.{PassEntry}
 use Rattle.tb_submit.specs.Ends.{EndedState, IntakeState, SenderState, replies_of, seat_at}
-use Rattle.tb_submit.specs.Inside.{ReaderState, entry_of}
+use Rattle.tb_submit.specs.Inside.{AreUnended, ReaderState, entry_of}
 use Rattle.tb_submit.specs.Lists.{IsCompleteQueue}
 use Rattle.tb_submit.specs.Rule.{IsWhole, entry}
-use Rattle.tb_submit.proofs.DrainedQueue.{AreSettled, settled_queue, settled_within}
+use Rattle.tb_submit.proofs.DrainedQueue.{AreSettled, settled_ahead, settled_queue, settled_within}
 use Rattle.tb_submit.proofs.OpenedSubmitters.{ends_long, seat_of_one}
 use Rattle.tb_submit.proofs.settling.settle_queue.Goals as goal
 
 -- what the reader learned once all had come to it
 gathered_whole : (first more next last : ReaderState) (xs : List EndedState) (e : PassEntry) (count : ℕ)
-    (items : List Ticket) → first.entries ≡ [] → first.count ≡ count →
-    more ≡ record first { entries = first.entries ++ map entry_of xs }
-    → next ≡ record more { entries = more.entries ++ e ∷ [] } → last ≡ next →
-    IsWhole last.entries last.taken last.count items → IsWhole (map entry_of xs ++ e ∷ []) first.taken count items
-gathered_whole first more next last xs e count items none count_is more_is next_is last_is whole =
-    let same : last ≡ record first { entries = map entry_of xs ++ e ∷ [] }
+    (learned : List (List Ticket)) (items : List Ticket) → first.entries ≡ [] → first.count ≡ count →
+    more ≡ record first { entries = first.entries ++ map entry_of xs; learned = more.learned }
+    → next ≡ record more { entries = more.entries ++ e ∷ []; learned = learned } → last ≡ next →
+    IsWhole last.entries last.taken last.count last.learned items
+    → IsWhole (map entry_of xs ++ e ∷ []) first.taken count learned items
+gathered_whole first more next last xs e count learned items none count_is more_is next_is last_is whole =
+    let same : last ≡ record first { entries = map entry_of xs ++ e ∷ []; learned = learned }
     =
-    last_is ∙ next_is ∙ ap (λ (r : ReaderState). record r { entries = r.entries ++ e ∷ [] }) more_is
-    ∙ ap (λ es. record first { entries = (es ++ map entry_of xs) ++ e ∷ [] }) none in
-    subst (λ n. IsWhole (map entry_of xs ++ e ∷ []) first.taken n items) count_is
-    (subst (λ (r : ReaderState). IsWhole r.entries r.taken r.count items) same whole)
+    last_is ∙ next_is
+    ∙ ap (λ (r : ReaderState). record r { entries = r.entries ++ e ∷ []; learned = learned }) more_is
+    ∙ ap (λ es. record first { entries = (es ++ map entry_of xs) ++ e ∷ []; learned = learned }) none in
+    subst (λ n. IsWhole (map entry_of xs ++ e ∷ []) first.taken n learned items) count_is
+    (subst (λ (r : ReaderState). IsWhole r.entries r.taken r.count r.learned items) same whole)
 
 replies_all : (F : ℕ → List ReplyValue → Type 0) (ends : List EndedState)
     → ((k : ℕ) (d : EndedState) → k < length ends → F k ((get_or ends k d).read ++ (get_or ends k d).lying)) →
@@ -49,7 +51,7 @@ settled c =
     let before = c.intake.inside in
     let last = c.control.inside.sender in
     let whole = gathered_whole before.reader c.settle_all-ends.new.reader c.gather.new.self c.learn.new.self xs
-    (entry last.seat.number last.queued) (before.submitters + 1) c.learn.ensures.whole.0
+    (entry last.seat.number last.queued) (before.submitters + 1) last.learned c.learn.ensures.whole.0
     c.intake.invariant.0 c.intake.invariant.1 c.settle_all-ends.ensures.reader c.gather.ensures.entries
     c.learn.ensures.same c.learn.ensures.whole.1 in
     record {
@@ -62,9 +64,11 @@ settled c =
       items = c.learn.ensures.whole.0;
       whole = subst (λ (i : IntakeState). IsWhole (map entry_of xs
           ++ entry c.args.control.seat.number c.args.control.queued ∷ []) i.taken
-          (i.submitters + 1) c.learn.ensures.whole.0) c.intake.view_is
+          (i.submitters + 1) c.args.control.learned c.learn.ensures.whole.0) c.intake.view_is
           (subst (λ (s : SenderState). IsWhole (map entry_of xs ++ entry s.seat.number s.queued ∷ [])
-          before.reader.taken (before.submitters + 1) c.learn.ensures.whole.0) c.control.view_is whole);
+          before.reader.taken (before.submitters + 1) s.learned c.learn.ensures.whole.0) c.control.view_is whole);
+      unended = subst (λ (s : SenderState). AreUnended s.seat.number s.learned) c.control.view_is
+          c.gather.ensures.unended;
       finished = c.requires.finished;
     }
 
@@ -73,6 +77,9 @@ returns-clause-queue c = settled_queue c.args.intake c.args.ends.items c.args.co
 
 pub returns-clause-within : goal.returns-clause-within
 returns-clause-within c = settled_within c.args.intake c.args.ends.items c.args.control (settled c)
+
+pub returns-clause-ahead : goal.returns-clause-ahead
+returns-clause-ahead c = settled_ahead c.args.intake c.args.ends.items c.args.control (settled c)
 
 pub returns-clause-long : goal.returns-clause-long
 returns-clause-long c = c.settle_all-ends.ensures.long ∙ (settled c).long

@@ -1,0 +1,9 @@
+use Rattle.std.proofs.Common.{◌≡◌}
+use Rattle.tb_submit_tests.specs.Queue.{AreOf}
+use Rattle.tb_submit_tests.proofs.tests.ahead.learn_all.Given as goal
+
+abbrev pub invariant-loop : goal.invariant-loop
+invariant-loop g l = record {
+  same : l.control.seat ≡ l.fn.control.seat;
+  left : AreOf l.fn.control l.left.items;
+}

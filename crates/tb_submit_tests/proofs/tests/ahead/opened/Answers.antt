@@ -1,0 +1,10 @@
+use Rattle.std.proofs.Common.{ap, sym}
+use Rattle.tb_submit.specs.Ends.{SenderState}
+use Rattle.tb_submit_tests.proofs.Submitters.{all_of_queue}
+use Rattle.tb_submit_tests.proofs.tests.ahead.opened.Goals as goal
+
+pub returns : goal.returns
+returns g c =
+    let ends = c.in-Ok.ends in
+    all_of_queue ends.intake ends.control 0 ends.outlets.items ends.submitters.items
+    (ap (λ (control : SenderState). control.seat.queue) (sym c.in-Ok.ensures.control)) c.in-Ok.ensures.own
