@@ -7,6 +7,8 @@ ghost use Rattle.tb_core.specs.Headline.{Headline};
 ghost use Rattle.tb_core.specs.Journal.{groups_since, inputs_since};
 ghost use Rattle.tb_core.specs.EndedRun.{IsPrefix};
 ghost use Rattle.tb_core.specs.Report.{LawfulReport};
+ghost use Rattle.std.specs.List.{AllByRecursion};
+ghost use Rattle.tb_submit.specs.Lists.{AreAheadOfClose};
 ghost use Rattle.tb_submit.specs.Ends.{EndedState, control_seat, end_origin, origins, seat_at};
 ghost use Rattle.tb_pipe.specs.Reported.{GoesFrom, IsReport};
 ghost use Rattle.tb_pipe.specs.Run.{IsServed};
@@ -43,6 +45,7 @@ fn settle_remains<L: AnyLedger>(
     ensures read { (k : ℕ) (d : EndedState) → (slice_index_or result.ends.items k d).read
         ≡ (slice_index_or ends.items k d).read }
     ensures settled { All (λ ended. ended.settled ≡ true) result.ends.items }
+    ensures ahead { AllByRecursion (AreAheadOfClose remains.intake.taken) control.learned }
     ensures seats { (k : ℕ) (d : EndedState) → k < length ends.items
         → (slice_index_or ends.items k d).origin.seat ≡ seat_at remains.intake k }
 {
@@ -83,6 +86,7 @@ pub fn settle_over<L: AnyLedger>(
     ensures read { (k : ℕ) (d : EndedState) → (slice_index_or result.ends.items k d).read
         ≡ (slice_index_or ends.items k d).read }
     ensures settled { All (λ ended. ended.settled ≡ true) result.ends.items }
+    ensures ahead { AllByRecursion (AreAheadOfClose served.intake.taken) control.learned }
     ensures seats { (k : ℕ) (d : EndedState) → k < length ends.items
         → (slice_index_or ends.items k d).origin.seat ≡ seat_at served.intake k }
 {
@@ -90,8 +94,8 @@ pub fn settle_over<L: AnyLedger>(
 }
 
 /// Returns the report on a run. `ends` are those of the submitters that were opened with the pipeline, by rising number,
-/// and `control` is the end of its control. Allocates nothing and doesn't wait. After it, `reply` on an end returns the
-/// unread replies in order, and then always `None`.
+/// and `control` is the end of its control. What it had learned of (`Control::learn`) is ahead of the Close. Allocates nothing
+/// and doesn't wait. After it, `reply` on an end returns the unread replies in order, and then always `None`.
 pub fn settle(served: Served, ends: Vec<Ended>, control: ControlEnd) -> Report
     requires ends { map end_origin ends.items ≡ served.submitters }
     requires control { control.seat ≡ control_seat served.intake }
@@ -107,6 +111,7 @@ pub fn settle(served: Served, ends: Vec<Ended>, control: ControlEnd) -> Report
     ensures read { (k : ℕ) (d : EndedState) → (slice_index_or result.ends.items k d).read
         ≡ (slice_index_or ends.items k d).read }
     ensures settled { All (λ ended. ended.settled ≡ true) result.ends.items }
+    ensures ahead { AllByRecursion (AreAheadOfClose served.intake.taken) control.learned }
     ensures seats { (k : ℕ) (d : EndedState) → k < length ends.items
         → (slice_index_or ends.items k d).origin.seat ≡ seat_at served.intake k }
 {
