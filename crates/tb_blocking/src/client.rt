@@ -1,10 +1,11 @@
 //! A submitter, or the control, in a thread of the application's own.
 
 ghost use Rattle.std.specs.Fn.{FnOnceReturnsAtMut};
-ghost use Rattle.std.specs.Prelude.{◌≡◌, ◌<◌, ◌≤◌, [], ◌∷◌, ◌++◌, List, length, None, Err, OnOk, IfOk, IfErr, IfSome, IfNone, IsSomeAnd};
+ghost use Rattle.std.specs.Prelude.{◌≡◌, ◌<◌, ◌≤◌, [], ◌∷◌, ◌++◌, List, length, None, Err, OnOk, IfOk, IfErr, IfSome, IfNone, IsSomeAnd, Some};
 ghost use Rattle.tb_layout.specs.inside.Limits.{moment_max, queued_max};
 ghost use Rattle.tb_submit.specs.Ends.{SenderState, SubmitterState, end_origin, ended_with, origin_of, sender_with, with_item};
 ghost use Rattle.tb_submit.specs.Refusals.{IsSubmitRefusal, in_flight, submit_refusal};
+ghost use Rattle.tb_work.specs.Ahead.{items_from};
 ghost use Rattle.tb_work.specs.Job.{numbered_packet};
 ghost use Rattle.tb_work.specs.declared.item.Item.{Item as ItemValue};
 ghost use Rattle.tb_work.specs.declared.item.Item.TheVariants as item;
@@ -19,7 +20,7 @@ use std::thread::{PromisedHandle, Scope};
 use tb_drive::{Stop, end_control};
 use tb_layout::QUEUED_MAX;
 use tb_rings::SpinWait;
-use tb_submit::{Control, ControlEnd, Ended, Submitter};
+use tb_submit::{Control, ControlEnd, Ended, Seen, Submitter};
 use tb_work::{Packet, Refusal, Reply};
 
 /// A submitter in a thread of the application's own. Its calls wait until they are done or the run is given up. A
@@ -138,6 +139,16 @@ impl<'s> Client<'s> {
         Ok(self.receive(rt))
     }
 
+    /// Returns the tickets that were queued up to its last packet, by any sender, as `Submitter::seen` does. What a control has
+    /// learned of before it shuts is committed, unless the pipeline stops (`ControlClient::learn`). Takes no memory.
+    pub fn seen(&mut self) -> Seen
+        ensures same { self.new ≡ self.old }
+        ensures queue { self.old.origin.seat.queue ≡ Some result.queue }
+        ensures own { items_from self.old.origin.seat.number result.tickets ≡ self.old.queued }
+    {
+        self.submitter.seen()
+    }
+
     /// Queues the submitter's end. While the queue is full it yields and tries again. Returns `None` if the run is
     /// given up and nobody serves. The end still returns the unread replies. Takes no memory.
     pub fn end<R: Wait>(self, rt: &R) -> Option<Ended>
@@ -245,6 +256,14 @@ impl<'s> ControlClient<'s> {
             backoff.snooze();
         }
         unreachable!()
+    }
+
+    /// Records that these tickets are queued, as `Control::learn` does: a Close that is queued later is behind them. Takes no memory.
+    pub fn learn(&mut self, seen: Seen)
+        requires { self.old.seat.queue ≡ Some seen.queue }
+        ensures { self.new ≡ record self.old { learned = self.old.learned ++ seen.tickets ∷ [] } }
+    {
+        self.control.learn(seen);
     }
 
     /// Queues the control's end, so that all that is queued is committed. While the queue is full it yields and tries
