@@ -40,8 +40,8 @@ AreTasksOf intake origins tasks =
     (map task_origin tasks.submitters ≡ origins) × (tasks.control.control.seat ≡ control_seat intake)
     × (length origins ≡ intake.submitters)
 
--- the run of a pipeline with this intake, and with these ledgers at its start and its end, which took the queue that its ghost
--- copy has; `control` says what the control queued
+-- The run of a pipeline from one ledger to another. It took the queue that its ghost copy has; `control` says what the control
+-- queued.
 abbrev pub run_in : {D C L : Type 0} → IntakeState → SenderState → LedgerState → LedgerState → Finished D C L → Run
 run_in intake control start ledger finished =
     run_of (record intake { taken = finished.served.value.intake.taken }) finished.unsettled.value.items control start

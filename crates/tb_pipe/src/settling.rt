@@ -19,9 +19,9 @@ use crate::stages::Remains;
 use tb_core::{AnyLedger, Ledger, headline, pulses_are_the_controls, run_is_lawful};
 use tb_submit::{ControlEnd, Ended, settle_queue};
 
-/// The result of all that was queued: the ledger with its machine, and with its journal where it keeps one in memory, and each
-/// submitter's end, in the order of their numbers, which still gives the replies that it hasn't read. Unless the ledger has
-/// stopped, another pipeline can go on with it (`Pipeline::with_ledger`, `Pipeline::over`).
+/// The result of all that was queued: the ledger, and each submitter's end, in the order of their numbers, which still gives the
+/// replies that it hasn't read. Unless the ledger has stopped, another pipeline can go on with it (`Pipeline::with_ledger`,
+/// `Pipeline::over`).
 #[derive(Drop)]
 pub struct Report<L = Ledger> {
     pub ledger: L,
