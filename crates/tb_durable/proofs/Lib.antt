@@ -5,3 +5,4 @@ mod FaultLemmas
 mod Applied
 mod Journals
 mod Recovered
+pub mod RunLemmas

@@ -2,3 +2,4 @@ pub mod Rows
 pub mod Durable
 pub mod Faults
 pub mod Recovery
+pub mod Runs

@@ -93,8 +93,9 @@ impl<S: Store + Drop> DurableLedger<S> {
     ghost use Rattle.tb_core.specs.declared.parcel.Parcel.TheVariants as parcel;
     ghost use Rattle.tb_core.specs.BareLedger.{Applies};
     ghost use Rattle.tb_core.specs.AnyLedger.{Applying, IsWithJournal};
-    ghost use Rattle.tb_core.specs.BareLedger.{after_refusal, refusal_of};
-    ghost use Rattle.tb_durable.specs.Durable.{IsJournal, IsStored, LeavesWith, groups_of_parcel, opened_rows, rows_of};
+    ghost use Rattle.tb_core.specs.BareLedger.{after_refusal, refusal_of, with_journal};
+    ghost use Rattle.tb_durable.specs.Durable.{IsJournal, IsStored, LeavesWith, groups_of, groups_of_parcel, opened_rows, rows_of};
+    ghost use Rattle.tb_durable.specs.Runs.{ShowsJournal};
     ghost use Rattle.tb_durable.specs.Faults.{IsCause};
     ghost use Rattle.tb_durable.specs.Recovery.{RecoversFromCrashes};
 
@@ -368,6 +369,15 @@ impl<S: Store + Drop> DurableLedger<S> {
             → IsClean (S.Store.view self.now.table.store) → self.now.bare.stopped ≡ false
             → (db : Trees) → S.Store.recovers self.now.table.store db
             → db 0 ≡ (S.Store.view self.now.table.store).committed 0 }
+    {}
+
+    /// Establishes which ledger a pipeline begins with over this one, unless it stopped: the one whose journal is in the rows. So what
+    /// `drive_over` says of each ledger that it may be, it says of that one.
+    pub fn shows_rows(&self)
+        ensures { IsStored (S.Store.view self.now.table.store) self.now.bare
+            → IsClean (S.Store.view self.now.table.store) → self.now.bare.stopped ≡ false
+            → ShowsJournal (S.Store.view self.now.table.store) self.now.bare (with_journal self.now.bare
+            (groups_of ((S.Store.view self.now.table.store).committed 0))) }
     {}
 
     /// Establishes that on whatever a crash leaves, opening finds a prefix of what was committed and being stored, with all

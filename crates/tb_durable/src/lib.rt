@@ -11,6 +11,7 @@
 mod counts;
 mod fault;
 mod file;
+mod laws;
 mod ledger;
 mod reading;
 mod replaying;
@@ -20,5 +21,6 @@ mod table;
 
 pub use fault::OpenFault;
 pub use file::{LedgerFile, open_file};
+pub use laws::runs_follow;
 pub use ledger::DurableLedger;
 pub use settings::Settings;

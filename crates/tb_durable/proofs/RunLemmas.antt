@@ -1,0 +1,46 @@
+-- What the rows of a store say of a ledger.
+use Rattle.std.proofs.Common.{◌≡◌, ◌∙◌, refl, ap, subst, sym, ℕ, List, [], ◌∷◌, false}
+use Rattle.std.specs.List.{flat_map}
+use Rattle.sqlite_value.specs.Order.{Row}
+use Rattle.sqlite_trees.specs.View.{View, IsClean}
+use Rattle.tb_core.specs.BareLedger.{BareLedgerState, with_journal, HasCommitted}
+use Rattle.tb_core.specs.Journal.{LedgerState}
+use Rattle.tb_durable.specs.Rows.{clock_in}
+use Rattle.tb_durable.specs.Durable.{IsJournal, IsStored, groups_of}
+use Rattle.tb_durable.specs.Runs.{RunsFollow, ShowsJournal}
+
+abbrev opening_of : List Row → ℕ
+opening_of [] = 0
+opening_of (first ∷ entries) = clock_in first
+
+journal_opening : (rows : List Row) (bare : BareLedgerState) → IsJournal rows bare → bare.opening ≡ opening_of rows
+journal_opening rows bare journal = journal.opened ∙ sym (ap opening_of journal.is)
+
+shown_opening : (view : View) (bare : BareLedgerState) (ledger : LedgerState) → ShowsJournal view bare ledger
+    → ledger.opening ≡ opening_of (view.committed 0)
+shown_opening view bare ledger shows =
+    ap (λ (l : LedgerState). l.opening) shows.kept.journal.same
+    ∙ journal_opening (view.committed 0) bare (shows.kept.stored shows.clean shows.goes_on).1
+
+pub runs_follow : RunsFollow
+runs_follow first second old new before after start ended began same from opens = record {
+  opening = opens ∙ shown_opening new after start began ∙ ap opening_of same
+      ∙ sym (shown_opening old before first.ledger ended);
+  before = from ∙ ap (flat_map (λ group. group)) (sym (began.kept.rows began.clean began.goes_on) ∙ ap groups_of same
+      ∙ ended.kept.rows ended.clean ended.goes_on);
+}
+
+-- a stored ledger is the one with the journal that its rows have
+pub shows_rows : (view : View) (bare : BareLedgerState) → IsStored view bare → IsClean view → bare.stopped ≡ false
+    → ShowsJournal view bare (with_journal bare (groups_of (view.committed 0)))
+shows_rows view bare stored clean goes_on =
+    let journal = (stored clean goes_on).1 in
+    record {
+      kept = record {
+        journal = record { same = refl; committed = subst (HasCommitted bare) (sym (ap groups_of journal.is)) journal.committed };
+        stored = stored;
+        rows = λ any goes. refl;
+      };
+      clean = clean;
+      goes_on = goes_on;
+    }
