@@ -155,6 +155,12 @@ typedef struct kip_reply_t {
     uint32_t reserved;
 } kip_reply_t;
 
+typedef struct kip_counts_t {
+    uint64_t accounts;
+    uint64_t transfers;
+    uint64_t failed_ids; /* ids of transfers that failed so that later transfers with them fail as id_already_failed */
+} kip_counts_t;
+
 KIP_STATIC_ASSERT(sizeof(void *) == 8 && sizeof(size_t) == 8, "64 bits");
 KIP_STATIC_ASSERT(offsetof(kip_t, is_open) == 8 && offsetof(kip_t, entered) == 16, "kip_t");
 KIP_STATIC_ASSERT(sizeof(kip_account) == 128 && offsetof(kip_account, user_data_64) == 96, "kip_account");
@@ -162,6 +168,7 @@ KIP_STATIC_ASSERT(offsetof(kip_account, ledger) == 112 && offsetof(kip_account, 
 KIP_STATIC_ASSERT(sizeof(kip_transfer) == 128 && offsetof(kip_transfer, amount) == 48, "kip_transfer");
 KIP_STATIC_ASSERT(offsetof(kip_transfer, flags) == 118 && offsetof(kip_transfer, timestamp) == 120, "kip_transfer");
 KIP_STATIC_ASSERT(sizeof(kip_failure) == 8 && offsetof(kip_failure, result) == 4, "kip_failure");
+KIP_STATIC_ASSERT(sizeof(kip_counts_t) == 24 && offsetof(kip_counts_t, failed_ids) == 16, "kip_counts_t");
 KIP_STATIC_ASSERT(sizeof(kip_reply_t) == 48 && offsetof(kip_reply_t, outcome) == 36, "kip_reply_t");
 
 /* Returns KIP_VERSION of the library. */
@@ -228,6 +235,10 @@ uint32_t kip_lookup_transfer(kip_t *kip, uint64_t id_low, uint64_t id_high, kip_
 /* Writes the transfer at an index in the order of making, from 0, and its KIP_PENDING_STATUS. Statuses: KIP_CLOSED,
  * KIP_NOT_FOUND. */
 uint32_t kip_transfer_at(kip_t *kip, size_t index, kip_transfer *transfer, uint32_t *pending_status);
+
+/* Writes how many accounts, transfers and failed ids are stored; packets that wait aren't in it. A failed id takes 36 bytes, and nothing
+ * limits these ids. A closed handle leaves the counts as they are. Statuses: KIP_CLOSED. */
+uint32_t kip_counts(kip_t *kip, kip_counts_t *counts);
 
 /* Writes the clock in nanoseconds. Statuses: KIP_CLOSED. */
 uint32_t kip_clock(kip_t *kip, uint64_t *nanoseconds);
@@ -324,6 +335,11 @@ static inline uint32_t kip_guarded_transfer_at(kip_t *kip, size_t index, kip_tra
     return kip_leave(kip, kip_transfer_at(kip, index, transfer, pending_status));
 }
 
+static inline uint32_t kip_guarded_counts(kip_t *kip, kip_counts_t *counts) {
+    if (!kip_enter(kip)) return KIP_BUSY;
+    return kip_leave(kip, kip_counts(kip, counts));
+}
+
 static inline uint32_t kip_guarded_clock(kip_t *kip, uint64_t *nanoseconds) {
     if (!kip_enter(kip)) return KIP_BUSY;
     return kip_leave(kip, kip_clock(kip, nanoseconds));
@@ -343,6 +359,7 @@ static inline uint32_t kip_guarded_clock(kip_t *kip, uint64_t *nanoseconds) {
 #define kip_account_at kip_guarded_account_at
 #define kip_lookup_transfer kip_guarded_lookup_transfer
 #define kip_transfer_at kip_guarded_transfer_at
+#define kip_counts kip_guarded_counts
 #define kip_clock kip_guarded_clock
 
 static inline uint32_t kip_submit(kip_t *kip, uint32_t submitter, uint8_t operation, const void *data, size_t data_size,

@@ -184,8 +184,10 @@ class StandIn(unittest.TestCase):
             client.create_accounts(PAIR)
             failing = [Transfer(id=7, amount=1, **ROUTE | {"credit_account_id": 9}), Transfer(id=8, amount=1, **ROUTE | {"code": 0})]
             self.assertEqual([it.result.keeps_id for it in client.create_transfers(failing)], [True, False])
+            self.assertEqual(client.counts(), kip.Counts(accounts=2, transfers=0, failed_ids=1))
             again = client.create_transfers([Transfer(id=7, amount=1, **ROUTE), Transfer(id=8, amount=1, **ROUTE)])
             self.assertEqual([(it.index, it.result) for it in again], [(0, CreateTransferResult.ID_ALREADY_FAILED)])
+            self.assertEqual(client.counts(), (2, 1, 1))
 
     def test_lookups(self):
         with ClientSync() as client:

@@ -44,6 +44,8 @@ static void keeps_ids(kip_t *kip) {
     failing[0].debit_account_id.low = 9;
     failing[1].credit_account_id.low = 9;
     failing[2].code = 0;
+    kip_counts_t before, counts;
+    assert(kip_counts(kip, &before) == KIP_OK && before.accounts == 2 && before.transfers == 6 && before.failed_ids == 0);
     for (int round = 0; round < 2; round++) {
         assert(kip_submit(kip, 0, KIP_OPERATION_CREATE_TRANSFERS, failing, sizeof failing, 0, &number) == KIP_OK);
         assert(kip_flush(kip) == KIP_OK && kip_reply(kip, &reply, failures, sizeof failures) == KIP_OK);
@@ -52,6 +54,7 @@ static void keeps_ids(kip_t *kip) {
             assert(failures[index].result == (round == 0 ? 21u + (unsigned)index : 68u));
             assert(kip_transfer_id_is_kept(failures[index].result) == (round == 0));
         }
+        assert(kip_counts(kip, &counts) == KIP_OK && counts.transfers == 6 && counts.failed_ids == 2);
     }
 }
 

@@ -25,6 +25,7 @@ import struct
 import threading
 import time
 import typing
+import typing
 
 from .results import CreateAccountResult, CreateTransferResult
 
@@ -233,6 +234,14 @@ class Reply:
         return self._results
 
 
+class Counts(typing.NamedTuple):
+    """How much a ledger stores."""
+
+    accounts: int
+    transfers: int
+    failed_ids: int
+
+
 def _number(value, bits):
     """Returns the value, which ctypes would cut to so many bits."""
     if not 0 <= value < 1 << bits:
@@ -259,6 +268,7 @@ def _load(path):
         "shut": [address], "flush": [address], "reply_bytes": [address, address, address, size], "stopped": [address],
         "lookup_account": [address, u64, u64, address], "account_at": [address, size, address], "transfer_at": [address, size, address, address],
         "lookup_transfer": [address, u64, u64, address, address], "clock": [address, address],
+        "counts": [address, address],
     }.items():
         call = getattr(library, f"kip_{name}")
         call.argtypes, call.restype = arguments, u32
@@ -457,6 +467,17 @@ class Ledger:
             if (transfer := self._found(status, buffer, _transfer)) is None:
                 return found
             found.append((transfer, PendingStatus(pending.value)))
+
+    @_locked
+    def counts(self):
+        """Returns how many accounts, transfers and failed ids are stored; packets that are held aren't in it.
+
+        A failed id is that of a transfer that failed so that later transfers with it fail as ID_ALREADY_FAILED. It takes 36 bytes, and
+        nothing limits these ids.
+        """
+        counts = (ctypes.c_uint64 * 3)()
+        self._must(self._library.kip_counts(self._at, counts))
+        return Counts(*counts)
 
     @_locked
     def clock(self):

@@ -28,6 +28,7 @@ use std::collections::VecDeque;
 use std::fmt;
 
 pub use ids::id;
+pub use raw::Counts;
 pub use records::{Account, AccountFlags, PendingStatus, Transfer, TransferFlags};
 pub use results::{CreateAccountResult, CreateTransferResult};
 
@@ -413,6 +414,14 @@ impl Ledger {
     /// Returns the transfers with these ids, in their order; ids without one are left out.
     pub fn lookup_transfers(&mut self, ids: &[u128]) -> Vec<Transfer> {
         ids.iter().filter_map(|id| self.lookup_transfer(*id)).collect()
+    }
+
+    /// Returns how many accounts, transfers and failed ids are stored; packets that are held aren't in it.
+    pub fn counts(&mut self) -> Counts {
+        let mut counts = Counts::default();
+        let status = unsafe { raw::kip_counts(&mut *self.handle, &mut counts) };
+        assert_eq!(status, 0);
+        counts
     }
 
     /// Returns the clock in nanoseconds.

@@ -31,6 +31,17 @@ pub(crate) struct Head {
     reserved: u32,
 }
 
+/// How much a ledger stores.
+#[repr(C)]
+#[derive(Clone, Copy, Debug, Default, PartialEq, Eq)]
+pub struct Counts {
+    pub accounts: u64,
+    pub transfers: u64,
+    /// The ids of transfers that failed so that later transfers with them fail as `IdAlreadyFailed`. Each takes 36 bytes, and nothing limits
+    /// them.
+    pub failed_ids: u64,
+}
+
 extern "C" {
     pub(crate) fn kip_version() -> u32;
     pub(crate) fn kip_open(kip: *mut Handle, clock: u64, limit: u32, submitters: u32) -> u32;
@@ -83,5 +94,6 @@ extern "C" {
         pending_status: *mut u32,
     ) -> u32;
     pub(crate) fn kip_stopped(kip: *mut Handle) -> u32;
+    pub(crate) fn kip_counts(kip: *mut Handle, counts: *mut Counts) -> u32;
     pub(crate) fn kip_clock(kip: *mut Handle, nanoseconds: *mut u64) -> u32;
 }

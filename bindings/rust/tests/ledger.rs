@@ -1,5 +1,5 @@
 use kip::{
-    failures, Account, AccountFlags, CreateAccountResult, CreateTransferResult, Error, Ledger, NotCommitted, Outcome,
+    failures, Account, AccountFlags, Counts, CreateAccountResult, CreateTransferResult, Error, Ledger, NotCommitted, Outcome,
     PendingStatus, Refusal, Transfer, TransferFlags, CREATE_ACCOUNTS, CREATE_TRANSFERS,
 };
 
@@ -109,10 +109,12 @@ fn ids_are_kept_by_result() -> Result<(), Error> {
     assert_eq!(results.len(), failing.len());
     let kept: Vec<u128> = results.iter().filter(|it| it.result.keeps_id()).map(|it| failing[it.index as usize].id).collect();
     assert_eq!(kept, [10, 11, 12, 13]);
+    assert_eq!(ledger.counts(), Counts { accounts: 3, transfers: 0, failed_ids: kept.len() as u64 });
     let again: Vec<Transfer> = failing.iter().map(|it| transfer(it.id, 1, 2)).collect();
     let refused = ledger.create_transfers(&again)?;
     assert!(refused.iter().all(|it| it.result == CreateTransferResult::IdAlreadyFailed));
     assert_eq!(refused.iter().map(|it| again[it.index as usize].id).collect::<Vec<_>>(), kept);
+    assert_eq!(ledger.counts(), Counts { accounts: 3, transfers: 2, failed_ids: kept.len() as u64 });
     Ok(())
 }
 

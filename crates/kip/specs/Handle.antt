@@ -14,6 +14,7 @@ use Rattle.tb_work.specs.declared.refusal.Refusal.{Refusal}
 use Rattle.tb_work.specs.declared.refusal.Refusal.TheVariants.{MomentTooLarge, Stopped}
 use Rattle.tb_core.specs.Front.{opening_refusal}
 use Rattle.tb_embed.specs.Engine.{EngineState, Reads, IsRefusal, has_stopped, state_of}
+use Rattle.kip.specs.declared.counts.KipCounts.{KipCounts}
 use Rattle.kip.specs.declared.reading.KipReply.{KipReply}
 use Rattle.kip.specs.Results.{AreWritten, IsHeadOf, result_bytes, result_size}
 
@@ -137,3 +138,14 @@ IsTransferIn found status before after None = (status ≡ 100) × (after ≡ bef
 abbrev pub IsClockOf : ℕ → ℕ → ℕ → Option EngineState → Type 0
 IsClockOf status before after (Some engine) = (status ≡ 0) × (after ≡ (state_of engine).clock)
 IsClockOf status before after None = (status ≡ 100) × (after ≡ before)
+
+-- 0 with how much is stored
+abbrev pub IsCountsOf : ℕ → KipCounts → KipCounts → Option EngineState → Type 0
+IsCountsOf status before after (Some engine) =
+    let facts = (state_of engine).facts in
+    (status ≡ 0) × (after ≡ record {
+      accounts = length facts.accounts;
+      transfers = length facts.transfers;
+      failed_ids = length facts.failed;
+    })
+IsCountsOf status before after None = (status ≡ 100) × (after ≡ before)

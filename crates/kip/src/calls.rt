@@ -9,8 +9,9 @@ ghost use Rattle.tb_work.specs.declared.item.Item.TheVariants as item;
 ghost use Rattle.tb_work.specs.declared.refusal.Refusal.TheVariants.{NoMemory as NoMemoryRefusal};
 ghost use Rattle.tb_embed.specs.Engine.{EngineState, IsOpened, Queues, Continues, IsRefusal, packet_with, submit_refusal, pulse_refusal, shut_refusal, state_of};
 ghost use Rattle.tb_embed.specs.Queued.{packet_ticket, ticket_of};
-ghost use Rattle.kip.specs.Handle.{Moves, IsOpen, IsStatus, IsStatusOf, IsOpeningStatus, IsClosingStatus, IsPeek, IsReading, IsReadingOf, IsAccount, IsAccountIn, IsTransfer, IsTransferIn, IsClockOf, id_of, open_refusal, pending_number, stopped_status};
+ghost use Rattle.kip.specs.Handle.{Moves, IsOpen, IsStatus, IsStatusOf, IsOpeningStatus, IsClosingStatus, IsPeek, IsReading, IsReadingOf, IsAccount, IsAccountIn, IsTransfer, IsTransferIn, IsClockOf, IsCountsOf, id_of, open_refusal, pending_number, stopped_status};
 
+use crate::counts::KipCounts;
 use crate::handle::Kip;
 use crate::reading::{KipReply, head_of, put_results};
 use std::alloc::{AllocError, Global};
@@ -522,6 +523,25 @@ pub extern "C" fn kip_stopped(alloc: Global, kip: &mut Kip) -> u32
     } else {
         0
     }
+}
+
+/// Writes how much is stored.
+#[unsafe(no_mangle)]
+pub extern "C" fn kip_counts(alloc: Global, kip: &mut Kip, counts: &mut KipCounts) -> u32
+    ensures counts { IsCountsOf result counts.old counts.new kip.old.held.engine }
+    ensures same { kip.new.held.engine ≡ kip.old.held.engine }
+{
+    let Some(engine) = kip.take(alloc) else {
+        return CLOSED;
+    };
+    let stored = engine.counts();
+    *counts = KipCounts {
+        accounts: stored.accounts as u64,
+        transfers: stored.transfers as u64,
+        failed_ids: stored.failed_ids as u64,
+    };
+    kip.put(engine);
+    0
 }
 
 /// Writes the clock in nanoseconds.

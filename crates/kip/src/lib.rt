@@ -6,6 +6,7 @@
 #![tactic(auto)]
 
 mod calls;
+mod counts;
 mod handle;
 mod held;
 mod loose;

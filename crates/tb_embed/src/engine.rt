@@ -4,6 +4,7 @@ ghost use Rattle.std.specs.Prelude.{◌≡◌, ◌<◌, ◌≤◌, ◌+◌, ◌+
 ghost use Rattle.std.specs.Option.{option_copied};
 ghost use Rattle.std.specs.List.{flat_map};
 ghost use Rattle.tb_layout.specs.Limits.{clock_max};
+ghost use Rattle.tb_tables.specs.Counts.{counts_of};
 ghost use Rattle.tb_tables.specs.Facts.{transfer_with};
 ghost use Rattle.tb_tables.specs.Balances.{balanced_account};
 ghost use Rattle.tb_tables.specs.inside.Status.{status_if_pending, status_with};
@@ -30,7 +31,7 @@ use tb_core::{BareLedger, Front, Parcel, Seed};
 use tb_layout::{
     Account, CREATE_ACCOUNTS, CREATE_TRANSFERS, LOOKUP_ACCOUNTS, MOMENT_MAX, Transfer,
 };
-use tb_tables::Status;
+use tb_tables::{Counts, Status};
 use tb_work::{Item, Job, Moment, Packet, Refusal, Reply, Ticket};
 
 /// How many accounts and transfers the events that are held create at most.
@@ -536,6 +537,14 @@ impl Engine {
             (slice_get (state_of self.now).facts.transfers index) }
     {
         self.ledger.machine().status_at(index)
+    }
+
+    /// Returns how many accounts and transfers are stored, and how many ids of transfers that failed so that their ids are refused later.
+    /// Nothing limits these ids.
+    pub fn counts(&self) -> Counts
+        ensures { result ≡ counts_of (state_of self.now).facts }
+    {
+        self.ledger.machine().counts()
     }
 
     /// Returns whether the engine stopped: memory ran out as a batch was committed, and nothing more is committed.

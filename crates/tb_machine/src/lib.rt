@@ -25,4 +25,4 @@ mod transfer_verdict;
 
 pub use joining::joining_is_invisible;
 pub use machine::Machine;
-pub use tb_tables::Seed;
+pub use tb_tables::{Counts, Seed};

@@ -2,6 +2,7 @@
 
 ghost use Rattle.std.specs.Prelude.{◌≡◌, ◌==◌, ◌||◌, ◌/◌, ◌%◌, ◌≤◌, [], true, length, map, slice_get, vec_capacity, OnOk, OnErr};
 ghost use Rattle.tb_layout.specs.Events.{events_of, ids_of, chunks, create_accounts, create_transfers};
+ghost use Rattle.tb_tables.specs.Counts.{counts_of};
 ghost use Rattle.tb_tables.specs.Facts.{transfer_with};
 ghost use Rattle.tb_tables.specs.inside.Status.{status_if_pending, status_with};
 ghost use Rattle.tb_tables.specs.Balances.{balanced_account};
@@ -16,7 +17,7 @@ use crate::lookup::look_up;
 use std::alloc::Global;
 use std::marker::Model;
 use tb_layout::{Account, CREATE_ACCOUNTS, Failure, NoMemory, Transfer};
-use tb_tables::{Seed, Status, Tables};
+use tb_tables::{Counts, Seed, Status, Tables};
 
 /// The state machine: the facts of a ledger, and the clock, in nanoseconds.
 pub struct Machine {
@@ -198,6 +199,13 @@ impl Machine {
         ensures { result ≡ length self.now.facts.accounts }
     {
         self.tables.accounts()
+    }
+
+    /// Returns how much is stored.
+    pub fn counts(&self) -> Counts
+        ensures { result ≡ counts_of self.now.facts }
+    {
+        self.tables.counts()
     }
 
     /// Returns the transfer with this id; a post or a void with its resolved fields.

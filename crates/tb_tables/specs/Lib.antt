@@ -1,4 +1,5 @@
 pub mod Facts
+pub mod Counts
 pub mod Columns
 pub mod Status
 pub mod Balances

@@ -23,6 +23,7 @@ mod amounts;
 mod balance;
 mod by_id;
 mod change;
+mod counts;
 mod entries;
 mod expiries;
 mod hashing;
@@ -39,6 +40,7 @@ mod tables;
 mod timeouts;
 mod transfers;
 
+pub use counts::Counts;
 pub use hashing::Seed;
 pub use mark::Mark;
 pub use status::Status;

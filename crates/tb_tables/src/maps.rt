@@ -6,6 +6,7 @@ ghost use Rattle.std.specs.Option.{option_map};
 
 use crate::by_id::{ById, Ids};
 use crate::change::Change;
+use crate::counts::Counts;
 use crate::entries::{index_of, pop_account, pop_failed, push_account, push_failed};
 use crate::expiries::Expiries;
 use crate::hashing::{IdHasher, Seed};
@@ -40,6 +41,7 @@ impl Model for Maps {
 }
 
 impl Maps {
+    ghost use Rattle.tb_tables.specs.Counts.{counts_of};
     ghost use Rattle.tb_tables.specs.Facts.{no_facts, account_with, transfer_with, is_failed, add_account as with_account, add_transfer as with_transfer, add_failed as with_failed};
     ghost use Rattle.tb_tables.specs.inside.Indices.{IsIndexOf, IsIndexOfTransfer};
     ghost use Rattle.tb_layout.specs.Transfer.{is_pending};
@@ -229,6 +231,17 @@ impl Maps {
         ensures { result ≡ length self.now.facts.accounts }
     {
         self.accounts.len()
+    }
+
+    /// Returns how much is stored.
+    pub(crate) fn counts(&self) -> Counts
+        ensures { result ≡ counts_of self.now.facts }
+    {
+        Counts {
+            accounts: self.accounts.len(),
+            transfers: self.transfers.len(),
+            failed_ids: self.failed.len(),
+        }
     }
 
     /// Returns the transfer with this id.

@@ -4,6 +4,7 @@ ghost use Rattle.std.specs.Prelude.{◌≡◌, ◌≢◌, ◌<◌, ◌≤◌, �
 ghost use Rattle.std.specs.Option.{option_map};
 
 use crate::change::Change;
+use crate::counts::Counts;
 use crate::hashing::Seed;
 use crate::indices::Indices;
 use crate::maps::Maps;
@@ -42,6 +43,7 @@ impl Model for Tables {
 }
 
 impl Tables {
+    ghost use Rattle.tb_tables.specs.Counts.{counts_of};
     ghost use Rattle.tb_tables.specs.Facts.{no_facts, account_with, transfer_with, is_failed, add_account as with_account, add_transfer as with_transfer, add_failed as with_failed};
     ghost use Rattle.tb_tables.specs.inside.Indices.{IsIndexOf, IsIndexOfTransfer};
     ghost use Rattle.tb_layout.specs.Transfer.{is_pending};
@@ -241,6 +243,13 @@ impl Tables {
         ensures { result ≡ length self.now.now.accounts }
     {
         self.maps.accounts()
+    }
+
+    /// Returns how much is stored.
+    pub fn counts(&self) -> Counts
+        ensures { result ≡ counts_of self.now.now }
+    {
+        self.maps.counts()
     }
 
     /// Returns the transfer with this id; a post or a void with its resolved fields.
