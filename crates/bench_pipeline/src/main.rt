@@ -104,8 +104,17 @@ fn line_of_run(
 
 /// Returns the line that a request prints.
 fn line_of<R: Threads + Wait + Sync>(rt: &R, alloc: Global, request: Request) -> Option<String> {
-    let Finished { report, drivers, .. } = run(rt, alloc, request, Ledger::new(alloc, 0))?;
-    line_of_run(alloc, drivers, report.ledger.machine(), request.opening.submitters)
+    let Finished {
+        report,
+        drivers,
+        ..
+    } = run(rt, alloc, request, Ledger::new(alloc, 0))?;
+    line_of_run(
+        alloc,
+        drivers,
+        report.ledger.machine(),
+        request.opening.submitters,
+    )
 }
 
 /// Returns the line that a request prints if its ledger keeps no journal.
@@ -115,8 +124,17 @@ fn line_of_bare<R: Threads + Wait + Sync>(
     request: Request,
 ) -> Option<String> {
     let ledger = BareLedger::with_seed(alloc, 0, Seed::default());
-    let Finished { report, drivers, .. } = run(rt, alloc, request, ledger)?;
-    line_of_run(alloc, drivers, report.ledger.machine(), request.opening.submitters)
+    let Finished {
+        report,
+        drivers,
+        ..
+    } = run(rt, alloc, request, ledger)?;
+    line_of_run(
+        alloc,
+        drivers,
+        report.ledger.machine(),
+        request.opening.submitters,
+    )
 }
 
 /// Returns the submitters of a live run, by rising number.

@@ -114,10 +114,7 @@ fn run<R: Threads + Wait + Sync, S: Store + Drop + Send>(
     let Ok(finished) = drive_over(rt, alloc, opened, tills, control) else {
         return None;
     };
-    let Finished {
-        report,
-        ..
-    } = finished;
+    let Finished { report, .. } = finished;
     let Report { ledger, .. } = report;
     Some(ledger)
 }

@@ -135,7 +135,9 @@ impl Driver for Till {
             Some((place, 0)) => {
                 println!(self.rt; "till {till}: packet {packet} is committed at place {place}")
             }
-            Some((place, _)) => println!(self.rt; "till {till}: packet {packet} failed at place {place}"),
+            Some((place, _)) => println!(self.rt;
+                "till {till}: packet {packet} failed at place {place}"
+            ),
             None => {
                 self.stopped = true;
                 println!(self.rt; "till {till}: packet {packet} is not committed")

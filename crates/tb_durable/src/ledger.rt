@@ -275,13 +275,17 @@ impl<S: Store + Drop> DurableLedger<S> {
         ensures clean { doubt (S.Store.view self.old.table.store).is_clean
             ≤ doubt (S.Store.view self.new.table.store).is_clean }
     {
-        if self.bare.stopped() || batch.jobs().len() as u64 > PLACES_MAX.saturating_sub(self.bare.places()) {
+        if self.bare.stopped()
+            || batch.jobs().len() as u64 > PLACES_MAX.saturating_sub(self.bare.places())
+        {
             return self.bare.apply_as_refused(Parcel::Batch(batch));
         }
         let parts = batch.into_parts();
         let mut counts = self.counts;
         let Some(()) = counts.count_all(&parts.stubs) else {
-            return self.bare.apply_as_refused(Parcel::Batch(Batch::whole(parts)));
+            return self
+                .bare
+                .apply_as_refused(Parcel::Batch(Batch::whole(parts)));
         };
         match store_batch(&mut self.table, &mut self.bare, &parts) {
             Ok(()) => {

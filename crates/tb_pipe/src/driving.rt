@@ -19,10 +19,10 @@ use std::snapshot::Snapshot;
 use std::sync::Wait;
 use std::thread;
 use std::thread::{Scope, Threads};
+use tb_core::{AnyLedger, Ledger};
 use tb_drive::{
     ControlDriver, ControlResult, DriveFault, Driver, Joined, Stop, Tasks, submit_once,
 };
-use tb_core::{AnyLedger, Ledger};
 use tb_submit::Ended;
 use tb_work::{Packet, Refusal};
 

@@ -35,7 +35,10 @@ impl<L: AnyLedger> Opened<L> {
     /// all else is spent.
     pub fn over<M: AnyLedger>(self, ledger: M) -> Result<Opened<M>, M>
         ensures pipeline { IfOk result (λ opened. opened.pipeline ≡ record {
-          start = ledger; intake = self.pipeline.intake; submitters = self.pipeline.submitters }) }
+          start = ledger;
+          intake = self.pipeline.intake;
+          submitters = self.pipeline.submitters;
+        }) }
         ensures ends { IfOk result (λ opened. (opened.submitters ≡ self.submitters) × (opened.control ≡ self.control)) }
         ensures together { AreTogether self.pipeline self.submitters.items self.control
             → IfOk result (λ opened. AreTogether opened.pipeline opened.submitters.items opened.control) }
