@@ -1,4 +1,5 @@
--- The queue's rule: what was taken followed by what is queued has, as each sender's part, exactly what its pass pushed.
+-- The queue's rule: what was taken followed by what is queued has, as each sender's part, exactly what its pass pushed. It
+-- begins with each list of tickets that a pass has.
 use Rattle.std.specs.Prelude.{◌≡◌, ℕ, ◌+◌, ◌<◌, ◌≤◌, ◌⊎◌, List, [], ◌∷◌, ◌++◌, length, Option, Some, None, ⊤}
 use Rattle.std.specs.List.{AllByRecursion}
 use mathlib.Core.Option.{some}
@@ -78,6 +79,7 @@ abbrev pub first_pushed : List PassEntry → List Item
 first_pushed [] = []
 first_pushed (e ∷ entries) = e.pushed
 
+-- the history is all tickets up to this one, of which the sender's part is what its pass pushed
 abbrev pub HasPushed : View → Ticket → View → Type 0
 HasPushed view ticket next =
     (history : List Ticket) × (next ≡ with_pushed view ticket history)

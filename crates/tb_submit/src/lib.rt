@@ -9,7 +9,8 @@
 //! - `settle_queue` establishes, once all senders have ended, that the taken tickets are the queue as its senders filled it.
 //!
 //! The queue is the kit's ruled queue. Its rule (`specs/Rule.antt`) keeps that the taken and queued tickets contain, as each
-//! sender's part, exactly what that sender pushed, so no thread has to trust another.
+//! sender's part, exactly what that sender pushed, so no thread has to trust another. They begin with what was queued up to
+//! any sender's last push.
 //!
 //! `credit_of_three` in tb_pipe_tests is an example that the gate compiles.
 #![tactic(auto)]

@@ -1,5 +1,6 @@
 //! The queue's rule: what was taken followed by what is queued has, as each sender's part, exactly what its pass
-//! pushed. Only proofs see what passes know: no value of these types is made.
+//! pushed. It begins with each list of tickets that a pass has. Only proofs see what passes know: no value of these
+//! types is made.
 
 use crossbeam_queue::protocol::{Join, Lesson, Outcome, Protocol, Split};
 use crossbeam_queue::{Pass, RuledArrayQueue};

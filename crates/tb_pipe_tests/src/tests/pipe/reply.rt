@@ -1,7 +1,7 @@
 //! From opening to the content of a reply.
 
 ghost use Rattle.std.specs.Prelude.{◌≡◌, ◌∷◌, []};
-ghost use Rattle.tb_submit.specs.Ends.{end_origin, ended_with, control_seat, sender_with, with_item};
+ghost use Rattle.tb_submit.specs.Ends.{end_origin, ended_with, new_control, sender_with, with_item};
 ghost use Rattle.tb_work.specs.Job.{numbered_packet};
 ghost use Rattle.tb_work.specs.declared.item.Item.TheVariants as item;
 ghost use Rattle.tb_work.specs.declared.packet.Packet.{Packet as PacketValue};
@@ -61,7 +61,7 @@ fn end_alone<R: Wait + Abort>(rt: &R, control: Control) -> ControlEnd
 /// Returns a pipeline of one submitter, with a packet queued.
 fn queue_one<R: Wait + Abort>(rt: &R, alloc: Global, packet: Packet) -> Queued
     ensures own { end_origin result.ended ∷ [] ≡ result.pipeline.submitters }
-    ensures control { result.control ≡ record { seat = control_seat result.pipeline.intake; queued = item.End ∷ [] } }
+    ensures control { result.control ≡ sender_with (new_control result.pipeline.intake) item.End }
     ensures opened { (result.pipeline.start ≡ new_ledger 0) × (result.pipeline.intake.submitters ≡ 1) }
     ensures queued { (result.ended.queued ≡ one_and_end packet) × (result.ended.read ≡ []) }
 {
@@ -92,7 +92,7 @@ fn only_end(rt: &impl Abort, alloc: Global, ended: Ended) -> Vec<Ended>
 /// Serves it, and settles.
 fn settle_one<R: Threads + Wait + Sync + Abort>(rt: &R, alloc: Global, queued: Queued) -> Report
     requires own { end_origin queued.ended ∷ [] ≡ queued.pipeline.submitters }
-    requires control { queued.control ≡ record { seat = control_seat queued.pipeline.intake; queued = item.End ∷ [] } }
+    requires control { queued.control ≡ sender_with (new_control queued.pipeline.intake) item.End }
     requires opened { (queued.pipeline.start ≡ new_ledger 0) × (queued.pipeline.intake.submitters ≡ 1) }
     ensures { (packet : PacketValue) → queued.ended.queued ≡ one_and_end packet → queued.ended.read ≡ []
         → IsRunOfOne 0 packet result.ledger result.ends.items }
