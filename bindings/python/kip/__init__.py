@@ -25,7 +25,6 @@ import struct
 import threading
 import time
 import typing
-import typing
 
 from .results import CreateAccountResult, CreateTransferResult
 

@@ -12,7 +12,8 @@
 //! The journal is in the file alone. So the memory of a run grows by the accounts and transfers that are stored, however long it runs.
 //!
 //! The status is 0 if all was committed, 1 for other arguments, and 2 if the ledger can't be opened, it stopped, or memory, a thread or
-//! the output failed. Then a line says why.
+//! the output failed. Then standard error has a line that says why. If a ledger stops, its last batch may be in the file though its
+//! replies say stopped; the next run tells.
 #![tactic(auto)]
 
 ghost use Rattle.std.specs.Prelude.{◌≡◌, IfSome, length};
@@ -53,14 +54,16 @@ fn asked(rt: &HostRuntime) -> Option<(String, u64)> {
         Some(word) => word.as_str().parse().ok(),
         None => Some(u64::MAX),
     };
-    let Some(packets) = packets else {
-        drop(path);
-        return None;
-    };
-    Some((path, packets))
+    match (packets, words.next()) {
+        (Some(packets), None) => Some((path, packets)),
+        _ => {
+            drop(path);
+            None
+        }
+    }
 }
 
-/// Opens the ledger in a file. None if it can't be opened, after a line that says why.
+/// Opens the ledger in a file. None if it can't be opened or isn't a service's, after a line that says why.
 fn open_ledger(rt: &HostRuntime, path: &str) -> Option<FileLedger> {
     let opened = match open_file(rt, path) {
         Ok(store) => match DurableLedger::over(rt.alloc(), store, SETTINGS, Seed::default()) {
@@ -73,9 +76,14 @@ fn open_ledger(rt: &HostRuntime, path: &str) -> Option<FileLedger> {
         Err(fault) => Err(fault),
     };
     match opened {
-        Ok(ledger) => Some(ledger),
+        Ok(ledger) if ledger.settings() == SETTINGS => Some(ledger),
+        Ok(ledger) => {
+            drop(ledger);
+            let _ = eprintln!(rt; "the file has the ledger of another program");
+            None
+        }
         Err(fault) => {
-            let _ = println!(rt; "the ledger can't be opened: {fault}");
+            let _ = eprintln!(rt; "the ledger can't be opened: {fault}");
             None
         }
     }
@@ -94,14 +102,14 @@ fn tills(rt: &HostRuntime, stored: [u64; 16], packets: u64) -> Option<Vec<Till>>
     .ok()
 }
 
-/// Runs a pipeline over a ledger until all tills have ended, and returns the ledger. None if memory ran out before the run, or a thread
-/// couldn't be started: what was committed is in the file.
+/// Runs a pipeline over a ledger until all tills have ended. Returns the ledger, and whether no till gave up. None if memory ran out
+/// before the run, or a thread couldn't be started: what was committed is in the file.
 fn run<R: Threads + Wait + Sync, S: Store + Drop + Send>(
     rt: &R,
     alloc: Global,
     ledger: DurableLedger<S>,
     tills: Vec<Till>,
-) -> Option<DurableLedger<S>>
+) -> Option<(DurableLedger<S>, bool)>
     requires { length tills.items ≡ 4 }
 {
     let Ok(opened) = open(alloc, 0, BATCH_MAX, 64, 16, TILLS) else {
@@ -114,9 +122,31 @@ fn run<R: Threads + Wait + Sync, S: Store + Drop + Send>(
     let Ok(finished) = drive_over(rt, alloc, opened, tills, control) else {
         return None;
     };
-    let Finished { report, .. } = finished;
+    let Finished {
+        report,
+        drivers,
+        ..
+    } = finished;
     let Report { ledger, .. } = report;
-    Some(ledger)
+    let complete = drivers.iter().all(|till| !till.gave_up);
+    Some((ledger, complete))
+}
+
+/// Says what stopped a ledger, if anything did. Returns whether nothing did.
+fn went_on(rt: &HostRuntime, ledger: &FileLedger) -> bool {
+    if !ledger.stopped() {
+        return true;
+    }
+    let _ = match ledger.fault() {
+        Some(fault) => eprintln!(rt; "the ledger stopped: {fault}"),
+        None => eprintln!(rt;
+            "the ledger stopped: it has no place left, or a packet came out of turn"
+        ),
+    };
+    if ledger.in_doubt() {
+        let _ = eprintln!(rt; "its last batch may be committed: the next run tells");
+    }
+    false
 }
 
 /// Prints what each till has paid in all.
@@ -131,7 +161,7 @@ fn print_tills(rt: &HostRuntime, ledger: &FileLedger) {
 
 fn main(rt: HostRuntime) -> ExitCode {
     let Some((path, packets)) = asked(&rt) else {
-        let _ = println!(rt; "usage: example_service FILE [PACKETS]");
+        let _ = eprintln!(rt; "usage: example_service FILE [PACKETS]");
         return ExitCode::from(1);
     };
     let Some(ledger) = open_ledger(&rt, path.as_str()) else {
@@ -146,13 +176,16 @@ fn main(rt: HostRuntime) -> ExitCode {
             None
         }
     };
-    let Some(ledger) = ran else {
-        let _ = println!(rt; "memory or a thread failed");
+    let Some((ledger, complete)) = ran else {
+        let _ = eprintln!(rt; "memory or a thread failed");
         return ExitCode::from(2);
     };
-    if let Some(fault) = ledger.fault() {
-        let _ = println!(rt; "the ledger stopped: {fault}");
+    if !complete {
+        let _ = eprintln!(rt;
+            "a till gave up: memory or the output failed, or a packet was refused"
+        );
     }
     print_tills(&rt, &ledger);
-    ExitCode::from(if ledger.stopped() { 2 } else { 0 })
+    let went_on = went_on(&rt, &ledger);
+    ExitCode::from(if went_on && complete { 0 } else { 2 })
 }

@@ -20,8 +20,10 @@ pub(crate) struct Till {
     left: u64,
     /// The number of the packet whose reply it reads next.
     answered: u64,
-    /// Whether it gives up: an allocation failed, or the pipeline is shut or stopped.
+    /// Whether it queues nothing more: it gave up, or the ledger stopped.
     stopped: bool,
+    /// Whether it gave up: an allocation failed, a packet was refused, or a line couldn't be written.
+    pub(crate) gave_up: bool,
 }
 
 /// Returns the place of a committed packet, and how many of its events failed. None if it isn't committed.
@@ -45,6 +47,7 @@ impl Till {
             left: packets,
             answered: stored,
             stopped: false,
+            gave_up: false,
         }
     }
 
@@ -88,6 +91,11 @@ impl Till {
         Packet::of_transfers(alloc, &[payment], 0)
     }
 
+    fn give_up(&mut self) {
+        self.stopped = true;
+        self.gave_up = true;
+    }
+
     /// Returns `Receive` while replies are unread: after `End` they may never be received, and then no line says what became of them.
     fn receive_or_end(&self) -> Action {
         if self.answered < self.next {
@@ -111,7 +119,7 @@ impl Driver for Till {
         match packet {
             Ok(packet) => Action::Submit(packet),
             Err(_) => {
-                self.stopped = true;
+                self.give_up();
                 self.receive_or_end()
             }
         }
@@ -123,7 +131,7 @@ impl Driver for Till {
                 self.next = self.next.saturating_add(1);
                 self.left = self.left.saturating_sub(1);
             }
-            Err(_) => self.stopped = true,
+            Err(_) => self.give_up(),
         }
     }
 
@@ -140,9 +148,11 @@ impl Driver for Till {
             ),
             None => {
                 self.stopped = true;
-                println!(self.rt; "till {till}: packet {packet} is not committed")
+                println!(self.rt; "till {till}: packet {packet} is stopped")
             }
         };
-        self.stopped = self.stopped || printed.is_err();
+        if printed.is_err() {
+            self.give_up();
+        }
     }
 }

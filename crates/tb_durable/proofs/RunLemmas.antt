@@ -1,12 +1,12 @@
 -- What the rows of a store say of a ledger.
-use Rattle.std.proofs.Common.{◌≡◌, ◌∙◌, refl, ap, subst, sym, ℕ, List, [], ◌∷◌, false}
+use Rattle.std.proofs.Common.{◌≡◌, ◌∙◌, arith, refl, ap, subst, sym, ℕ, zero, suc, List, [], ◌∷◌, false}
 use Rattle.std.specs.List.{flat_map}
 use Rattle.sqlite_value.specs.Order.{Row}
-use Rattle.sqlite_trees.specs.View.{View, IsClean}
+use Rattle.sqlite_trees.specs.View.{View, IsClean, doubt}
 use Rattle.tb_core.specs.BareLedger.{BareLedgerState, with_journal, HasCommitted}
 use Rattle.tb_core.specs.Journal.{LedgerState}
 use Rattle.tb_durable.specs.Rows.{clock_in}
-use Rattle.tb_durable.specs.Durable.{IsJournal, IsStored, groups_of}
+use Rattle.tb_durable.specs.Durable.{HasJournal, IsJournal, IsKept, IsStored, groups_of}
 use Rattle.tb_durable.specs.Runs.{RunsFollow, ShowsJournal}
 
 abbrev opening_of : List Row → ℕ
@@ -44,3 +44,19 @@ shows_rows view bare stored clean goes_on =
       clean = clean;
       goes_on = goes_on;
     }
+
+-- some ledger is the one that a stored one is, also if the disk hasn't returned what was written
+pub some_kept : (view : View) (bare : BareLedgerState) → IsStored view bare → HasJournal bare → bare.stopped ≡ false
+    → (ledger : LedgerState) × IsKept view bare ledger
+some_kept view bare stored has goes_on = by (doubt view.is_clean) refl
+  where
+    by : (n : ℕ) → doubt view.is_clean ≡ n → (ledger : LedgerState) × IsKept view bare ledger
+    by zero clean = (with_journal bare (groups_of (view.committed 0)), (shows_rows view bare stored clean goes_on).kept)
+    by (suc n) unclean = (
+      with_journal bare has.0,
+      record {
+        journal = record { same = refl; committed = has.1 };
+        stored = stored;
+        rows = λ clean goes. absurd (omega (arith, clean, unclean));
+      },
+    )

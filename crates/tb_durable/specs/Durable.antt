@@ -80,6 +80,10 @@ abbrev pub groups_of : List Row → List (List Input)
 groups_of [] = []
 groups_of (first ∷ entries) = map group_in entries
 
+-- it committed some groups
+abbrev pub HasJournal : BareLedgerState → Type 0
+HasJournal bare = (groups : List (List Input)) × HasCommitted bare groups
+
 -- Which ledgers a stored one may be: those with a journal that it committed. Unless it stopped, that journal is in the rows, if
 -- the disk has returned what was written.
 pub record IsKept (view : View) (bare : BareLedgerState) (ledger : LedgerState) : Type 0 where

@@ -94,7 +94,8 @@ impl<S: Store + Drop> DurableLedger<S> {
     ghost use Rattle.tb_core.specs.BareLedger.{Applies};
     ghost use Rattle.tb_core.specs.AnyLedger.{Applying, IsWithJournal};
     ghost use Rattle.tb_core.specs.BareLedger.{after_refusal, refusal_of, with_journal};
-    ghost use Rattle.tb_durable.specs.Durable.{IsJournal, IsStored, LeavesWith, groups_of, groups_of_parcel, opened_rows, rows_of};
+    ghost use Rattle.tb_core.specs.Journal.{LedgerState};
+    ghost use Rattle.tb_durable.specs.Durable.{IsJournal, IsKept, IsStored, LeavesWith, groups_of, groups_of_parcel, opened_rows, rows_of};
     ghost use Rattle.tb_durable.specs.Runs.{ShowsJournal};
     ghost use Rattle.tb_durable.specs.Faults.{IsCause};
     ghost use Rattle.tb_durable.specs.Recovery.{RecoversFromCrashes};
@@ -116,6 +117,7 @@ impl<S: Store + Drop> DurableLedger<S> {
         ensures stored { IfOk result (λ ledger. IsStored (S.Store.view ledger.table.store) ledger.bare) }
         ensures rows { IfOk result (λ ledger. IsClean (S.Store.view ledger.table.store)
             → (S.Store.view ledger.table.store).committed 0 ≡ opened_rows settings ((S.Store.view store).committed 0)) }
+        ensures kept { IfOk result (λ ledger. (now : LedgerState) × IsKept (S.Store.view ledger.table.store) ledger.bare now) }
         ensures goes_on { IfOk result (λ ledger. (ledger.bare.stopped ≡ false) × (ledger.in_doubt ≡ false)) }
         ensures fault { IfErr result (λ refused. IsClean (S.Store.view refused.1)
             → IsCause (opened_rows settings ((S.Store.view store).committed 0)) refused.0) }
@@ -204,7 +206,8 @@ impl<S: Store + Drop> DurableLedger<S> {
     pub fn reserve(&mut self, accounts: usize, transfers: usize) -> Result<(), NoMemory>
         ensures bare { self.new.bare ≡ self.old.bare }
         ensures table { self.new.table ≡ self.old.table }
-        ensures in_doubt { self.new.in_doubt ≡ self.old.in_doubt }
+        ensures others { (self.new.counts ≡ self.old.counts) × (self.new.settings ≡ self.old.settings) }
+        ensures in_doubt { (self.new.in_doubt ≡ self.old.in_doubt) × (self.new.fault ≡ self.old.fault) }
     {
         self.bare.reserve(accounts, transfers)
     }

@@ -4,7 +4,7 @@ ghost use Rattle.std.specs.Prelude.{◌≡◌, ◌≤◌, ◌∷◌, [], true, f
 ghost use Rattle.tb_layout.specs.Limits.{clock_max};
 ghost use Rattle.sqlite_trees.specs.View.{IsClean, doubt};
 ghost use Rattle.tb_durable.specs.Rows.{settings_row};
-ghost use Rattle.tb_durable.specs.Durable.{IsReading, IsReplaying, IsSettled, IsStored, IsJournal, IsFirst, opened_rows};
+ghost use Rattle.tb_durable.specs.Durable.{HasJournal, IsReading, IsReplaying, IsSettled, IsStored, IsJournal, IsFirst, opened_rows};
 ghost use Rattle.tb_durable.specs.Faults.{IsCause, IsFirstFault};
 ghost use Rattle.sqlite_value.specs.Order.{Row};
 
@@ -115,6 +115,7 @@ fn replay_row<S: Store>(table: &mut Table<S>, replaying: &mut Replaying) -> Resu
     ensures same { OnOk result (IsClean (S.Store.view table.new.store)
         → (S.Store.view table.new.store).committed ≡ (S.Store.view table.old.store).committed) }
     ensures goes_on { OnOk result (replaying.old.ledger.stopped ≡ false → replaying.new.ledger.stopped ≡ false) }
+    ensures committed { OnOk result (HasJournal replaying.old.ledger → HasJournal replaying.new.ledger) }
     ensures cursor { OnOk result (IsSome ((S.Store.view table.new.store).cursors 0)) }
     ensures clean { doubt (S.Store.view table.old.store).is_clean ≤ doubt (S.Store.view table.new.store).is_clean }
 {
@@ -136,6 +137,7 @@ fn replay_rows<S: Store>(table: &mut Table<S>, replaying: &mut Replaying) -> Res
         → IsSettled (S.Store.view table.new.store)
         × IsJournal ((S.Store.view table.new.store).committed 0) replaying.new.ledger) }
     ensures goes_on { OnOk result (replaying.old.ledger.stopped ≡ false → replaying.new.ledger.stopped ≡ false) }
+    ensures committed { OnOk result (HasJournal replaying.old.ledger → HasJournal replaying.new.ledger) }
     ensures same { OnOk result (IsClean (S.Store.view table.new.store)
         → (S.Store.view table.new.store).committed ≡ (S.Store.view table.old.store).committed) }
     ensures clean { doubt (S.Store.view table.old.store).is_clean ≤ doubt (S.Store.view table.new.store).is_clean }
@@ -167,6 +169,7 @@ pub(crate) fn read_ledger<S: Store>(
         → IsCause (opened_rows settings ((S.Store.view table.old.store).committed 0)) fault) }
     ensures stored { IfOk result (λ read. IsStored (S.Store.view table.new.store) read.replaying.ledger) }
     ensures goes_on { IfOk result (λ read. read.replaying.ledger.stopped ≡ false) }
+    ensures committed { IfOk result (λ read. HasJournal read.replaying.ledger) }
     ensures rows { OnOk result (IsClean (S.Store.view table.new.store) → (S.Store.view table.new.store).committed 0
         ≡ opened_rows settings ((S.Store.view table.old.store).committed 0)) }
     ensures clean { doubt (S.Store.view table.old.store).is_clean ≤ doubt (S.Store.view table.new.store).is_clean }

@@ -73,8 +73,8 @@ fn learn_all<R: Abort + Threads + Wait + Sync + Alloc<A = Global>>(
     all
 }
 
-/// Takes up to the Close.
-fn take_ahead<R: Wait>(rt: &R, intake: &mut Intake) -> Counts {
+/// Takes up to the Close. None if none comes.
+fn take_ahead<R: Wait>(rt: &R, intake: &mut Intake) -> Option<Counts> {
     let mut counts = Counts::new();
     for _ in 0..MOST_TURNS {
         match intake.take(rt) {
@@ -83,12 +83,12 @@ fn take_ahead<R: Wait>(rt: &R, intake: &mut Intake) -> Counts {
                     sender: _,
                     item: Item::Close,
                 },
-            ) => return counts,
+            ) => return Some(counts),
             Some(ticket) => counts.note(ticket),
             None => thread::yield_now(),
         }
     }
-    counts
+    None
 }
 
 /// Runs the submitters in threads, shuts while they submit, and takes up to the Close.
@@ -98,8 +98,8 @@ fn shut_amid<R: Abort + Threads + Wait + Sync>(
     submitters: Vec<Submitter>,
     control: Control,
     intake: &mut Intake,
-) -> Counts {
-    thread::scope(thread::scope_env(), rt, |scope| -> Counts {
+) -> Option<Counts> {
+    thread::scope(thread::scope_env(), rt, |scope| -> Option<Counts> {
         let mut drivers = Vec::new(alloc);
         for submitter in submitters {
             let started = scope.spawn(move || submit_all(rt, alloc, submitter, 1_000));
@@ -127,6 +127,7 @@ fn first_packets_of_sixteen_submitters(rt: HostRuntime) {
     } = opened(&rt);
     let submitters = learn_all(&rt, submitters, &mut control);
     let counts = shut_amid(&rt, rt.alloc(), submitters, control, &mut intake);
+    let counts = counts.expect(&rt, "a Close");
     check!(&rt; !counts.torn);
     for sender in 0..16usize {
         check!(&rt; counts.next[sender] >= 1);

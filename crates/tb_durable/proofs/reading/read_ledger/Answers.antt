@@ -1,6 +1,6 @@
-use Rattle.std.proofs.Common.{arith, rules, subst, [], ◌∷◌}
+use Rattle.std.proofs.Common.{arith, refl, rules, subst, sym, [], ◌∷◌}
 use Rattle.sqlite_trees.specs.View.{IsClean}
-use Rattle.tb_durable.specs.Durable.{opened_rows}
+use Rattle.tb_durable.specs.Durable.{HasJournal, opened_rows}
 use Rattle.tb_durable.specs.Faults.{IsCause}
 use Rattle.tb_durable.proofs.Journals.{new_journal}
 use Rattle.tb_durable.proofs.reading.read_ledger.Goals as goal
@@ -29,3 +29,8 @@ returns-in_err-replay_rows-clause-fault g c =
       new_journal row c.in_ok-settings.settings.clock c.with_seed.result c.in_ok-settings.ensures.first c.with_seed.ensures.new,
     )) in
     search rules
+
+pub returns-clause-committed : goal.returns-clause-committed
+returns-clause-committed g c =
+    c.in_ok-replay_rows.ensures.committed (subst HasJournal (sym c.with_seed.ensures.new)
+    ([], record { machine = refl; counted = refl }))

@@ -1,5 +1,6 @@
 use Rattle.std.proofs.Common.{◌≡◌, rules, subst, ◌++◌, true, [], ◌∷◌}
 use Rattle.sqlite_trees.specs.View.{Advances}
+use Rattle.tb_durable.specs.Rows.{group_in}
 use Rattle.tb_durable.specs.Faults.{IsCause}
 use Rattle.tb_durable.proofs.FaultLemmas.{row_fault}
 use Rattle.tb_durable.proofs.Journals.{one_more}
@@ -28,3 +29,9 @@ returns-in_err-row-clause-fault g c = λ clean replaying.
     (subst (Advances (g.S.Store.view c.args.table.now.store) (g.S.Store.view c.next.new.self.store) 0 row) found
     (c.in_ok-next.ensures.ok clean)) replaying.2 c.in_err-row.field-0.0 c.in_err-row.ensures.fault in
     search rules
+
+pub returns-clause-committed : goal.returns-clause-committed
+returns-clause-committed g c = λ has. (
+  has.0 ++ group_in c.next.new.self.row ∷ [],
+  (c.in_ok-row.ensures.group has.0 has.1).0,
+)

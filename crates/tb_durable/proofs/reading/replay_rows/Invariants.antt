@@ -1,6 +1,6 @@
 use Rattle.std.specs.Prelude.{◌≡◌, ◌≤◌, false, IsSome}
 use Rattle.sqlite_trees.specs.View.{IsClean, doubt}
-use Rattle.tb_durable.specs.Durable.{IsReplaying}
+use Rattle.tb_durable.specs.Durable.{HasJournal, IsReplaying}
 use Rattle.tb_durable.proofs.reading.replay_rows.Given as goal
 
 abbrev pub invariant-loop : goal.invariant-loop
@@ -12,5 +12,6 @@ invariant-loop g l = record {
   replaying : IsClean (g.S.Store.view l.table.store)
       → IsReplaying (g.S.Store.view l.fn.table.store) l.fn.replaying.ledger
       → IsReplaying (g.S.Store.view l.table.store) l.replaying.ledger;
+  committed : HasJournal l.fn.replaying.ledger → HasJournal l.replaying.ledger;
   goes_on : l.fn.replaying.ledger.stopped ≡ false → l.replaying.ledger.stopped ≡ false;
 }

@@ -127,15 +127,8 @@ fn assert_served<R: Threads + Wait + Sync + Abort>(rt: &R, alloc: Global, packet
 }
 
 #[test]
-fn sixteen_clients_of_a_thousand_packets(rt: HostRuntime) {
-    in_time(&rt, || assert_served(&rt, rt.alloc(), 1_000));
-}
-
-/// `tools/check-rest` runs it: on a busy machine it takes longer than `rt` lets a test run.
-#[test]
-#[ignore]
 fn sixteen_clients_of_ten_thousand_packets(rt: HostRuntime) {
-    assert_served(&rt, rt.alloc(), 10_000);
+    in_time(&rt, || assert_served(&rt, rt.alloc(), 10_000));
 }
 
 /// Whenever the run is given up, all threads return: the clients queued their ends if they were served.
