@@ -1,5 +1,6 @@
 -- A pipeline before its run.
 use Rattle.std.specs.Prelude.{◌≡◌, [], All, length}
+use Rattle.tb_core.specs.Journal.{LedgerState}
 use Rattle.tb_pipe.specs.Reported.{AreTogether}
 use Rattle.tb_pipe.specs.declared.opening.Opened.{Opened}
 use Rattle.tb_submit.specs.Ends.{SubmitterState}
@@ -9,7 +10,7 @@ abbrev pub IsUnread : SubmitterState → Type 0
 IsUnread submitter = submitter.read ≡ []
 
 -- a pipeline has a submitter for each desk, and none has read a reply
-pub record IsReady (opened : Opened) : Type 0 where
+pub record IsReady (opened : Opened LedgerState) : Type 0 where
   pub together : AreTogether opened.pipeline opened.submitters.items opened.control
   pub number : length opened.pipeline.submitters ≡ DESKS
   pub desks : length opened.submitters.items ≡ DESKS

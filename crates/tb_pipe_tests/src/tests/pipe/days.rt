@@ -191,7 +191,10 @@ fn run_clerks<R: Threads + Wait + Sync + Abort, L: AnyLedger + Send>(
         Ok(opened) => opened,
         Err(_) => rt.panic("it isn't opened"),
     };
-    let mut opened = opened.over(ledger).ok().expect(rt, "it hasn't stopped");
+    let mut opened = match opened.over(ledger) {
+        Ok(opened) => opened,
+        Err(_) => rt.panic("it has stopped"),
+    };
     let accounts = accounts_packet(alloc, &[account(1, 0), account(2, 0)]).expect(rt, "memory");
     let queued = submit_ahead(rt, alloc, &mut opened, 0, accounts);
     check!(rt; queued.is_ok());
