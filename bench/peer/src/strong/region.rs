@@ -23,6 +23,9 @@ pub struct Region<T> {
     capacity: usize,
 }
 
+// Safety: the memory belongs to the region, and to no thread.
+unsafe impl<T: Send> Send for Region<T> {}
+
 impl<T: Copy> Region<T> {
     pub fn new(capacity: usize) -> Region<T> {
         let bytes = (capacity * size_of::<T>()).next_multiple_of(PAGE) + PAGE;

@@ -1,9 +1,8 @@
 //! Commits.
 
 use crate::events::{Kind, event_of};
-use peer::layout::{Account, EVENT_SIZE, Failure};
-use peer::machine::Machine;
-use peer::strong::Machine as StrongMachine;
+use peer::layout::EVENT_SIZE;
+use peer::state_machine::StateMachine;
 use std::time::Duration;
 
 /// The events of a packet of accounts that are made before the packets.
@@ -18,74 +17,6 @@ pub struct Load {
     pub packets: u64,
     pub accounts: u64,
     pub room: usize,
-}
-
-pub trait StateMachine {
-    /// With room for so many accounts and transfers, or without where both are 0.
-    fn with_room(accounts: usize, transfers: usize) -> Self;
-
-    fn create_accounts(&mut self, body: &[u8]) -> Vec<Failure>;
-
-    fn create_transfers(&mut self, body: &[u8]) -> Vec<Failure>;
-
-    fn lookup_accounts(&self, body: &[u8]) -> Vec<Account>;
-
-    /// A sum over the balances of the first thousand accounts.
-    fn sum_of_balances(&self) -> u128;
-}
-
-fn sum_of<'a>(accounts: impl Iterator<Item = &'a Account>) -> u128 {
-    accounts
-        .map(|account| account.id * (3 * account.debits_posted + account.credits_posted))
-        .sum()
-}
-
-impl StateMachine for Machine {
-    fn with_room(accounts: usize, transfers: usize) -> Machine {
-        let mut machine = Machine::new(0);
-        if transfers > 0 {
-            machine.reserve(accounts, transfers);
-        }
-        machine
-    }
-
-    fn create_accounts(&mut self, body: &[u8]) -> Vec<Failure> {
-        self.create_accounts(body)
-    }
-
-    fn create_transfers(&mut self, body: &[u8]) -> Vec<Failure> {
-        self.create_transfers(body)
-    }
-
-    fn lookup_accounts(&self, body: &[u8]) -> Vec<Account> {
-        self.lookup_accounts(body)
-    }
-
-    fn sum_of_balances(&self) -> u128 {
-        sum_of(self.accounts().take(1000))
-    }
-}
-
-impl StateMachine for StrongMachine {
-    fn with_room(accounts: usize, transfers: usize) -> StrongMachine {
-        StrongMachine::new(0, if transfers > 0 { accounts } else { 0 }, transfers)
-    }
-
-    fn create_accounts(&mut self, body: &[u8]) -> Vec<Failure> {
-        self.create_accounts(body)
-    }
-
-    fn create_transfers(&mut self, body: &[u8]) -> Vec<Failure> {
-        self.create_transfers(body)
-    }
-
-    fn lookup_accounts(&self, body: &[u8]) -> Vec<Account> {
-        self.lookup_accounts(body)
-    }
-
-    fn sum_of_balances(&self) -> u128 {
-        sum_of(self.accounts().iter().take(1000))
-    }
 }
 
 /// The data of the packet with a number: its events, or for a look-up the ids of their debit accounts.
@@ -125,14 +56,14 @@ fn machine_with_accounts<M: StateMachine>(load: Load) -> M {
     machine
 }
 
-/// Commits the packets; how many events failed, and a sum over the balances.
+/// Commits the packets; how many events failed, and a sum over the balances of the first thousand accounts.
 pub fn commit_packets<M: StateMachine>(load: Load) -> (usize, u128) {
     let mut machine = machine_with_accounts::<M>(load);
     let mut failures = 0;
     for number in 0..load.packets {
         failures += take(&mut machine, load.kind, &body_of(load, number));
     }
-    (failures, machine.sum_of_balances())
+    (failures, machine.sum_of_balances(1000))
 }
 
 #[repr(C)]

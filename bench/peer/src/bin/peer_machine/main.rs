@@ -7,8 +7,9 @@
 mod commit;
 mod events;
 
-use commit::{Load, StateMachine, commit_packets, make_packets, time_packets};
+use commit::{Load, commit_packets, make_packets, time_packets};
 use peer::machine::Machine;
+use peer::state_machine::StateMachine;
 use peer::strong::Machine as StrongMachine;
 use std::error::Error;
 

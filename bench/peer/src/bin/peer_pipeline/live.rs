@@ -1,10 +1,10 @@
 //! Submitters that wait: one for input, the others for its end.
 
-use crate::events::{accounts, transfers};
 use crate::submitter::Submitter;
-use crate::work::Tally;
 use crate::{Opening, run};
+use peer::events::{accounts, transfers};
 use peer::packet::Refusal;
+use peer::tally::Tally;
 use std::io::{Read, Write, stdin, stdout};
 use std::sync::atomic::{AtomicBool, Ordering};
 use std::thread;

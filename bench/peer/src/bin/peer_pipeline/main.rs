@@ -11,7 +11,6 @@
 //! `live`: the first submitter sends a packet of one event for each byte of the standard input, and writes a byte when it
 //! has the reply. LOADS others send packets of one event at credit 16 until the input ends, the rest sleep until then.
 
-mod events;
 mod live;
 mod ring;
 mod stages;
@@ -19,17 +18,19 @@ mod submitter;
 mod work;
 
 use crossbeam_queue::ArrayQueue;
-use events::ACCOUNTS;
 use live::run_live;
+use peer::events::ACCOUNTS;
 use peer::machine::Machine;
 use peer::packet::Refusal;
+use peer::state_machine::StateMachine;
+use peer::tally::Tally;
 use ring::{Consumer, Producer, ring};
 use stages::{batch_all, commit_all, route_all};
 use std::error::Error;
 use std::sync::Arc;
 use std::thread;
 use submitter::{Load, Submitter};
-use work::{Reply, Tally};
+use work::Reply;
 
 /// The slots of the rings between the stages.
 const STAGE_SLOTS: usize = 8;
@@ -48,15 +49,6 @@ struct Opening {
 struct Report {
     tally: Tally,
     machine: Machine,
-}
-
-/// A sum over the balances of the first accounts, whatever their order.
-fn sum_of_balances(machine: &Machine, accounts: u64) -> u128 {
-    machine
-        .accounts()
-        .take(accounts as usize)
-        .map(|account| account.id * (3 * account.debits_posted + account.credits_posted))
-        .sum()
 }
 
 /// Runs a thread for each submitter, which drives it, and for each stage; this one is the batcher.
@@ -106,15 +98,8 @@ fn run(
 /// The line of a run.
 fn line_of_run(opening: Opening, load: Load) -> Result<String, Refusal> {
     let Report { tally, machine } = run(opening, load.credit, |submitter| submitter.drive(load))?;
-    let Tally {
-        replies,
-        failures,
-        places,
-    } = tally;
-    let balances = sum_of_balances(&machine, u64::from(opening.submitters) * ACCOUNTS);
-    Ok(format!(
-        "replies {replies} failures {failures} places {places} balances {balances}"
-    ))
+    let balances = machine.sum_of_balances(opening.submitters as usize * ACCOUNTS as usize);
+    Ok(format!("{tally} balances {balances}"))
 }
 
 /// The line that the arguments ask for.

@@ -1,10 +1,11 @@
 //! A submitter in a thread of its own.
 
-use crate::events::{accounts, transfers};
 use crate::ring::Consumer;
-use crate::work::{Item, Job, Queue, Reply, Tally, push_waiting};
+use crate::work::{Item, Job, Queue, Reply, push_waiting};
 use crossbeam_utils::Backoff;
+use peer::events::{accounts, transfers};
 use peer::packet::{Packet, Refusal};
+use peer::tally::Tally;
 use std::sync::Arc;
 
 pub struct Submitter {
@@ -46,7 +47,7 @@ impl Submitter {
         let backoff = Backoff::new();
         loop {
             if let Some(reply) = self.replies.pop() {
-                tally.add(&reply);
+                tally.add(reply.job.failures.len(), reply.place);
                 return;
             }
             backoff.snooze();

@@ -49,30 +49,6 @@ pub struct Reply {
     pub place: u64,
 }
 
-/// What replies came to.
-#[derive(Default)]
-pub struct Tally {
-    pub replies: u64,
-    pub failures: u64,
-    pub places: u64,
-}
-
-impl Tally {
-    /// Adds a reply.
-    pub fn add(&mut self, reply: &Reply) {
-        self.replies += 1;
-        self.failures += reply.job.failures.len() as u64;
-        self.places += reply.place;
-    }
-
-    /// Adds what other replies came to.
-    pub fn join(&mut self, other: &Tally) {
-        self.replies += other.replies;
-        self.failures += other.failures;
-        self.places += other.places;
-    }
-}
-
 /// Pushes as soon as there is room.
 pub fn push_waiting(queue: &Queue, item: Item) {
     let mut item = item;

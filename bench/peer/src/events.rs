@@ -1,7 +1,7 @@
-//! The events that are sent.
+//! The packets that submitters send.
 
-use peer::layout::{CREATE_ACCOUNTS, CREATE_TRANSFERS, EVENT_SIZE};
-use peer::packet::Packet;
+use crate::layout::{CREATE_ACCOUNTS, CREATE_TRANSFERS, EVENT_SIZE};
+use crate::packet::Packet;
 
 /// The accounts of each submitter.
 pub const ACCOUNTS: u64 = 1000;
