@@ -10,7 +10,7 @@ ghost use Rattle.sqlite_trees.specs.View.{IsClean, doubt};
 ghost use Rattle.tb_durable.specs.Rows.{jobs_row, group_in};
 ghost use Rattle.tb_durable.specs.Durable.{Adds, IsAdded, LeavesNothingNew};
 
-use crate::counts::Counts;
+use crate::counts::PacketCounts;
 use crate::fault::OpenFault;
 use crate::reading::read_ledger;
 use crate::settings::Settings;
@@ -30,7 +30,7 @@ pub struct DurableLedger<S: Store> {
     table: Table<S>,
     bare: BareLedger,
     settings: Settings,
-    counts: Counts,
+    counts: PacketCounts,
     in_doubt: bool,
     fault: Option<StoreError>,
 }
@@ -151,15 +151,14 @@ impl<S: Store + Drop> DurableLedger<S> {
         self.settings
     }
 
-    /// Returns how many packets of each submitter are stored, of all runs. A submitter whose packets are its own in each run goes on
-    /// behind as many.
+    /// Returns how many packets of each submitter are stored, of all runs. A submitter with a fixed list of packets continues after as many.
     pub fn packets(&self) -> [u64; 16]
         ensures { result ≡ self.now.counts.packets }
     {
         self.counts.packets
     }
 
-    /// Returns the number of each submitter's next packet if the last run goes on. A new run numbers them from 0, as a pipeline does.
+    /// Returns the number of each submitter's next packet if the last run is continued. A new run, as of a pipeline, numbers them from 0.
     pub fn numbers(&self) -> [u64; 16]
         ensures { result ≡ self.now.counts.numbers }
     {

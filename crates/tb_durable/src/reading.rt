@@ -8,7 +8,7 @@ ghost use Rattle.tb_durable.specs.Durable.{HasJournal, IsReading, IsReplaying, I
 ghost use Rattle.tb_durable.specs.Faults.{IsCause, IsFirstFault};
 ghost use Rattle.sqlite_value.specs.Order.{Row};
 
-use crate::counts::Counts;
+use crate::counts::PacketCounts;
 use crate::fault::OpenFault;
 use crate::replaying::Replaying;
 use crate::rows::{FORMAT_VERSION, number_in, settings_in};
@@ -178,7 +178,7 @@ pub(crate) fn read_ledger<S: Store>(
     let settings = read_settings(table, settings)?;
     let mut replaying = Replaying {
         ledger: BareLedger::with_seed(alloc, settings.clock, seed),
-        counts: Counts::new(),
+        counts: PacketCounts::new(),
         alloc,
     };
     replay_rows(table, &mut replaying)?;

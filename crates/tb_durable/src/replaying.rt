@@ -13,7 +13,7 @@ ghost use Rattle.tb_durable.specs.Durable.{AddsGroup};
 ghost use Rattle.tb_durable.specs.Faults.{IsEntryFault, IsRowFault};
 ghost use Rattle.tb_durable.specs.declared.fault.OpenFault.TheVariants.{BadEntry as BadEntryFault, NoMemory as NoMemoryFault};
 
-use crate::counts::Counts;
+use crate::counts::PacketCounts;
 use crate::fault::OpenFault;
 use crate::rows::{blob_in, number_in, stub_at};
 use sqlite_value::row::Row;
@@ -26,7 +26,7 @@ use tb_work::{Bytes, Job, Moment, Packet, Refusal, Stub};
 /// A ledger that has applied some rows, and how many packets of each submitter are in them.
 pub(crate) struct Replaying {
     pub(crate) ledger: BareLedger,
-    pub(crate) counts: Counts,
+    pub(crate) counts: PacketCounts,
     pub(crate) alloc: Global,
 }
 

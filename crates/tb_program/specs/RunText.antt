@@ -3,6 +3,7 @@ use Rattle.std.specs.Prelude.{◌≡◌, ℕ, ◌+◌, zero, suc, List, [], ◌�
 use Rattle.tb_core.specs.Grouping.{IsGrouping}
 use Rattle.tb_core.specs.EachSubmitter.{moments_in, moments_queued}
 use Rattle.tb_core.specs.EndedRun.{Run, committed_in, IsPrefix}
+use Rattle.tb_core.specs.Journal.{LedgerState, groups_since, inputs, inputs_since}
 use Rattle.tb_core.specs.Report.{LawfulReport}
 use Rattle.tb_layout.specs.Events.{Input, Packet, Pulse}
 use Rattle.tb_machine.specs.Replay.{State}
@@ -93,6 +94,23 @@ pub record IsRunText (clock limit : ℕ) (shares : List (List packets.Packet)) (
   pub number : length told ≡ length shares
   pub handed : AreHandedIn limit run.replies shares told run.queued
   pub printed : text ≡ run_text told run.replies (committed_in run) refused_pulses run.ledger.state
+
+-- Of a run from one ledger to another under this limit, with these shares and a control that queued these items: the text of its packets
+-- is that of a lawful report of some queue, in which each submitter queued its share except for what was refused.
+pub record IsRunOver (limit : ℕ) (shares : List (List packets.Packet)) (controlled : List Item) (text : List ℕ)
+    (start ledger : LedgerState) : Type 0 where
+  pub run : Run
+  pub told : List (List Told)
+  pub before : run.before ≡ inputs start
+  pub ledger_is : run.ledger ≡ ledger
+  pub submitters_are : run.submitters ≡ length shares
+  pub report : LawfulReport run
+  pub grouping : IsGrouping limit (groups_since start ledger)
+  pub control : run.queued run.submitters ≡ controlled
+  pub pulses : IsPrefix (moments_in (inputs_since start ledger)) (moments_queued controlled)
+  pub number : length told ≡ length shares
+  pub handed : AreHandedIn limit run.replies shares told run.queued
+  pub printed : text ≡ packets_text 0 told run.replies
 
 -- of what a script says: each submitter's share is its packets, and the control queues the pulses and the Close, or its
 -- end

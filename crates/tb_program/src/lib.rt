@@ -12,5 +12,5 @@ mod run;
 mod state;
 
 pub use list::{list_output, run_script};
-pub use run::{run_output, run_threads};
+pub use run::{RunOver, run_output, run_over, run_threads};
 pub use tb_program_text::{Output, ProgramFault};

@@ -17,8 +17,11 @@ ghost use Rattle.tb_program_text.specs.Script.{InBounds, capacity_of, clock_of, 
 mod driver;
 mod fault;
 mod notes;
+mod over;
 mod report;
 mod share;
+
+pub use over::{RunOver, run_over};
 
 use crate::operations::operations_shared;
 use crate::run::driver::ScriptDriver;

@@ -1,28 +1,46 @@
 -- What the arguments ask for.
-use Rattle.std.specs.Prelude.{ℕ, true, false, List, [], ◌∷◌, Option, Some, None, bytes_eq, codes, if◌then◌else◌}
+use Rattle.std.specs.Prelude.{ℕ, true, false, List, [], ◌∷◌, Option, Some, None, is_some, bytes_eq, codes, if◌then◌else◌}
 use Rattle.tb_program_text.specs.declared.request.Options.{Options}
+use Rattle.tb_program_text.specs.declared.request.Reading.{Reading}
 use Rattle.tb_program_text.specs.declared.request.Request.{Request}
-use Rattle.tb_program_text.specs.declared.request.Request.TheVariants.{List as ListAsked, Run, Help, Version, Usage}
+use Rattle.tb_program_text.specs.declared.request.Request.TheVariants.{List as ListAsked, Run, Replay, Help, Version, Usage}
 
 abbrev pub no_options : Options
-no_options = record { names = false; strict = false }
+no_options = record { names = false; strict = false; journal = None }
 
--- the options with the one that a word gives
-abbrev pub with_option : Options → List ℕ → Option Options
-with_option options word =
-    if bytes_eq word (codes "--names") then Some (record options { names = true })
-    else if bytes_eq word (codes "--strict") then Some (record options { strict = true })
+-- before the first word after `list` or `run`
+abbrev pub nothing_read : Reading
+nothing_read = record { options = no_options; awaits_path = false }
+
+abbrev pub with_options : Options → Option Reading
+with_options options = Some (record { options = options; awaits_path = false })
+
+-- the options with the one that a word gives; the word after --journal, which is given once, is a path
+abbrev pub with_word : Reading → List ℕ → Option Reading
+with_word reading word =
+    if reading.awaits_path then with_options (record reading.options { journal = Some word })
+    else if bytes_eq word (codes "--names") then with_options (record reading.options { names = true })
+    else if bytes_eq word (codes "--strict") then with_options (record reading.options { strict = true })
+    else if bytes_eq word (codes "--journal")
+        then if is_some reading.options.journal then None else Some (record reading { awaits_path = true })
     else None
 
 -- one step after another, if the first gives options
-abbrev pub and_then : Option Options → (Options → Option Options) → Option Options
+abbrev pub and_then : Option Reading → (Reading → Option Reading) → Option Reading
 and_then None more = None
-and_then (Some options) more = more options
+and_then (Some reading) more = more reading
 
--- these options with those that words give; each word gives one
-unfoldable pub options_after : Options → List (List ℕ) → Option Options
-options_after options [] = Some options
-options_after options (word ∷ words) = and_then (with_option options word) (λ next. options_after next words)
+-- what is read after these words too; each gives an option or is a path
+unfoldable pub after_words : Reading → List (List ℕ) → Option Reading
+after_words reading [] = Some reading
+after_words reading (word ∷ words) = and_then (with_word reading word) (λ next. after_words next words)
+
+abbrev pub finished : Reading → Option Options
+finished reading = if reading.awaits_path then None else Some reading.options
+
+abbrev pub options_of : Option Reading → Option Options
+options_of None = None
+options_of (Some reading) = finished reading
 
 abbrev pub asked_by : List ℕ → Options → Request
 asked_by word options =
@@ -36,7 +54,14 @@ abbrev pub asked_with : List ℕ → Option Options → Request
 asked_with word None = Usage
 asked_with word (Some options) = asked_by word options
 
+-- of a file alone
+abbrev pub replay_of : List (List ℕ) → Request
+replay_of (path ∷ []) = Replay path
+replay_of words = Usage
+
 -- the first word is the program's name
 abbrev pub request_of : List (List ℕ) → Request
-request_of (program ∷ word ∷ words) = asked_with word (options_after no_options words)
+request_of (program ∷ word ∷ words) =
+    if bytes_eq word (codes "replay") then replay_of words
+    else asked_with word (options_of (after_words nothing_read words))
 request_of words = Usage

@@ -6,7 +6,7 @@ ghost use Rattle.tb_program_text.specs.Ending.{ending_of, remark_of, status_of, 
 use crate::program_fault::ProgramFault;
 
 const HELP: &str =
-    "usage: tbpipe list|run [--names] [--strict] < SCRIPT\n\nCommits the packets of a script to a ledger in memory, and prints the result of each.\n\n  list       in one thread\n  run        in a pipeline with a thread for each submitter\n  --names    prints the name of each failure's code after it, as 1:22:credit_account_not_found\n  --strict   ends with status 1 if a packet or pulse was refused or an event failed, and says how many\n  --help     prints this\n  --version  prints the version and the kit that proved it\n\nScripts and output: docs/FORMATS.md; tools/name-codes names the codes of a saved output. The exit status is 0, or 1 for a\nfaulty script or other arguments, or 2 if the program failed.\n";
+    "usage: tbpipe list|run [--names] [--strict] [--journal FILE] < SCRIPT\n       tbpipe replay FILE\n\nCommits the packets of a script to a ledger, and prints the result of each. The ledger is in memory, or in a file.\n\n  list            in one thread\n  run             in a pipeline with a thread for each submitter\n  replay          prints the clock and the accounts of the ledger in a file\n  --journal FILE  commits to the ledger in a file, and continues it; the file is made if it isn't there\n  --names         prints the name of each failure's code after it, as 1:22:credit_account_not_found\n  --strict        ends with status 1 if a packet or pulse was refused or an event failed, and says how many\n  --help          prints this\n  --version       prints the version and the kit that proved it\n\nScripts and output: docs/FORMATS.md; files: docs/DURABLE.md; tools/name-codes names the codes of a saved output. The exit\nstatus is 0, or 1 for a faulty script, other arguments or other settings than the file's, or 2 if the program failed.\n";
 
 const VERSION: &str = "tbpipe 0.1.0\nrattle-kit-13f logic dac8208d650f15bf\n";
 
@@ -58,7 +58,7 @@ impl Ending {
             | Ending::Help
             | Ending::Version => "",
             Ending::Usage => {
-                "give one word, list or run, options after it, and the script on standard input, as in `tbpipe list < SCRIPT`; --help says more"
+                "give list or run, options after it, and the script on standard input, as in `tbpipe list < SCRIPT`; --help says more"
             }
             Ending::Failed(ProgramFault::Read) => "standard input can't be read to its end",
             Ending::Failed(ProgramFault::Write) => {

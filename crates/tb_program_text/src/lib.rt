@@ -47,7 +47,7 @@ pub use output::{
 pub use parsing::{ScriptError, parse};
 pub use program_fault::ProgramFault;
 pub use read::{ScriptLength, ScriptText, read_script};
-pub use request::{Options, Request, request_of};
+pub use request::{FilePath, Options, Request, request_of};
 pub use script::{Script, ScriptParts};
 pub use source::{FaultyScript, Source, read_source, source_of};
 pub use submitter_number::SubmitterNumber;

@@ -1,17 +1,25 @@
 //! `tbpipe`: runs a script of packets and prints the result of each.
 //!
-//! `list` takes the script through the stages in one thread, `run` through the pipeline with a thread for each sender.
-//! What the arguments ask for, the exit status of each outcome and the lines that the program prints itself are
-//! functions of `tb_program_text`; the rest is `tb_program`.
+//! `list` takes the script through the stages in one thread, `run` through the pipeline with a thread for each sender. With `--journal FILE`
+//! both commit to a ledger that is kept in a file, and continue what it has; `replay FILE` prints the clock and the accounts of one.
+//!
+//! What the arguments ask for, the exit status of each outcome and the lines that the program prints itself are functions of
+//! `tb_program_text`; the rest is `tb_program`, and for files `journal`. What is printed as committed to a file is on the disk.
 #![tactic(auto)]
 
+mod journal;
+
+use crate::journal::{JournalFault, Journaled, list_into, replay, run_into};
 use std::alloc::Global;
 use std::process::ExitCode;
 use std::rt::Env;
+use std::sync::Wait;
+use std::thread::Threads;
 use std::{env, io};
 use tb_program::{Output, list_output, run_output};
 use tb_program_text::{
-    Ending, Options, ProgramFault, Request, Tally, request_of, tally_of, write_bytes, write_out,
+    Ending, FilePath, Options, ProgramFault, Request, Tally, request_of, tally_of, write_bytes,
+    write_out,
 };
 
 /// Returns what the arguments ask for. One that isn't text asks for nothing that there is.
@@ -29,7 +37,7 @@ fn tell(rt: &HostRuntime, remark: &str) {
 }
 
 /// Writes the text of a script's output, with names if they are asked for.
-fn write_text(rt: &HostRuntime, options: Options, output: &Output) -> Result<(), ProgramFault> {
+fn write_text(rt: &HostRuntime, options: &Options, output: &Output) -> Result<(), ProgramFault> {
     if options.names {
         let named = output.named(rt.alloc())?;
         write_bytes(&mut io::writer(rt), &named)
@@ -39,7 +47,7 @@ fn write_text(rt: &HostRuntime, options: Options, output: &Output) -> Result<(),
 }
 
 /// Returns how the program ends after a script whose output is written. Under `--strict`, it says how much failed, if anything did.
-fn judge(rt: &HostRuntime, options: Options, output: &Output) -> Ending {
+fn judge(rt: &HostRuntime, options: &Options, output: &Output) -> Ending {
     if !output.faultless {
         tell(rt, &output.remark);
         return Ending::FaultyScript;
@@ -56,29 +64,88 @@ fn judge(rt: &HostRuntime, options: Options, output: &Output) -> Ending {
 }
 
 /// Prints what was made of a script. Returns how the program ends.
-fn print(rt: &HostRuntime, options: Options, made: Result<Output, ProgramFault>) -> Ending {
-    let output = match made {
-        Ok(output) => output,
-        Err(fault) => return Ending::Failed(fault),
-    };
-    match write_text(rt, options, &output) {
-        Ok(()) => judge(rt, options, &output),
+fn print_output(rt: &HostRuntime, options: &Options, output: &Output) -> Ending {
+    match write_text(rt, options, output) {
+        Ok(()) => judge(rt, options, output),
         Err(fault) => Ending::Failed(fault),
     }
 }
 
-fn main(rt: HostRuntime) -> ExitCode {
-    let alloc = rt.alloc();
-    let ending = match read_arguments(&rt) {
-        Ok(Request::List(options)) => print(&rt, options, list_output(alloc, &mut rt.reader())),
-        Ok(Request::Run(options)) => {
-            print(&rt, options, run_output(&rt, alloc, &mut rt.reader()))
-        }
-        Ok(Request::Help) => Ending::Help,
-        Ok(Request::Version) => Ending::Version,
-        Ok(Request::Usage) => Ending::Usage,
+/// Prints what was made of a script in memory. Returns how the program ends.
+fn print(rt: &HostRuntime, options: &Options, made: Result<Output, ProgramFault>) -> Ending {
+    match made {
+        Ok(output) => print_output(rt, options, &output),
         Err(fault) => Ending::Failed(fault),
-    };
+    }
+}
+
+/// Prints what was made of a script that was committed to a file. Returns how the program ends. An output that fails then doesn't undo
+/// what is committed.
+fn print_journaled(
+    rt: &HostRuntime,
+    options: &Options,
+    made: Journaled,
+) -> Result<Ending, JournalFault> {
+    let Journaled { output, stop } = made;
+    let ending = print_output(rt, options, &output);
+    if let Some(stop) = stop {
+        return Err(stop);
+    }
+    match ending {
+        Ending::Failed(ProgramFault::Write) if output.faultless => {
+            Err(JournalFault::WriteCommitted)
+        }
+        Ending::Failed(ProgramFault::NoMemory) if output.faultless => Err(JournalFault::NoMemory),
+        ending => Ok(ending),
+    }
+}
+
+fn list(rt: &HostRuntime, options: &Options) -> Result<Ending, JournalFault> {
+    match &options.journal {
+        Some(path) => print_journaled(rt, options, list_into(rt, path.as_str())?),
+        None => Ok(print(rt, options, list_output(rt.alloc(), &mut rt.reader()))),
+    }
+}
+
+fn run<T: Threads + Wait + Sync>(
+    rt: &HostRuntime,
+    threads: &T,
+    options: &Options,
+) -> Result<Ending, JournalFault> {
+    match &options.journal {
+        Some(path) => print_journaled(rt, options, run_into(rt, threads, path.as_str())?),
+        None => {
+            let made = run_output(threads, rt.alloc(), &mut rt.reader());
+            Ok(print(rt, options, made))
+        }
+    }
+}
+
+/// Prints the clock and the accounts of the ledger at a path.
+fn print_ledger(rt: &HostRuntime, path: &FilePath) -> Result<Ending, JournalFault> {
+    let text = replay(rt, path.as_str())?;
+    write_out(&mut io::writer(rt), &text)?;
+    Ok(Ending::Done)
+}
+
+/// Does what the arguments ask for. Returns how the program ends. Only `main` has a runtime with threads, so they come apart.
+fn answer<T: Threads + Wait + Sync>(
+    rt: &HostRuntime,
+    threads: &T,
+) -> Result<Ending, JournalFault> {
+    match read_arguments(rt) {
+        Ok(Request::List(options)) => list(rt, &options),
+        Ok(Request::Run(options)) => run(rt, threads, &options),
+        Ok(Request::Replay(path)) => print_ledger(rt, &path),
+        Ok(Request::Help) => Ok(Ending::Help),
+        Ok(Request::Version) => Ok(Ending::Version),
+        Ok(Request::Usage) => Ok(Ending::Usage),
+        Err(fault) => Ok(Ending::Failed(fault)),
+    }
+}
+
+/// Prints the last line, says what is to be said, and returns the status.
+fn end(rt: &HostRuntime, ending: Ending) -> ExitCode {
     let text = ending.text();
     let ending = match print!(rt; "{text}") {
         Ok(()) => ending,
@@ -86,7 +153,17 @@ fn main(rt: HostRuntime) -> ExitCode {
     };
     let remark = ending.remark();
     if !remark.is_empty() {
-        tell(&rt, remark);
+        tell(rt, remark);
     }
     ExitCode::from(ending.status())
+}
+
+fn main(rt: HostRuntime) -> ExitCode {
+    match answer(&rt, &rt) {
+        Ok(ending) => end(&rt, ending),
+        Err(fault) => {
+            let _ = eprintln!(rt; "tbpipe: {fault}");
+            ExitCode::from(fault.status())
+        }
+    }
 }

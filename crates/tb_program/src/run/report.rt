@@ -117,7 +117,7 @@ fn put_packets(
 
 /// Adds the lines of all packets, by rising number of their submitters.
 #[tactic(auto, unfolding(crate::specs::RunText::packets_text))]
-fn put_all_packets(
+pub(crate) fn put_all_packets(
     out: &mut String,
     drivers: Vec<ScriptDriver>,
     ends: Vec<Ended>,

@@ -2,8 +2,9 @@
 
 ghost use Rattle.std.specs.Prelude.{◌≤◌};
 
-use crate::door::Door;
-use crate::fault::JournalFault;
+use crate::journal::Journaled;
+use crate::journal::door::Door;
+use crate::journal::fault::{JournalFault, stop_of};
 use sqlite_trees::store::Store;
 use std::alloc::{AllocError, Global};
 use tb_core::{Outcomes, Parcel};
@@ -11,6 +12,7 @@ use tb_demux::Cutter;
 use tb_durable::{DurableLedger, OpenFault, Settings};
 use tb_layout::{BATCH_MAX, MOMENT_MAX};
 use tb_machine::Machine;
+use tb_program::Output;
 use tb_program_text::{
     ScriptItem, put_account, put_clock, put_close, put_pulse, put_refused, put_refused_pulse,
     put_reply,
@@ -20,7 +22,8 @@ use tb_work::{Item, Job, Moment, Outcome, Packet, Refusal, Reply};
 /// A line of the output, in the order of the script. That of a queued packet is its reply's.
 #[derive(Clone, Copy)]
 enum Line {
-    Queued,
+    /// A packet of an operation.
+    Queued(u8),
     Refused(u32, Refusal),
     Pulse(u64),
     RefusedPulse,
@@ -57,13 +60,6 @@ impl<S: Store + Drop> Drop for Committing<S> {
         drop(lines);
         drop(replies);
     }
-}
-
-/// What is printed, and why the ledger stopped, if it did.
-#[derive(Drop)]
-pub(crate) struct Committed {
-    pub(crate) text: String,
-    pub(crate) stop: Option<JournalFault>,
 }
 
 /// Adds the clock and the accounts.
@@ -150,10 +146,11 @@ impl<S: Store + Drop> Committing<S> {
         }
         let number = self.numbers[submitter as usize % 16];
         let limit = self.settings.limit.min(BATCH_MAX);
+        let operation = packet.operation;
         match Job::new(self.alloc, submitter, number, limit, packet) {
             Ok(job) => {
                 self.numbers[submitter as usize % 16] = number.saturating_add(1);
-                self.lines.push(Line::Queued)?;
+                self.lines.push(Line::Queued(operation))?;
                 self.pass(submitter, Item::Packet(job))?;
             }
             Err((packet, refusal)) => {
@@ -198,7 +195,7 @@ impl<S: Store + Drop> Committing<S> {
         let mut replies = self.replies.iter();
         for line in self.lines.iter() {
             match line {
-                Line::Queued => {
+                Line::Queued(_) => {
                     if let Some(reply) = replies.next() {
                         put_reply(&mut out, reply)?;
                     }
@@ -213,28 +210,41 @@ impl<S: Store + Drop> Committing<S> {
         Ok(out)
     }
 
+    /// Returns the operation of each line, 0 of one that is no packet's.
+    fn operations(&self) -> Result<Vec<u8>, AllocError> {
+        let mut operations = Vec::new(self.alloc);
+        for line in self.lines.iter() {
+            operations.push(match line {
+                Line::Queued(operation) => *operation,
+                _ => 0,
+            })?;
+        }
+        Ok(operations)
+    }
+
     /// Returns why not all that was queued is committed, apart from packets behind a Close.
     fn stop(&self) -> Option<JournalFault> {
-        if self.ledger.stopped() {
-            return Some(JournalFault::Stopped(self.ledger.fault(), self.ledger.in_doubt()));
-        }
-        if self.is_refused {
-            Some(JournalFault::NoMemory)
-        } else {
-            None
+        match stop_of(&self.ledger) {
+            None if self.is_refused => Some(JournalFault::NoMemory),
+            stop => stop,
         }
     }
 
     /// Takes all items and commits what is held at last.
-    pub(crate) fn commit_all(mut self, items: Vec<ScriptItem>) -> Result<Committed, JournalFault> {
+    pub(crate) fn commit_all(mut self, items: Vec<ScriptItem>) -> Result<Journaled, JournalFault> {
         for item in items {
             self.take(item)?;
         }
         if let Some(batch) = self.door.idle() {
             self.apply(Parcel::Batch(batch))?;
         }
-        let text = self.text()?;
+        let output = Output {
+            text: self.text()?,
+            faultless: true,
+            remark: String::new(self.alloc),
+            operations: self.operations()?,
+        };
         let stop = self.stop();
-        Ok(Committed { text, stop })
+        Ok(Journaled { output, stop })
     }
 }

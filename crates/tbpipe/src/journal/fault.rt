@@ -1,10 +1,11 @@
 //! Why the program couldn't do its work.
 
 use sqlite_trees::error::StoreError;
+use sqlite_trees::store::Store;
 use std::alloc::{AllocError, AllocFailed};
 use std::error::Error;
 use std::fmt;
-use tb_durable::{OpenFault, Settings};
+use tb_durable::{DurableLedger, OpenFault, Settings};
 use tb_layout::NoMemory;
 use tb_program_text::ProgramFault;
 
@@ -19,6 +20,8 @@ pub(crate) enum JournalFault {
     OtherSettings(Settings),
     /// Standard input can't be read.
     Read,
+    /// A thread couldn't be started, and nothing is committed.
+    NoThread,
     /// The output can't be written.
     Write,
     /// The output can't be written, and all of the script is committed.
@@ -53,10 +56,11 @@ impl fmt::Display for JournalFault {
                 } = kept;
                 write!(
                     f,
-                    "the file's ledger was opened with clock {clock}, limit {limit} and submitters {submitters}, and the script gives others"
+                    "the file's ledger was opened with clock {clock}, limit {limit} and submitters {submitters}, and the script asks for others"
                 )
             }
             JournalFault::Read => f.write_str("standard input can't be read to its end"),
+            JournalFault::NoThread => f.write_str("a thread couldn't be started"),
             JournalFault::Write => f.write_str("standard output can't be written"),
             JournalFault::WriteCommitted => f.write_str(
                 "standard output can't be written; the packets are in the file, and `replay` shows what they made",
@@ -66,6 +70,15 @@ impl fmt::Display for JournalFault {
             ),
             JournalFault::Stopped(fault, in_doubt) => put_stop(f, fault, *in_doubt),
         }
+    }
+}
+
+/// Returns why a ledger stopped. Returns None if it hasn't.
+pub(crate) fn stop_of<S: Store + Drop>(ledger: &DurableLedger<S>) -> Option<JournalFault> {
+    if ledger.stopped() {
+        Some(JournalFault::Stopped(ledger.fault(), ledger.in_doubt()))
+    } else {
+        None
     }
 }
 
@@ -116,7 +129,8 @@ impl From<ProgramFault> for JournalFault {
         match fault {
             ProgramFault::Write => JournalFault::Write,
             ProgramFault::NoMemory => JournalFault::NoMemory,
-            ProgramFault::Read | ProgramFault::NoThread => JournalFault::Read,
+            ProgramFault::Read => JournalFault::Read,
+            ProgramFault::NoThread => JournalFault::NoThread,
         }
     }
 }

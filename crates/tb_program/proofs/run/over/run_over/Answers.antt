@@ -1,0 +1,59 @@
+use Rattle.std.proofs.Common.{rules, ◌≡◌, ◌∙◌, Vec, length, ap, sym, arith, subst, List}
+use Rattle.std.proofs.lemmas.List.{length-map}
+use Rattle.std.specs.List.{flat_map}
+use Rattle.std.specs.declared.alloc.Global.{Global}
+use Rattle.tb_core.specs.Journal.{LedgerState}
+use Rattle.tb_work.specs.declared.packet.Packet.{Packet}
+use Rattle.tb_program_text.specs.Script.{limit_of, submitters_of}
+use Rattle.tb_program.specs.Drivers.{lists_of, share_of}
+use Rattle.tb_program.specs.Noting.{AreFresh}
+use Rattle.tb_program.specs.Operations.{operations_of}
+use Rattle.tb_program.specs.Sharing.{AreDealt, moments_asked, shares_of, shuts_in}
+use Rattle.tb_program.proofs.Sharing.{dealt_lists}
+use Rattle.tb_program.proofs.run.over.run_over.Goals as goal
+
+pub run_opened_over-requires-clause-number : goal.run_opened_over-requires-clause-number
+run_opened_over-requires-clause-number g c κs within =
+    sym (length-map c.in_ok-drivers.drivers.items share_of) ∙ ap length c.in_ok-drivers.ensures.shares
+    ∙ length-map c.in_ok-shares.shares.packets.items (λ (share : Vec Packet Global). share.items)
+    ∙ c.in_ok-shares.ensures.number ∙ c.submitters.ensures ∙ sym c.in_ok-opened.ensures.number
+    ∙ ap (λ pipeline. length pipeline.submitters) (sym c.in-Ok.ensures.pipeline)
+
+pub run_opened_over-requires-clause-few : goal.run_opened_over-requires-clause-few
+run_opened_over-requires-clause-few g c κs within =
+    omega (
+      arith,
+      run_opened_over-requires-clause-number g c κs within,
+      ap (λ pipeline. length pipeline.submitters) c.in-Ok.ensures.pipeline,
+      c.in_ok-opened.ensures.number,
+      c.requires.bounds.submitters_high,
+    )
+
+pub run_opened_over-requires-clause-fresh : goal.run_opened_over-requires-clause-fresh
+run_opened_over-requires-clause-fresh g c κs within =
+    subst AreFresh (ap (λ vec. vec.items) (sym c.in-Ok.ensures.ends.0)) c.in_ok-opened.ensures.fresh
+
+pub returns-clause-ran : goal.returns-clause-ran
+returns-clause-ran g c =
+    let script = c.args.script in
+    let packets = c.in_ok-shares.shares.packets.items in
+    let lines = c.in_ok-shares.shares.lines in
+    let start : c.in-Ok.opened.pipeline.start ≡ c.args.ledger = ap (λ pipeline. pipeline.start) c.in-Ok.ensures.pipeline in
+    let limit : c.in-Ok.opened.pipeline.intake.limit ≡ limit_of script.settings =
+    ap (λ pipeline. pipeline.intake.limit) c.in-Ok.ensures.pipeline ∙ c.in_ok-opened.ensures.limit in
+    let number : length packets ≡ submitters_of script.settings = c.in_ok-shares.ensures.number ∙ c.submitters.ensures in
+    let shares = c.in_ok-drivers.ensures.shares ∙ dealt_lists 0 packets script.items.items c.in_ok-shares.ensures.packets
+    ∙ ap (λ n. shares_of 0 n script.items.items) number in
+    let moments : lines.moments.items ≡ moments_asked script.items.items = c.in_ok-shares.ensures.moments in
+    let shuts : lines.shuts ≡ shuts_in script.items.items = c.in_ok-shares.ensures.shuts in
+    rw (start, limit, shares, moments, shuts) at c.in_ok-ran.ensures.ran
+
+pub returns-clause-operations : goal.returns-clause-operations
+returns-clause-operations g c =
+    let script = c.args.script in
+    let packets = c.in_ok-shares.shares.packets.items in
+    let number : length packets ≡ submitters_of script.settings = c.in_ok-shares.ensures.number ∙ c.submitters.ensures in
+    let shares : lists_of packets ≡ shares_of 0 (submitters_of script.settings) script.items.items =
+    dealt_lists 0 packets script.items.items c.in_ok-shares.ensures.packets ∙ ap (λ n. shares_of 0 n script.items.items) number in
+    c.in_ok-operations.ensures ∙ ap (λ dealt. flat_map operations_of (lists_of dealt)) c.deref.ensures.value
+    ∙ ap (flat_map operations_of) shares

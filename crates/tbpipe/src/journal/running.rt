@@ -1,0 +1,101 @@
+//! A script through a pipeline over a ledger in a file, and the lines of the output.
+
+ghost use Rattle.std.specs.Prelude.{◌≡◌, false};
+ghost use Rattle.tb_core.specs.Journal.{LedgerState};
+ghost use Rattle.tb_durable.specs.Durable.{IsKept};
+ghost use Rattle.tb_program_text.specs.Script.{InBounds};
+
+use crate::journal::committing::put_state;
+use crate::journal::fault::{JournalFault, stop_of};
+use crate::journal::noting::Noting;
+use crate::journal::{Journaled, open_for};
+use sqlite_trees::store::Store;
+use std::alloc::{AllocError, Global};
+use std::sync::Wait;
+use std::thread::Threads;
+use tb_durable::DurableLedger;
+use tb_layout::BATCH_MAX;
+use tb_program::{Output, RunOver, run_over};
+use tb_program_text::{ProgramFault, ScriptParts, put_pulse, put_refused_pulse};
+
+/// Adds the lines of the pulses, and of those that were refused.
+fn put_pulses(out: &mut String, places: &[u64], refused: u64) -> Result<(), AllocError> {
+    for place in places {
+        put_pulse(out, *place)?;
+    }
+    for _ in 0..refused {
+        put_refused_pulse(out)?;
+    }
+    Ok(())
+}
+
+/// Returns what is written of a run.
+fn journaled<S: Store + Drop>(
+    alloc: Global,
+    ran: RunOver<Noting<S>>,
+) -> Result<Journaled, AllocError> {
+    let RunOver {
+        ledger,
+        packets: mut text,
+        operations,
+        refused_pulses,
+    } = ran;
+    put_pulses(&mut text, &ledger.pulses, refused_pulses)?;
+    put_state(&mut text, ledger.ledger.machine())?;
+    Ok(Journaled {
+        output: Output {
+            text,
+            faultless: true,
+            remark: String::new(alloc),
+            operations,
+        },
+        stop: stop_of(&ledger.ledger),
+    })
+}
+
+/// Commits a script to a ledger that hasn't stopped, and notes the places of its pulses.
+fn run_noting<R: Threads + Wait + Sync, S: Store + Drop + Send>(
+    rt: &R,
+    alloc: Global,
+    ledger: DurableLedger<S>,
+    script: ScriptParts,
+) -> Result<RunOver<Noting<S>>, ProgramFault>
+    requires bounds { InBounds script.settings }
+    requires known { (now : LedgerState) × IsKept (S.Store.view ledger.table.store) ledger.bare now }
+    requires goes_on { ledger.bare.stopped ≡ false }
+{
+    let noting = Noting {
+        ledger,
+        pulses: Vec::new(alloc),
+        is_full: false,
+    };
+    run_over(rt, alloc, noting, script)
+}
+
+/// Commits a script to the ledger of a store, with a thread for each submitter. Packets are numbered from 0, as in each run.
+pub(crate) fn run_script<R: Threads + Wait + Sync, S: Store + Drop + Send>(
+    rt: &R,
+    alloc: Global,
+    store: S,
+    script: ScriptParts,
+) -> Result<Journaled, JournalFault>
+    requires { InBounds script.settings }
+{
+    let ledger = open_for(alloc, store, &script.settings)?;
+    let kept = ledger.settings();
+    if kept.limit < 1 || kept.limit > BATCH_MAX || script.settings.submitters() > kept.submitters {
+        drop(ledger);
+        drop(script);
+        return Err(JournalFault::OtherSettings(kept));
+    }
+    let mut script = script;
+    script.settings.limit = Some(kept.limit);
+    let ran = run_noting(rt, alloc, ledger, script)?;
+    let is_full = ran.ledger.is_full;
+    let journaled = journaled(alloc, ran)?;
+    if is_full {
+        drop(journaled);
+        return Err(JournalFault::NoMemory);
+    }
+    Ok(journaled)
+}
