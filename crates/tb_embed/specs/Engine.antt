@@ -6,6 +6,7 @@ use Rattle.tb_work.specs.Admission.{admission_of}
 use Rattle.tb_work.specs.Ahead.{ahead, items_in, items_from}
 use Rattle.tb_work.specs.Packet.{ReplyValue}
 use Rattle.tb_work.specs.declared.item.Item.{Item}
+use Rattle.tb_work.specs.declared.item.Item.TheVariants as item
 use Rattle.tb_work.specs.declared.item.Ticket.{Ticket}
 use Rattle.tb_work.specs.declared.packet.Packet.{Packet}
 use Rattle.tb_work.specs.declared.refusal.Refusal.{Refusal}
@@ -19,7 +20,9 @@ use Rattle.tb_core.specs.Ledger.{new_ledger}
 use Rattle.tb_core.specs.EndedRun.{Run, IsPrefix}
 use Rattle.tb_core.specs.Grouping.{AreJoined}
 use Rattle.tb_core.specs.Report.{LawfulReport}
-use Rattle.tb_core.specs.BareLedger.{BareLedgerState, HasCommitted, HasSent, with_journal}
+use Rattle.tb_core.specs.BareLedger.{BareLedgerState, HasCommitted, HasSent, halts, with_journal}
+use Rattle.tb_core.specs.declared.parcel.Parcel.{Parcel}
+use Rattle.tb_core.specs.declared.parcel.Parcel.TheVariants.{Batch, Pulse}
 use Rattle.tb_embed.specs.Queued.{AreQueued, ended_queue, packets_in}
 
 -- the front, the bare ledger, the replies that are not read, of each submitter the number of its next packet, and whether
@@ -84,23 +87,49 @@ HoldsNothing engine = (engine.front.held ≡ []) × (engine.unread ≡ [])
 abbrev pub Steps : FrontState → Ticket → FrontState → Type 0
 Steps old ticket new = new ≡ (take_step false old ticket.sender ticket.item).front
 
--- the call added this ticket to what was queued, and the front took it
+-- how many packets and pulses a front passes on
+abbrev pub places_in : List Parcel → ℕ
+places_in [] = 0
+places_in (Batch jobs ∷ parcels) = length jobs + places_in parcels
+places_in (Pulse moment ∷ parcels) = 1 + places_in parcels
+places_in (other ∷ parcels) = places_in parcels
+
+-- how many it passes on of a ticket for which there was memory: the group that it seals, and the ticket itself if it is a pulse
+abbrev pub places_of : FrontState → Ticket → ℕ
+places_of front ticket = places_in (take_step false front ticket.sender ticket.item).parcels
+
+abbrev pub IsPacketItem : Item → Type 0
+IsPacketItem (item.Packet job) = Unit {0}
+IsPacketItem other = ⊥
+
+-- a pulse or the Close, which seals the group held
+abbrev pub IsControl : Item → Type 0
+IsControl (item.Pulse moment) = Unit {0}
+IsControl item.Close = Unit {0}
+IsControl other = ⊥
+
+-- The call added this ticket to what was queued, and the front took it. The engine has stopped only if it had before, or there
+-- were no places for what the front passed on.
 pub record Queues (old : EngineState) (ticket : Ticket) (new : EngineState) : Type 0 where
   pub adds : (start : LedgerState) (queue : List Ticket) (read : List ReplyValue) → Serves start queue read old
       → Serves start (queue ++ ticket ∷ []) read new
   pub steps : Steps old.front ticket new.front
+  pub stopped : has_stopped new ≡ halts old.ledger (places_of old.front ticket)
 
 -- the call added this reply to those that were read, and committed nothing
 pub record Reads (old : EngineState) (reply : ReplyValue) (new : EngineState) : Type 0 where
   pub adds : (start : LedgerState) (queue : List Ticket) (read : List ReplyValue) → Serves start queue read old
       → Serves start queue (read ++ reply ∷ []) new
   pub stays : new.front ≡ old.front
+  pub same : new.ledger ≡ old.ledger
 
--- the call added nothing, and the group held was sealed
+-- The call added nothing, and the group held was sealed. The engine has stopped only if it had before, or there were no places for
+-- the group.
 pub record Continues (old new : EngineState) : Type 0 where
   pub adds : (start : LedgerState) (queue : List Ticket) (read : List ReplyValue) → Serves start queue read old
       → Serves start queue read new
   pub seals : new.front ≡ with_group old.front []
+  pub stopped : has_stopped new ≡ halts old.ledger (length old.front.held)
 
 -- ---- refusals
 
