@@ -1,6 +1,6 @@
 -- An engine: what was queued in it, which replies were read, and what follows. No batch is in it.
 use Rattle.std.specs.Prelude.{◌≡◌, ◌≤◌, ◌==◌, ◌⊎◌, ◌^◌, ◌-◌, ℕ, Bool, false, nat_lt, nat_le, if◌then◌else◌, List, [], ◌∷◌, ◌++◌, ◌+◌, map, length, get_or, Option, Some, None, Result, Ok, Err}
-use Rattle.tb_layout.specs.inside.Limits.{batch_max, moment_max, submitters_max}
+use Rattle.tb_layout.specs.inside.Limits.{batch_max, moment_max, places_max, submitters_max}
 use Rattle.tb_machine.specs.Replay.{State, replay}
 use Rattle.tb_work.specs.Admission.{admission_of}
 use Rattle.tb_work.specs.Ahead.{ahead, items_in, items_from}
@@ -61,10 +61,17 @@ pub record HasTaken (start : LedgerState) (items : List Item) (replies : List Re
   pub passed : AreDecisions items front.closed front.stopped (sent ++ held_by front)
   pub has_sent : HasSent start front.limit sent ledger replies
 
--- since its ledger was `start` this is what was queued in the engine, and these replies were read
+-- with those committed before there are at most 2^63 packets and pulses ahead of the Close
+abbrev pub HasPlaces : LedgerState → List Item → Type 0
+HasPlaces start items = length (inputs start) + length (ahead items) ≤ places_max
+
+-- Since its ledger was `start` this is what was queued in the engine, and these replies were read. The front hasn't stopped, and the
+-- ledger hasn't while there are places.
 pub record Serves (start : LedgerState) (queue : List Ticket) (read : List ReplyValue) (engine : EngineState) : Type 0 where
   pub taken : HasTaken start (items_in queue) (read ++ engine.unread) engine.front engine.ledger
   pub queued : AreQueued engine.front.submitters queue engine.numbers engine.shut
+  pub unstopped : engine.front.stopped ≡ false
+  pub goes : HasPlaces start (items_in queue) → has_stopped engine ≡ false
 
 -- an engine that was opened with these, in which nothing was queued
 pub record IsOpened (clock limit submitters : ℕ) (engine : EngineState) : Type 0 where
@@ -192,8 +199,9 @@ due_since start queue ledger = all_due start.opening (length (inputs start)) (it
 
 -- The engine keeps no journal, but there is one whose replay is the engine's state. It goes on from that of `start`, in groups
 -- lawful under the limit. What it adds is a prefix of what was queued ahead of the Close, and the replies, read and unread,
--- are a prefix of those due by it. Unless something stopped, what is ahead is committed or held. When nothing is held and all
--- replies are read, the report on the run that ends here is lawful.
+-- are a prefix of those due by it. Unless something stopped, what is ahead is committed or held. While there are places nothing
+-- has stopped, however often memory ran out. When nothing is held and all replies are read, the report on the run that ends here is
+-- lawful.
 pub record IsServed (start : LedgerState) (queue : List Ticket) (read : List ReplyValue) (engine : EngineState) : Type 0 where
   pub ledger : LedgerState
   pub own : ledger ≡ with_journal engine.ledger ledger.groups
@@ -207,6 +215,8 @@ pub record IsServed (start : LedgerState) (queue : List Ticket) (read : List Rep
   pub replied : engine.front.held ≡ [] → read ++ engine.unread ≡ due_since start queue ledger
   pub whole : engine.front.stopped ≡ false → ledger.stopped ≡ false
       → inputs_since start ledger ++ inputs_in (held_by engine.front) ≡ ahead (items_in queue)
+  pub goes : HasPlaces start (items_in queue) → (has_stopped engine ≡ false)
+      × (inputs_since start ledger ++ inputs_in (held_by engine.front) ≡ ahead (items_in queue))
   pub report : engine.front.held ≡ [] → engine.unread ≡ [] → LawfulReport (run_of start queue read engine ledger)
 
 -- Whatever was queued and read, in any order of calls.

@@ -436,6 +436,7 @@ impl Engine {
             × (self.new.front.limit ≡ self.old.front.limit)
             × (self.new.front.submitters ≡ self.old.front.submitters) }
         ensures err { IfErr result (λ back. (back ≡ job) × (self.new ≡ self.old)) }
+        ensures front { OnOk result (IsFront self.old.front) }
     {
         if self.unread.reserve(1).is_err() {
             return Err(job);
@@ -469,6 +470,7 @@ impl Engine {
             × (self.new.front.limit ≡ self.old.front.limit)
             × (self.new.front.submitters ≡ self.old.front.submitters) }
         ensures err { IfErr result (λ refusal. (refusal ≡ NoMemoryRefusal) × (self.new ≡ self.old)) }
+        ensures front { OnOk result (IsFront self.old.front) }
     {
         if self.unread.reserve(2).is_err() {
             return Err(Refusal::NoMemory);
@@ -609,7 +611,8 @@ impl Engine {
         if self.unread.reserve(1).is_err() {
             return Err(Refusal::NoMemory);
         }
-        commit_held(&mut self.front, &mut self.ledger, &mut self.unread)
+        commit_held(&mut self.front, &mut self.ledger, &mut self.unread)?;
+        Ok(())
     }
 
     /// Returns the next reply, which stays unread; None if there is none.

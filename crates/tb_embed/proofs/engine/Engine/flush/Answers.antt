@@ -1,6 +1,9 @@
-use Rattle.std.proofs.Common.{ap, sym, ◌∙◌, length}
+use Rattle.std.proofs.Common.{ap, refl, sym, subst, ◌∙◌, ◌++◌, length}
 use Rattle.tb_core.specs.BareLedger.{halts}
 use Rattle.tb_core.specs.Front.{with_group}
+use Rattle.tb_embed.specs.Engine.{HasTaken}
+use Rattle.tb_embed.specs.contracts.engine.Engine.{the_view}
+use Rattle.tb_embed.proofs.EngineRun.{group_serves}
 use Rattle.tb_embed.proofs.Parcels.{halts_at_none, none_of}
 use Rattle.tb_embed.proofs.engine.Engine.flush.Goals as goal
 
@@ -13,3 +16,11 @@ returns-then-not-is_holding-clause-ok c = rw (← c.self.view_is) (
       seals = ap (with_group front) none;
       stopped = halts_at_none c.self.inside.ledger c.places.ensures.few ∙ ap (λ jobs. halts c.self.inside.ledger (length jobs)) (sym none);
     })
+
+pub returns-clause-ok : goal.returns-clause-ok
+returns-clause-ok c = rw (← c.self.view_is) (
+    let old = c.self.inside in
+    let done = c.in_ok-commit_held.ensures in
+    group_serves (the_view old) _
+    (λ start items read has. done.taken start items read (subst (λ replies. HasTaken start items (read ++ replies) old.front old.ledger)
+    (sym c.reserve.ensures.same) has)) done.sealed done.stopped refl refl)

@@ -18,4 +18,4 @@ returns-clause-ok c =
     (subst (λ moment. Steps old.front (ticket_of old.front.submitters (item.Pulse moment)) new.front) c.new.ensures
     c.in_ok-take_control.ensures.steps)
     (subst (λ moment. Stops old (ticket_of old.front.submitters (item.Pulse moment)) new) c.new.ensures
-    c.in_ok-take_control.ensures.stopped) same.0 same.3 refl tt refl open_yet)
+    c.in_ok-take_control.ensures.stopped) c.in_ok-take_control.ensures.front same.0 same.3 refl tt refl open_yet)

@@ -24,7 +24,7 @@ returns-in-Ok-clause-ok c =
     (subst (λ (job : Numbered). Steps old.front (ticket_of submitter (item.Packet job)) new.front)
     c.in_ok-job.ensures.job c.in-Ok.ensures.steps)
     (subst (λ (job : Numbered). Stops old (ticket_of submitter (item.Packet job)) new)
-    c.in_ok-job.ensures.job c.in-Ok.ensures.stopped)
+    c.in_ok-job.ensures.job c.in-Ok.ensures.stopped) c.in-Ok.ensures.front
     same.0 same.1 same.3
     (is_among old submitter (sym c.refusal.ensures ∙ c.in_default.is))
     (subst (λ (s : EngineState). s.front.submitters ≤ length s.numbers) c.self.view_is
