@@ -422,8 +422,8 @@ impl Engine {
         Ok(())
     }
 
-    /// Passes a packet through the front and the ledger. If there is no memory to queue it, to commit the group that it seals, or
-    /// for the accounts and transfers that are due, it is returned and nothing has changed.
+    /// Passes a packet through the front and the ledger. If memory runs out, it is returned and nothing has changed. That is as it
+    /// is queued, as the group that it seals is committed, or as capacity is made for what is due.
     fn take(&mut self, submitter: u32, job: Job) -> Result<(), Job>
         requires { submitter ≤ self.old.front.submitters }
         ensures taken { OnOk result ((start : LedgerState) (items : List ItemValue) (read : List ReplyValue)
@@ -518,7 +518,7 @@ impl Engine {
     ///
     /// Returns the packet with the first refusal that applies, and nothing has changed: `BadSubmitters` if there is no
     /// such submitter, `Stopped` if the engine stopped, `Full` if the submitter has no number left, the refusal of
-    /// `admit`, `NoMemory` if memory runs out for the packet or as what it seals is committed.
+    /// `admit`, `NoMemory`. Memory may run out for the packet, or as the group that it seals is committed.
     pub fn submit(
         &mut self,
         alloc: Global,
