@@ -9,9 +9,10 @@
  * Proved, of the engine behind a handle, for every sequence of calls: what it committed is a prefix of what was queued
  * ahead of kip_shut, in order; the replies read are a prefix of those due, and each is what the state machine gives that
  * packet alone at its place, however packets were joined. Once kip_flush returned KIP_OK and kip_reply KIP_NO_REPLY they
- * are all of them, and unless the engine stopped, all that was queued ahead of kip_shut is committed. A call that returns
- * another status than KIP_OK leaves the engine as it was. A handle may move from one thread to another. Only tested: an
- * engine stops only if memory ran out, and KIP_BUSY.
+ * are all of them, and unless the engine stopped, all that was queued ahead of kip_shut is committed. It stops only if 2^63
+ * packets and pulses aren't enough. A call that returns another status than KIP_OK leaves the engine as it was: after
+ * KIP_NO_MEMORY it can be made again. A handle may move from one thread to another. Only tested: KIP_NO_MEMORY comes only if
+ * an allocation failed, and KIP_BUSY.
  *
  * Memory grows by what is stored: 148 bytes a transfer, and 36 for each id that failed with a code that later transfers
  * with that id get again (id_already_failed). Nothing limits failed ids: who may send transfers may fill memory.
@@ -76,7 +77,7 @@ typedef enum KIP_STATUS {
     KIP_FULL = 5, /* the submitter has no number left */
     KIP_NO_MEMORY = 6,
     KIP_SHUTDOWN = 7, /* kip_pulse or kip_shut after kip_shut */
-    KIP_STOPPED = 8,  /* memory ran out as a batch was committed: nothing more is committed */
+    KIP_STOPPED = 8,  /* 2^63 places are used up: nothing more is committed */
     KIP_BAD_LIMIT = 9,
     KIP_BAD_SUBMITTERS = 11,
     KIP_MOMENT_TOO_LARGE = 12,
@@ -92,7 +93,7 @@ typedef enum KIP_STATUS {
 typedef enum KIP_OUTCOME {
     KIP_OUTCOME_COMMITTED = 0,
     KIP_OUTCOME_SHUTDOWN = 7, /* queued after kip_shut */
-    KIP_OUTCOME_STOPPED = 8,  /* memory ran out at its batch or before */
+    KIP_OUTCOME_STOPPED = 8,  /* there was no place left for its batch */
 } KIP_OUTCOME;
 
 typedef enum KIP_PENDING_STATUS {
@@ -196,8 +197,9 @@ uint32_t kip_reserve(kip_t *kip, size_t accounts, size_t transfers);
 uint32_t kip_close(kip_t *kip);
 
 /* Queues a packet with a copy of the data, and makes capacity for all that it and the packets that wait can create. It
- * waits for neighbours of its operation, until one that doesn't join it, kip_pulse, kip_shut or kip_flush commits it. Data
- * needs no alignment, and isn't read if the packet is refused. Statuses: KIP_CLOSED, KIP_BAD_SUBMITTERS, KIP_STOPPED,
+ * waits for neighbours of its operation, until one that doesn't join it, kip_pulse, kip_shut or kip_flush commits it. A call
+ * for which memory runs out, also as it commits what waits, returns KIP_NO_MEMORY: nothing has changed, and what waits still
+ * does. Data needs no alignment, and isn't read if the packet is refused. Statuses: KIP_CLOSED, KIP_BAD_SUBMITTERS, KIP_STOPPED,
  * KIP_FULL, KIP_INVALID_OPERATION, KIP_INVALID_DATA_SIZE, KIP_TOO_MUCH_DATA, KIP_NO_MEMORY. kip_submit, below, also takes
  * null data of size 0. */
 uint32_t kip_submit_bytes(kip_t *kip, uint32_t submitter, uint8_t operation, const void *data, size_t data_size,

@@ -1,12 +1,12 @@
-/* Lets the Nth allocation fail, for each N. A call that fails returns KIP_NO_MEMORY, or the engine stops and says so in
- * its replies, by kip_stopped and by refusing packets and pulses; replies stay in order, each queued packet has one, and
- * closing frees all. Link with
- * -Wl,--wrap=malloc,--wrap=realloc,--wrap=free. */
+/* Lets the Nth allocation fail, for each N. The call that made it returns KIP_NO_MEMORY, and nothing has changed. It is made
+ * again, and then all goes on as without a failure: each packet's number, each reply and each look-up is the same. The engine
+ * never stops, and closing it frees all. Link with -Wl,--wrap=malloc,--wrap=realloc,--wrap=free. */
 #undef NDEBUG
 #include <assert.h>
 #include <kip.h>
 #include <stdio.h>
 #include <stdlib.h>
+#include <string.h>
 
 void *__real_malloc(size_t size);
 void *__real_realloc(void *at, size_t size);
@@ -34,91 +34,133 @@ void __wrap_free(void *at) {
     __real_free(at);
 }
 
-static kip_account accounts[20];
-static kip_transfer transfers[20];
-static int refused, queued, read_so_far, stopped;
+enum { OPEN, RESERVE, SUBMIT, SEAL, PULSE, FLUSH, SHUT, CALLS };
+static const char *const call_names[CALLS] = {"open", "reserve", "submit", "submit that seals", "pulse", "flush", "shut"};
+static long refused[CALLS];
 
-static void made(void) {
-    for (uint64_t i = 0; i < 20; i++) {
-        accounts[i] = (kip_account){.id = {i + 1, 0}, .ledger = 1, .code = 1};
-        transfers[i] = (kip_transfer){.id = {i + 1, 0}, .debit_account_id = {1, 0}, .credit_account_id = {2, 0},
-                                      .amount = {i, 0}, .timeout = i % 3 ? 0 : 1, .ledger = 1, .code = 1,
-                                      .flags = i % 3 ? 0 : 2};
+/* What a run said, and where it is in that. */
+static unsigned char told[1 << 20], first_told[1 << 20];
+static size_t length, first_length;
+
+static void tell(const void *at, size_t size) {
+    assert(length + size <= sizeof told);
+    memcpy(told + length, at, size);
+    length += size;
+}
+
+/* Tells all that can be looked up. */
+static void tell_state(kip_t *kip) {
+    kip_account account;
+    kip_transfer transfer;
+    kip_counts_t counts;
+    uint64_t clock;
+    uint32_t pending;
+    assert(kip_counts(kip, &counts) == KIP_OK && kip_clock(kip, &clock) == KIP_OK && kip_stopped(kip) == KIP_OK);
+    tell(&counts, sizeof counts);
+    tell(&clock, sizeof clock);
+    for (size_t i = 0; kip_account_at(kip, i, &account) == KIP_OK; i++) tell(&account, sizeof account);
+    for (size_t i = 0; kip_transfer_at(kip, i, &transfer, &pending) == KIP_OK; i++) {
+        tell(&transfer, sizeof transfer);
+        tell(&pending, sizeof pending);
     }
 }
 
-/* A call that queues: it is refused as stopped exactly if the engine is. */
-static int taken(kip_t *kip, uint32_t was, uint32_t status) {
-    assert(was == KIP_OK || was == KIP_STOPPED);
-    assert(status == KIP_OK || status == KIP_NO_MEMORY || status == KIP_STOPPED);
-    assert((status == KIP_STOPPED) == (was == KIP_STOPPED));
-    assert(status == KIP_OK || kip_stopped(kip) == was);
-    refused += status != KIP_OK;
-    return status == KIP_OK;
+/* Whether a call must be made again, since its allocation failed. Then nothing can be seen of it. */
+static int is_again(kip_t *kip, int call, uint32_t status) {
+    if (status == KIP_OK) return 0;
+    assert(status == KIP_NO_MEMORY && countdown == 0 && kip_stopped(kip) == KIP_OK);
+    refused[call]++;
+    size_t before = length;
+    tell_state(kip);
+    size_t once = length;
+    tell_state(kip);
+    assert(memcmp(told + before, told + once, once - before) == 0);
+    length = before;
+    return 1;
 }
 
-static void submitted(kip_t *kip, uint32_t submitter, uint8_t operation, const void *data, size_t size, uint64_t user) {
-    uint64_t number;
-    uint32_t was = kip_stopped(kip);
-    queued += taken(kip, was, kip_submit(kip, submitter, operation, data, size, user, &number));
+static void submitted(kip_t *kip, int call, uint32_t submitter, uint8_t operation, const void *data, size_t size) {
+    uint64_t number = 77;
+    while (is_again(kip, call, kip_submit(kip, submitter, operation, data, size, length, &number))) assert(number == 77);
+    tell(&number, sizeof number);
 }
 
-static void reserved(kip_t *kip, size_t count) {
-    uint32_t status = kip_reserve(kip, count, count);
-    assert(status == KIP_OK || status == KIP_NO_MEMORY);
-    refused += status != KIP_OK;
-}
-
-static void one_round(kip_t *kip, int round, uint64_t *last) {
-    kip_uint128 ids[2] = {{1, 0}, {2, 0}};
-    submitted(kip, 0, 129, accounts, sizeof accounts, 1);
-    submitted(kip, 0, 130, transfers + 2 * round, 4 * sizeof *transfers, 2);
-    submitted(kip, 1, 130, transfers, sizeof transfers, 3);
-    submitted(kip, 1, 131, ids, sizeof ids, 4);
-    uint32_t status = kip_stopped(kip);
-    taken(kip, status, kip_pulse(kip, (uint64_t)round * 1000000000));
-    while ((status = kip_flush(kip)) != KIP_OK) assert(status == KIP_NO_MEMORY), refused++;
+static void read_all(kip_t *kip) {
     kip_reply_t reply;
-    char results[20 * 128];
+    static char results[20 * 128 + 1000 * sizeof(kip_failure)];
+    uint32_t status;
     while ((status = kip_reply(kip, &reply, results, sizeof results)) == KIP_OK) {
-        read_so_far++;
-        assert(reply.outcome == (stopped ? KIP_OUTCOME_STOPPED : reply.outcome));
-        stopped |= reply.outcome == KIP_OUTCOME_STOPPED;
-        assert(!stopped || (kip_stopped(kip) == KIP_STOPPED && !kip_committed(&reply) && !kip_succeeded(&reply)));
-        assert(stopped || (reply.outcome == KIP_OUTCOME_COMMITTED && reply.place >= *last));
-        *last = reply.place;
+        assert(reply.outcome == KIP_OUTCOME_COMMITTED);
+        tell(&reply, sizeof reply);
+        tell(results, reply.size);
     }
-    assert(status == KIP_NO_REPLY && read_so_far == queued);
+    assert(status == KIP_NO_REPLY);
+}
+
+static kip_account accounts[20];
+static kip_transfer transfers[1000];
+static uint64_t made;
+
+/* Of four transfers one is pending, and one fails so that its id is refused later; of eight some are a chain that fails. */
+static void make_transfers(size_t count) {
+    for (size_t i = 0; i < count; i++) {
+        made++;
+        transfers[i] = (kip_transfer){.id = {made, 0}, .debit_account_id = {1, 0}, .credit_account_id = {i % 4 == 2 ? 99 : 2, 0},
+                                      .amount = {i, 0}, .timeout = i % 4 == 1 ? (uint32_t)made : 0, .ledger = 1, .code = 1,
+                                      .flags = i % 4 == 1   ? KIP_TRANSFER_PENDING
+                                               : i % 8 == 5 ? KIP_TRANSFER_LINKED
+                                                            : 0};
+    }
+}
+
+/* What commits the transfers that are held, more each time, so that what is stored of them has to grow. */
+static void held_then(kip_t *kip, int call, size_t count) {
+    kip_uint128 ids[2] = {{1, 0}, {2, 0}};
+    make_transfers(count);
+    submitted(kip, SUBMIT, 0, KIP_OPERATION_CREATE_TRANSFERS, transfers, count * sizeof *transfers);
+    submitted(kip, SUBMIT, 1, KIP_OPERATION_CREATE_TRANSFERS, transfers, sizeof *transfers);
+    if (call == SEAL) submitted(kip, SEAL, 1, KIP_OPERATION_LOOKUP_ACCOUNTS, ids, sizeof ids);
+    if (call == PULSE) while (is_again(kip, PULSE, kip_pulse(kip, count * 1000000000))) continue;
+    if (call == FLUSH) while (is_again(kip, FLUSH, kip_flush(kip))) continue;
+    if (call == SHUT) while (is_again(kip, SHUT, kip_shut(kip))) continue;
+    read_all(kip);
 }
 
 /* Returns whether an allocation failed. */
 static int run(long nth) {
     kip_t kip = {0};
-    uint64_t last = 0;
     long before = live;
-    refused = queued = read_so_far = stopped = 0;
+    uint32_t status;
+    length = made = 0;
     countdown = nth;
-    uint32_t status = kip_open_seeded(&kip, 0, 8190, 2, 3, 5);
-    if (status != KIP_OK) {
-        assert(status == KIP_NO_MEMORY && live == before && !kip.is_open);
-        countdown = -1;
-        return 1;
+    while ((status = kip_open_seeded(&kip, 0, 8190, 2, 3, 5)) != KIP_OK) {
+        assert(status == KIP_NO_MEMORY && countdown == 0 && live == before && !kip.is_open);
+        refused[OPEN]++;
     }
-    for (int round = 0; round < 6; round++) {
-        one_round(&kip, round, &last);
-        reserved(&kip, 40 * (size_t)round);
+    submitted(&kip, SUBMIT, 0, KIP_OPERATION_CREATE_ACCOUNTS, accounts, sizeof accounts);
+    static const int calls[] = {SEAL, PULSE, FLUSH, PULSE, SEAL, FLUSH, SEAL, PULSE, SHUT};
+    for (size_t i = 0; i < sizeof calls / sizeof *calls; i++) {
+        held_then(&kip, calls[i], (size_t)3 << i);
+        while (is_again(&kip, RESERVE, kip_reserve(&kip, 40 * i, 40 * i))) continue;
     }
+    tell_state(&kip);
     int failed = countdown == 0;
     countdown = -1;
     assert(kip_close(&kip) == KIP_OK && live == before);
-    assert(failed || (!refused && !stopped));
     return failed;
 }
 
 int main(void) {
     long nth = 1;
-    made();
-    while (run(nth)) nth++;
+    for (uint64_t i = 0; i < 20; i++) accounts[i] = (kip_account){.id = {i + 1, 0}, .ledger = 1, .code = 1};
+    assert(!run(-1));
+    first_length = length;
+    memcpy(first_told, told, length);
+    for (; run(nth); nth++) assert(length == first_length && memcmp(told, first_told, length) == 0);
+    for (int call = 0; call < CALLS; call++) {
+        assert(refused[call] > 0);
+        printf("%s: %ld allocations failed\n", call_names[call], refused[call]);
+    }
     printf("each of %ld allocations failed once: nothing lost\n", nth - 1);
     return 0;
 }

@@ -337,7 +337,11 @@ class Ledger:
 
     @_locked
     def submit(self, operation, data, submitter=0, user_data=0):
-        """Queues a packet with a copy of its bytes, and returns its number among its submitter's."""
+        """Queues a packet with a copy of its bytes, and returns its number among its submitter's.
+
+        A call for which memory runs out, also as it commits what waits, raises `no_memory`: nothing has changed, and it can be
+        made again.
+        """
         number = ctypes.c_uint64()
         # A bytes object without bytes has an address too, so no null is passed.
         data = data if isinstance(data, bytes) else bytes(data)
@@ -362,7 +366,7 @@ class Ledger:
 
     @_locked
     def stopped(self):
-        """Returns whether memory ran out as a batch was committed: nothing more is committed."""
+        """Returns whether 2^63 places are used up: nothing more is committed."""
         status = self._library.kip_stopped(self._at)
         if status not in (0, STOPPED):
             raise KipError(status)
@@ -404,7 +408,10 @@ class Ledger:
 
     @_locked
     def create_accounts(self, accounts):
-        """Commits one packet, and returns a result for each event that failed."""
+        """Commits one packet, and returns a result for each event that failed.
+
+        If memory runs out as it is committed it stays queued: then `flush` commits it, and `reply` has its results.
+        """
         results = self._committed(CREATE_ACCOUNTS, _pack(accounts, _put_account))
         return [CreateAccountsResult(index, CreateAccountResult(code)) for index, code in struct.iter_unpack("<II", results)]
 

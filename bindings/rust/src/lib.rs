@@ -122,7 +122,7 @@ pub enum Outcome<'a> {
     Committed { place: u64, results: &'a [u8] },
     /// Queued after `shut`.
     Shutdown,
-    /// Memory ran out at this packet or before it.
+    /// There was no place left for its batch.
     Stopped,
 }
 
@@ -238,7 +238,8 @@ impl Ledger {
         done(unsafe { raw::kip_reserve(&mut *self.handle, accounts, transfers) })
     }
 
-    /// Queues a packet with a copy of the data, and returns its number among its submitter's.
+    /// Queues a packet with a copy of the data, and returns its number among its submitter's. A call for which memory runs out,
+    /// also as it commits what waits, is refused as `NoMemory`: nothing has changed, and it can be made again.
     pub fn submit(
         &mut self,
         submitter: u32,
@@ -276,7 +277,7 @@ impl Ledger {
         done(unsafe { raw::kip_flush(&mut *self.handle) })
     }
 
-    /// Returns whether memory ran out as a batch was committed: nothing more is committed.
+    /// Returns whether 2^63 places are used up: nothing more is committed.
     pub fn stopped(&mut self) -> bool {
         unsafe { raw::kip_stopped(&mut *self.handle) == 8 }
     }
@@ -333,7 +334,8 @@ impl Ledger {
         }
     }
 
-    /// Commits one packet of submitter 0, and returns a result for each account that failed.
+    /// Commits one packet of submitter 0, and returns a result for each account that failed. If memory runs out as it is
+    /// committed it stays queued: then `flush` commits it, and `reply` has its results.
     pub fn create_accounts(&mut self, accounts: &[Account]) -> Result<Vec<CreateAccountsResult>, Error> {
         let data: Vec<u8> = accounts.iter().flat_map(Account::to_bytes).collect();
         let results = self.committed(CREATE_ACCOUNTS, &data)?;
@@ -344,7 +346,8 @@ impl Ledger {
         Ok(failures(&results).map(of).collect())
     }
 
-    /// Commits one packet of submitter 0, and returns a result for each transfer that failed.
+    /// Commits one packet of submitter 0, and returns a result for each transfer that failed. If memory runs out as it is
+    /// committed it stays queued, as for `create_accounts`.
     pub fn create_transfers(&mut self, transfers: &[Transfer]) -> Result<Vec<CreateTransfersResult>, Error> {
         let data: Vec<u8> = transfers.iter().flat_map(Transfer::to_bytes).collect();
         let results = self.committed(CREATE_TRANSFERS, &data)?;

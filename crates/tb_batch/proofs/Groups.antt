@@ -1,6 +1,6 @@
 -- One packet more in a group.
-use Rattle.std.proofs.Common.{refl, sym, ap, subst, ◌∙◌, arith, ◌≡◌, ◌==◌, ℕ, ◌+◌, ◌<◌, ◌≤◌, Bool, true, false, nat_le, List, [], ◌∷◌, ◌++◌, ◌&&◌, length, map, append_assoc, append-nil, length-append}
-use Rattle.std.specs.Prelude.{Result, Ok, Err, OnOk, OnErr, IsOk}
+use Rattle.std.proofs.Common.{refl, sym, ap, subst, ◌∙◌, arith, ◌≡◌, ◌==◌, ℕ, ◌+◌, ◌<◌, ◌≤◌, Bool, true, false, nat_le, List, [], ◌∷◌, ◌++◌, ◌&&◌, ◌*◌, ◌/◌, if◌then◌else◌, Some, None, length, map, append_assoc, append-nil, length-append}
+use Rattle.std.specs.Prelude.{Result, Ok, Err, OnOk, OnErr, IsOk, IsSome, unwrap_or}
 use Rattle.std.specs.Result.{is_err}
 use Rattle.std.specs.List.{list_all}
 use Rattle.std.proofs.lemmas.Bool.{and_parts, eqb-true}
@@ -8,7 +8,8 @@ use Rattle.std.proofs.lemmas.Bool.Decides.{nat_tests}
 use Rattle.std.proofs.lemmas.List.{map-append}
 use Rattle.std.proofs.lemmas.List.Folds.{list_all-append}
 use Rattle.std.proofs.lemmas.Grind.{flat_map-append}
-use Rattle.tb_work.specs.Admission.{count_of, admission_of}
+use Rattle.tb_work.proofs.Admissions.{admitted_are_whole}
+use Rattle.tb_work.specs.Admission.{count_of, admission_of, event_size, looks_up}
 use Rattle.tb_work.specs.Packet.{Numbered}
 use Rattle.tb_work.specs.Job.{count_of_all, stub_of}
 use Rattle.tb_batch.specs.declared.parts.Parts.{Parts}
@@ -17,7 +18,7 @@ use Rattle.tb_batch.specs.declared.offered.Offered.{Offered}
 use Rattle.tb_batch.specs.declared.offered.Offered.TheVariants.{Joined, Sealed, Refused}
 use Rattle.tb_batch.specs.BatcherState.{BatcherState, IsBatcherState}
 use Rattle.tb_batch.specs.Offering.{Offers}
-use Rattle.tb_batch.specs.Batch.{HasRoom, IsGroupOf, AreAdmitted, body_of}
+use Rattle.tb_batch.specs.Batch.{HasRoom, IsGroupOf, AreAdmitted, AreParts, body_of}
 
 count_of_all-push : (jobs : List Numbered) (job : Numbered)
     → count_of_all (jobs ++ job ∷ []) ≡ count_of_all jobs + count_of job.packet
@@ -162,3 +163,52 @@ batch_more old new shares events limit job h few taken ok operation jobs stubs b
       sharing = known.0 ∙ sym all_share;
       counted = sym count;
     }
+
+-- ---- the group that a batch was
+
+-- the size of an event
+abbrev pub event_bytes : ℕ → ℕ
+event_bytes operation = if looks_up operation then 16 else 128
+
+sized : (operation : ℕ) → IsSome (event_size operation) → unwrap_or (event_size operation) 0 ≡ event_bytes operation
+sized operation known = by (operation == 129) (operation == 130) (operation == 131) refl refl refl known
+  where
+    by : (a b c : Bool) → (operation == 129) ≡ a → (operation == 130) ≡ b → (operation == 131) ≡ c →
+        IsSome {T = ℕ} (if a then Some 128 else if b then Some 128 else if c then Some 16 else None) →
+        ◌≡◌ {A = ℕ} (unwrap_or (if a then Some 128 else if b then Some 128 else if c then Some 16 else None) 0)
+        (if c then 16 else 128)
+    by true b true is_a is_b is_c known = absurd (omega (arith, eqb-true operation 129 is_a, eqb-true operation 131 is_c))
+    by true b false is_a is_b is_c known = refl
+    by false true true is_a is_b is_c known =
+        absurd (omega (arith, eqb-true operation 130 is_b, eqb-true operation 131 is_c))
+    by false true false is_a is_b is_c known = refl
+    by false false true is_a is_b is_c known = refl
+    by false false false is_a is_b is_c known = cc
+
+body_size : (operation : ℕ) (jobs : List Numbered) → are_of operation jobs ≡ true → AreAdmitted jobs
+    → length (body_of jobs) ≡ count_of_all jobs * event_bytes operation
+body_size operation [] one all = omega arith
+body_size operation (job ∷ jobs) one all =
+    let parts = and_parts (job.packet.operation == operation) (are_of operation jobs) one in
+    let own = eqb-true job.packet.operation operation parts.0 in
+    let bytes = job.packet.bytes in
+    let whole = admitted_are_whole 8190 bytes (event_size job.packet.operation) all.0 in
+    let first : count_of job.packet * event_bytes operation ≡ length bytes =
+    ap (λ size. count_of job.packet * size) (sym (sized job.packet.operation whole.known ∙ ap event_bytes own)) ∙ whole.whole in
+    let rest = body_size operation jobs parts.1 all.1 in
+    length-append bytes (body_of jobs) ∙ sym (grind (arith, first, rest))
+
+pub record IsSized (parts : Parts) (size : ℕ) : Type 0 where
+  pub counted : length parts.body.items / size ≡ count_of_all parts.jobs.items
+  pub few : length parts.body.items / size ≤ 8190
+
+pub body_counted : (parts : Parts) → AreParts parts → IsSized parts (event_bytes parts.operation)
+body_counted parts are =
+    by (looks_up parts.operation)
+    (ap length are.body ∙ body_size parts.operation parts.jobs.items are.lawful.one_operation are.lawful.all_admitted)
+  where
+    by : (lookup : Bool)
+        → length parts.body.items ≡ count_of_all parts.jobs.items * (if lookup then 16 else 128)
+        → IsSized parts (if lookup then 16 else 128)
+    by true size = record { counted = omega (arith, size); few = omega (arith, size, are.lawful.few) }
+    by false size = record { counted = omega (arith, size); few = omega (arith, size, are.lawful.few) }

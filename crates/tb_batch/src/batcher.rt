@@ -169,4 +169,14 @@ impl Batcher {
             None => None,
         }
     }
+
+    /// Holds a batch again that `seal` gave, as the group that it was. Takes no memory, and the cost doesn't depend on how
+    /// much is in it.
+    pub fn hold(&mut self, batch: Batch)
+        requires empty { self.old.jobs ≡ [] }
+        requires group { IsGroup self.old.limit batch }
+        ensures held { self.new ≡ with_group self.old batch }
+    {
+        self.held = Some(Group::of(batch));
+    }
 }

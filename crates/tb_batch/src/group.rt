@@ -125,4 +125,22 @@ impl Group {
     {
         Batch::whole(self.parts)
     }
+
+    /// Returns the group that a batch was before it was sealed. Takes no memory, and reads only the first job.
+    pub(crate) fn of(batch: Batch) -> Group
+        ensures { result ≡ batch }
+    {
+        let parts = batch.into_parts();
+        // If there are others, all of them can share.
+        let shares = match parts.jobs.as_slice().first() {
+            Some(job) => can_share(job),
+            None => false,
+        };
+        let events = parts.events();
+        Group {
+            parts,
+            shares,
+            events,
+        }
+    }
 }

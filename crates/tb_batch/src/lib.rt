@@ -1,8 +1,9 @@
 //! Batches: neighbouring packets of one operation, laid one after the other in one body.
 //!
 //! A `Batcher` holds one group. `offer` lets a packet join it exactly if it may (`offers`); otherwise it seals the group and the
-//! packet begins the next one. `seal` returns the group held, and `None` only if there is none. All memory of a batch is allocated in
-//! `offer`, capacity for its answer included, before anything changes: a rejected packet leaves everything as it was.
+//! packet begins the next one. `seal` returns the group held, and `None` only if there is none; `hold` holds it again. All memory of a
+//! batch is allocated in `offer`, capacity for its answer included, before anything changes: a rejected packet leaves everything as it
+//! was.
 //!
 //! A `Batch` keeps that its body is its packets' data in order and its stubs are theirs. It has at most 8,190 events of one
 //! operation, and an open packet or a lookup is alone in its own. `specs/Grouping.antt` defines what may join.

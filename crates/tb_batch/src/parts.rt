@@ -4,7 +4,8 @@ ghost use Rattle.std.specs.Prelude.{◌≡◌, ◌+◌, ◌<◌, ◌≤◌, ◌+
 ghost use Rattle.tb_layout.specs.inside.Limits.{batch_max};
 ghost use Rattle.tb_work.specs.Admission as spec;
 ghost use Rattle.tb_work.specs.Admission.{admission_of};
-ghost use Rattle.tb_work.specs.Job.{stub_of};
+ghost use Rattle.tb_work.specs.Job.{stub_of, count_of_all};
+ghost use Rattle.tb_batch.specs.Batch.{AreParts};
 
 use crate::size::Size;
 use std::alloc::Global;
@@ -108,5 +109,14 @@ impl Parts {
             .unwrap();
         self.stubs.push_reserved(job.stub());
         self.jobs.push_reserved(job);
+    }
+
+    /// Returns how many events a batch of these parts has, by the size of its body.
+    pub(crate) fn events(&self) -> u32
+        requires { AreParts self.now }
+        ensures { result ≡ count_of_all self.now.jobs.items }
+    {
+        let size = if looks_up(self.operation) { 16 } else { 128 };
+        (self.body.as_slice().len() / size) as u32
     }
 }

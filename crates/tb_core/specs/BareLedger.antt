@@ -1,5 +1,5 @@
 -- A bare ledger: one that keeps no journal. What it has committed is known only to clauses.
-use Rattle.std.specs.Prelude.{◌≡◌, ◌≤◌, ℕ, ◌+◌, Bool, true, false, ◌||◌, not, nat_lt, List, ◌++◌, length, map, Option, Some, None, option_to_list}
+use Rattle.std.specs.Prelude.{◌≡◌, ◌≤◌, ℕ, ◌+◌, Bool, true, false, ◌||◌, not, nat_lt, List, ◌++◌, length, map, Option, Some, None, option_to_list, if◌then◌else◌}
 use Rattle.std.specs.List.{flat_map}
 use Rattle.tb_layout.specs.Events.{Input}
 use Rattle.tb_layout.specs.Limits.{clock_max}
@@ -62,6 +62,23 @@ grows bare (parcel.Batch jobs) = not (halts bare (length jobs))
 grows bare (parcel.Pulse moment) = not (halts bare 1)
 grows bare (parcel.Return job cause) = false
 grows bare parcel.Last = false
+
+-- whether a ledger has stopped after a parcel for which memory was there: it had before, or there are no places for it
+abbrev pub stops : BareLedgerState → Parcel → Bool
+stops bare (parcel.Batch jobs) = halts bare (length jobs)
+stops bare (parcel.Pulse moment) = halts bare 1
+stops bare (parcel.Return job cause) = bare.stopped
+stops bare parcel.Last = bare.stopped
+
+abbrev pub places_with : BareLedgerState → ℕ → ℕ
+places_with bare count = if halts bare count then bare.places else bare.places + count
+
+-- how many packets and pulses it committed by then
+abbrev pub places_after : BareLedgerState → Parcel → ℕ
+places_after bare (parcel.Batch jobs) = places_with bare (length jobs)
+places_after bare (parcel.Pulse moment) = places_with bare 1
+places_after bare (parcel.Return job cause) = bare.places
+places_after bare parcel.Last = bare.places
 
 -- an entry is whole, and there is one only if the parcel may take memory
 abbrev pub IsEntryIf : Bool → Option Entry → Type 0

@@ -1,6 +1,6 @@
 //! The ledger without its journal.
 
-ghost use Rattle.std.specs.Prelude.{◌≡◌, ◌<◌, ◌≤◌, ◌+◌, ◌++◌, [], ℕ, List, Bool, false, true, length, map, OnOk, OnErr, IfOk, IfErr, None};
+ghost use Rattle.std.specs.Prelude.{◌≡◌, ◌<◌, ◌≤◌, ◌+◌, ◌++◌, [], ℕ, List, Bool, Option, false, true, length, map, OnOk, OnErr, IfOk, IfErr, None};
 ghost use Rattle.tb_layout.specs.Events.{events_of, Input};
 ghost use Rattle.tb_layout.specs.Limits.{clock_max};
 ghost use Rattle.tb_layout.specs.inside.Limits.{places_max};
@@ -161,7 +161,8 @@ impl BareLedger {
     ghost use Rattle.tb_core.specs.Journal.{LedgerState};
     ghost use Rattle.tb_core.specs.Ledger.{new_ledger};
     ghost use Rattle.tb_core.specs.BareLedger.{new_bare_ledger, halts, Applies, HasSent, IsBatch, IsEntryIf, Records};
-    ghost use Rattle.tb_core.specs.BareLedger.{after_refusal, refusal_of};
+    ghost use Rattle.tb_core.specs.BareLedger.{after_refusal, refusal_of, stops, places_after, places_with};
+    ghost use Rattle.tb_core.specs.declared.journal.Entry.{Entry as EntryValue};
     ghost use Rattle.tb_core.specs.AnyLedger.{Applying, IsWithJournal};
 
     /// Returns a ledger that has committed nothing, whose clock starts at a number of nanoseconds, 0 to `CLOCK_MAX`,
@@ -202,7 +203,8 @@ impl BareLedger {
 
     /// Returns how many packets and pulses were committed.
     pub fn places(&self) -> u64
-        ensures { result ≡ self.now.places }
+        ensures count { result ≡ self.now.places }
+        ensures few { self.now.places ≤ places_max }
     {
         self.places
     }
@@ -240,6 +242,8 @@ impl BareLedger {
         ensures entry { IfOk result (λ recorded. IsEntryIf (grows self.old (parcel.Batch batch)) recorded.entry) }
         ensures err { IfErr result (λ back. (back ≡ batch) × (self.new ≡ self.old)) }
         ensures memory { OnErr result (halts self.old (length batch) ≡ false) }
+        ensures counted { OnOk result ((self.new.stopped ≡ halts self.old (length batch))
+            × (self.new.places ≡ places_with self.old (length batch))) }
         ensures some { (0 < length batch) × AreAdmitted batch }
     {
         let count = batch.jobs().len();
@@ -265,6 +269,7 @@ impl BareLedger {
     fn pulse(&mut self, moment: Moment) -> Option<Entry>
         ensures ok { Records false (parcel.Pulse moment) self.old NothingComes result self.new }
         ensures entry { IsEntryIf (grows self.old (parcel.Pulse moment)) result }
+        ensures counted { (self.new.stopped ≡ halts self.old 1) × (self.new.places ≡ places_with self.old 1) }
     {
         if self.halts_at(1) {
             self.stopped = true;
@@ -283,6 +288,8 @@ impl BareLedger {
         ensures err { IfErr result (λ back. (back ≡ parcel) × (self.new ≡ self.old)) }
         ensures memory { OnErr result (grows self.old parcel ≡ true) }
         ensures batch { IfErr result (λ back. IsBatch back) }
+        ensures counted { OnOk result ((self.new.stopped ≡ stops self.old parcel)
+            × (self.new.places ≡ places_after self.old parcel)) }
         ensures some { HasPackets parcel }
     {
         match parcel {
@@ -343,5 +350,26 @@ impl BareLedger {
             }
             Err(parcel) => self.refuse(parcel),
         }
+    }
+    /// Applies one parcel unless an allocation fails. If one does, the parcel is returned, which is a batch, and nothing has
+    /// changed; what isn't committed, however much memory there is, is never returned. So the ledger stops only if it has no
+    /// places left. It takes memory for the facts.
+    pub fn try_apply(&mut self, parcel: Parcel) -> Result<Outcomes, Parcel>
+        ensures ok { IfOk result (λ outcomes. (entry : Option EntryValue) × Records false parcel self.old outcomes entry self.new) }
+        ensures applying { IfOk result (λ outcomes.
+            Applying (IsWithJournal self.old) parcel outcomes (IsWithJournal self.new)) }
+        ensures sent { IfOk result (λ outcomes.
+            (start : LedgerState) (limit : ℕ) (decisions : List Decision) (replies : List ReplyValue)
+            → IsJoinedParcel limit parcel → HasSent start limit decisions self.old replies
+            → HasSent start limit (decisions ++ decisions_in parcel) self.new (replies ++ replies_in outcomes)) }
+        ensures stopped { OnOk result (self.new.stopped ≡ stops self.old parcel) }
+        ensures counted { OnOk result (self.new.places ≡ places_after self.old parcel) }
+        ensures err { IfErr result (λ back. (back ≡ parcel) × (self.new ≡ self.old)) }
+        ensures batch { IfErr result (λ back. IsBatch back) }
+        ensures memory { OnErr result (grows self.old parcel ≡ true) }
+    {
+        let Recorded { outcomes, entry } = self.try_record(parcel)?;
+        drop(entry);
+        Ok(outcomes)
     }
 }

@@ -1,6 +1,6 @@
 //! The front: tickets in, batches out.
 
-ghost use Rattle.std.specs.Prelude.{◌≡◌, ◌<◌, ◌≤◌, ◌==◌, ◌++◌, ◌∷◌, [], length, true, false, not, Some, None, IfOk, OnOk, OnErr, IfErr, IfSome, IfNone};
+ghost use Rattle.std.specs.Prelude.{◌≡◌, ◌<◌, ◌≤◌, ◌==◌, ◌||◌, ◌++◌, ◌∷◌, [], length, true, false, not, Some, None, IfOk, OnOk, OnErr, IfErr, IfSome, IfNone};
 
 use crate::parcel::{Cause, Parcel};
 use arrayvec::ArrayVec;
@@ -117,6 +117,7 @@ impl Front {
         ensures some { IfSome result (λ batch. (batch ≡ self.old.held) × (0 < length self.old.held)) }
         ensures none { IfNone result (self.old.held ≡ []) }
         ensures lawful { IsGroup self.old.limit self.old.held }
+        ensures front { IsFront self.old }
         ensures passes { (items : List ItemValue) (sent : List Decision)
             → AreDecisions items self.old.closed self.old.stopped (sent ++ held_by self.old)
             → AreDecisions items self.new.closed self.new.stopped ((sent ++ decisions_in_batch result) ++ held_by self.new) }
@@ -346,5 +347,15 @@ impl Front {
             Ok(()) => {}
             Err(_) => self.step_refused(parcels, ticket),
         }
+    }
+    /// Holds a batch again that `idle` gave, as the group that it was. Takes no memory, and the cost doesn't depend on how much
+    /// is in it. A front holds nothing after a Close or a stop.
+    pub fn hold(&mut self, batch: Batch)
+        requires empty { self.old.held ≡ [] }
+        requires goes { (self.old.closed || self.old.stopped) ≡ false }
+        requires group { IsGroup self.old.limit batch }
+        ensures held { self.new ≡ with_group self.old batch }
+    {
+        self.batcher.hold(batch);
     }
 }

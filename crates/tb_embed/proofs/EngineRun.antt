@@ -8,13 +8,15 @@ use Rattle.tb_work.specs.Packet.{ReplyValue}
 use Rattle.tb_work.specs.declared.item.Item.{Item}
 use Rattle.tb_work.specs.declared.item.Ticket.{Ticket}
 use Rattle.tb_work.specs.declared.packet.Packet.{Packet}
-use Rattle.tb_core.specs.Front.{held_by}
+use Rattle.tb_core.specs.Front.{FrontState, IsFront, held_by, take_step, with_group}
+use Rattle.tb_core.proofs.TicketDecisions.{has_taken}
 use Rattle.tb_core.specs.inside.Decision.{Admitted, AreDecisions}
-use Rattle.tb_core.specs.BareLedger.{with_journal}
+use Rattle.tb_core.specs.BareLedger.{halts, with_journal}
 use Rattle.tb_core.specs.Journal.{LedgerState}
 use Rattle.tb_core.specs.Run.{Commits, EachPartIsLawful, RunIsLawful}
-use Rattle.tb_embed.specs.Engine.{EngineState, HasTaken, Steps, Queues, sender_refusal, run_of, ServingIsLawful}
+use Rattle.tb_embed.specs.Engine.{EngineState, Continues, HasPlaces, HasTaken, Steps, Queues, has_stopped, places_of, sender_refusal, run_of, ServingIsLawful}
 use Rattle.tb_embed.specs.Queued.{AreQueued, packets_in, ticket_of, packet_ticket}
+use Rattle.tb_embed.proofs.Places.{group_goes, places_before, ticket_goes}
 use Rattle.tb_embed.proofs.Queued.{IsNext, packet_queued, control_queued, passes_ended, queue_ended}
 
 -- what the front and the ledger make of one item more
@@ -24,33 +26,47 @@ Takes old x new =
     → HasTaken start items (read ++ old.unread) old.front old.ledger
     → HasTaken start (items ++ x ∷ []) (read ++ new.unread) new.front new.ledger
 
+-- it has stopped after a ticket only if it had before, or there were no places for what the front passed on
+abbrev pub Stops : EngineState → Ticket → EngineState → Type 0
+Stops old ticket new = has_stopped new ≡ halts old.ledger (places_of old.front ticket)
+
 -- one ticket more, with what its sender may queue next
 serves_more : (old new : EngineState) (ticket : Ticket) (numbers : List ℕ) (shut : Bool) → Takes old ticket.item new
-    → Steps old.front ticket new.front → new.front.submitters ≡ old.front.submitters
+    → Steps old.front ticket new.front → Stops old ticket new → IsFront old.front → ticket.sender ≤ old.front.submitters
+    → new.front.submitters ≡ old.front.submitters
     → ((queue : List Ticket) → AreQueued old.front.submitters queue old.numbers old.shut
     → AreQueued old.front.submitters (queue ++ ticket ∷ []) numbers shut)
     → Queues old ticket (record new { numbers = numbers; shut = shut })
-serves_more old new ticket numbers shut takes steps same more = record {
+serves_more old new ticket numbers shut takes steps stopped is among same more = record {
   adds = λ start queue read serves. record {
     taken = subst (λ (items : List Item). HasTaken start items (read ++ new.unread) new.front new.ledger)
         (sym (map-append (λ (t : Ticket). t.item) queue (ticket ∷ [])))
         (takes start (items_in queue) read serves.taken);
     queued = subst (λ n. AreQueued n (queue ++ ticket ∷ []) numbers shut) (sym same) (more queue serves.queued);
+    unstopped = ap (λ (f : FrontState). f.stopped) steps
+        ∙ (has_taken false old.front ticket (take_step false old.front ticket.sender ticket.item) is among refl).goes_on refl
+        serves.unstopped;
+    goes = λ places.
+        let all = subst (HasPlaces start) (map-append (λ (t : Ticket). t.item) queue (ticket ∷ [])) places in
+        stopped ∙ ticket_goes start (items_in queue) (read ++ old.unread) old.front old.ledger ticket is among serves.taken
+        serves.unstopped (serves.goes (places_before start (items_in queue) (ticket.item ∷ []) all)) all;
   };
   steps = steps;
+  stopped = stopped;
 }
 
 pub packet_serves : (old new : EngineState) (submitter number : ℕ) (packet : Packet)
     → get_or old.numbers submitter 0 ≡ number
     → Takes old (packet_ticket submitter number packet).item new
-    → Steps old.front (packet_ticket submitter number packet) new.front → new.numbers ≡ old.numbers → new.shut ≡ old.shut
+    → Steps old.front (packet_ticket submitter number packet) new.front
+    → Stops old (packet_ticket submitter number packet) new → IsFront old.front → new.numbers ≡ old.numbers → new.shut ≡ old.shut
     → new.front.submitters ≡ old.front.submitters → submitter < old.front.submitters
     → old.front.submitters ≤ length old.numbers →
     Queues old (packet_ticket submitter number packet)
     (record new { numbers = slice_set new.numbers submitter (number + 1) })
-packet_serves old new submitter number packet is takes steps numbers shut same among long =
+packet_serves old new submitter number packet is takes steps stopped front numbers shut same among long =
     let ticket = packet_ticket submitter number packet in
-    serves_more old new ticket (slice_set new.numbers submitter (number + 1)) new.shut takes steps same (λ queue are.
+    serves_more old new ticket (slice_set new.numbers submitter (number + 1)) new.shut takes steps stopped front (omega (arith, among)) same (λ queue are.
     subst (λ ns. AreQueued old.front.submitters (queue ++ ticket ∷ []) (slice_set ns submitter (number + 1)) new.shut)
     (sym numbers) (subst (AreQueued old.front.submitters (queue ++ ticket ∷ [])
     (slice_set old.numbers submitter (number + 1))) (sym shut)
@@ -59,15 +75,34 @@ packet_serves old new submitter number packet is takes steps numbers shut same a
     (packet_queued old.front.submitters queue old.numbers old.shut are submitter packet among long))))
 
 pub control_serves : (old new : EngineState) (x : Item) → Takes old x new
-    → Steps old.front (ticket_of old.front.submitters x) new.front → new.numbers ≡ old.numbers
+    → Steps old.front (ticket_of old.front.submitters x) new.front → Stops old (ticket_of old.front.submitters x) new
+    → IsFront old.front → new.numbers ≡ old.numbers
     → new.front.submitters ≡ old.front.submitters → IsSubmitted old.front.submitters old.front.submitters x
     → IsNext old.front.submitters 0 x → 0 + packets_in (x ∷ []) ≡ 0 → old.shut ≡ false →
     Queues old (ticket_of old.front.submitters x) (record new { shut = is_end x })
-control_serves old new x takes steps numbers same own next none on =
+control_serves old new x takes steps stopped front numbers same own next none on =
     let n = old.front.submitters in
-    serves_more old new (ticket_of n x) new.numbers (is_end x) takes steps same (λ queue are.
+    serves_more old new (ticket_of n x) new.numbers (is_end x) takes steps stopped front (omega arith) same (λ queue are.
     subst (λ ns. AreQueued n (queue ++ ticket_of n x ∷ []) ns (is_end x)) (sym numbers)
     (control_queued n queue old.numbers old.shut are x own next none on))
+
+-- the group held committed
+pub group_serves : (old new : EngineState) → ((start : LedgerState) (items : List Item) (read : List ReplyValue)
+    → HasTaken start items (read ++ old.unread) old.front old.ledger
+    → HasTaken start items (read ++ new.unread) new.front new.ledger) → new.front ≡ with_group old.front []
+    → has_stopped new ≡ halts old.ledger (length old.front.held) → new.numbers ≡ old.numbers → new.shut ≡ old.shut
+    → Continues old new
+group_serves old new takes seals stopped numbers shut = record {
+  adds = λ start queue read serves. record {
+    taken = takes start (items_in queue) read serves.taken;
+    queued = rw (seals, numbers, shut) serves.queued;
+    unstopped = ap (λ (f : FrontState). f.stopped) seals ∙ serves.unstopped;
+    goes = λ places. stopped ∙ group_goes start (items_in queue) (read ++ old.unread) old.front old.ledger serves.taken
+        serves.unstopped (serves.goes places) places;
+  };
+  seals = seals;
+  stopped = stopped;
+}
 
 -- a submitter that isn't refused is one of the engine's
 pub is_among : (engine : EngineState) (submitter : ℕ) → sender_refusal engine submitter ≡ None
@@ -94,6 +129,9 @@ serving_is_lawful each_part run start queue read engine serves =
       due = far.due;
       replied = λ none. far.replied (ap (map Admitted) none);
       whole = far.whole;
+      goes = λ places.
+          let goes = serves.goes places in
+          (goes, far.whole serves.unstopped goes);
       report = λ none done. run (run_of start queue read engine ledger) start read
           (queue_ended front.submitters queue engine.numbers engine.shut serves.queued) refl
           (record {

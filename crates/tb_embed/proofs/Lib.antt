@@ -1,5 +1,6 @@
 mod Queued
 mod Opened
 mod Parcels
+mod Places
 mod EngineRun
 mod Replies

@@ -38,8 +38,8 @@ none_queued submitters =
 pub opened_over : (ledger : BareLedgerState) (limit submitters : ℕ) (engine : EngineState) (front : FrontState)
     → engine ≡ record { front = front; ledger = ledger; unread = []; numbers = replicate 16 0; shut = false }
     → front.limit ≡ limit → front.submitters ≡ submitters → AreDecisions [] front.closed front.stopped (held_by front)
-    → ledger.stopped ≡ false → IsOpenedOver ledger limit submitters engine
-opened_over ledger limit submitters engine front is limited counted passes goes =
+    → front.stopped ≡ false → ledger.stopped ≡ false → IsOpenedOver ledger limit submitters engine
+opened_over ledger limit submitters engine front is limited counted passes on goes =
     rw is (record {
       serves = λ groups committed. record {
         taken = record {
@@ -48,6 +48,8 @@ opened_over ledger limit submitters engine front is limited counted passes goes 
           has_sent = nothing_sent ledger groups front.limit committed goes;
         };
         queued = none_queued front.submitters;
+        unstopped = on;
+        goes = λ places. goes;
       };
       own = refl;
       limited = limited;

@@ -1,26 +1,128 @@
--- Parcels that are applied one by one, and the replies that they add.
-use Rattle.std.proofs.Common.{◌≡◌, refl, ℕ, List, [], ◌∷◌, ◌++◌, arith, remove, slice_get, Some, None}
-use Rattle.tb_work.specs.Packet.{ReplyValue}
+-- What a front passes on of a ticket, or of what it holds.
+use Rattle.std.proofs.Common.{◌≡◌, ◌≤◌, ◌+◌, ◌||◌, refl, sym, ap, ◌∙◌, subst, arith, ℕ, Bool, true, false, if◌then◌else◌, List, [], ◌∷◌, ◌++◌, length, map, append-nil}
+use Rattle.std.specs.Prelude.{◌==◌, not}
+use Rattle.std.proofs.lemmas.Bool.Decides.{nat_tests}
+use Rattle.tb_layout.specs.inside.Limits.{places_max}
+use Rattle.tb_work.specs.Packet.{Numbered, ReplyValue}
+use Rattle.tb_work.specs.declared.item.Item.{Item}
+use Rattle.tb_work.specs.declared.item.Item.TheVariants as item
+use Rattle.tb_work.specs.declared.item.Ticket.{Ticket}
+use Rattle.tb_batch.specs.Grouping.{IsGroup}
 use Rattle.tb_core.specs.declared.parcel.Parcel.{Parcel}
-use Rattle.tb_core.specs.Front.{all_decisions_in}
+use Rattle.tb_core.specs.declared.parcel.Parcel.TheVariants.{Pulse}
+use Rattle.tb_core.specs.Front.{FrontState, IsFront, all_decisions_in, group_as_batch, take_result, take_step, with_group}
+use Rattle.tb_core.proofs.TicketDecisions.{has_taken}
 use Rattle.tb_core.specs.Grouping.{AreJoinedParcels}
-use Rattle.tb_core.specs.inside.Decision.{Decision}
+use Rattle.tb_core.specs.inside.Decision.{Decision, Admitted, AreDecisions}
 use Rattle.tb_core.specs.Journal.{LedgerState}
-use Rattle.tb_core.specs.BareLedger.{BareLedgerState, HasSent}
+use Rattle.tb_core.specs.BareLedger.{BareLedgerState, HasSent, halts, places_with}
+use Rattle.tb_embed.specs.Engine.{HasTaken, IsControl, places_in, places_of}
+use Rattle.tb_embed.specs.Queued.{ticket_of}
 
--- all parcels in front of the rest were applied
-pub record AreApplied (start : LedgerState) (limit : ℕ) (decisions : List Decision) (rest : List Parcel) (ledger : BareLedgerState)
-    (replies : List ReplyValue) : Type 0 where
-  pub done : List Decision
-  pub parts : done ++ all_decisions_in rest ≡ decisions
-  pub sent : HasSent start limit done ledger replies
-  pub joined : AreJoinedParcels limit rest
+-- ---- the group held
 
-pub first_out : (parcels rest : List Parcel) (parcel : Parcel) → Some parcel ≡ slice_get parcels 0
-    → rest ≡ remove parcels 0 → parcels ≡ parcel ∷ rest
-first_out [] rest parcel is rest_is = grind arith
-first_out (first ∷ others) rest parcel is rest_is = grind arith
+held_joined : (limit : ℕ) (held : List Numbered) → IsGroup limit held → AreJoinedParcels limit (group_as_batch held)
+held_joined limit [] group = tt
+held_joined limit (job ∷ jobs) group = (group, tt)
 
-pub none_left : (parcels : List Parcel) → None ≡ slice_get parcels 0 → parcels ≡ []
-none_left [] is = refl
-none_left (first ∷ others) is = grind arith
+held_decisions : (held : List Numbered) → all_decisions_in (group_as_batch held) ≡ map Admitted held
+held_decisions [] = refl
+held_decisions (job ∷ jobs) = append-nil (map Admitted (job ∷ jobs))
+
+-- a ledger took these parcels
+abbrev pub Sends : LedgerState → ℕ → List Parcel → BareLedgerState → List ReplyValue → BareLedgerState → List ReplyValue → Type 0
+Sends start limit parcels old before new after =
+    (sent : List Decision) → AreJoinedParcels limit parcels → HasSent start limit sent old before
+    → HasSent start limit (sent ++ all_decisions_in parcels) new after
+
+pub held_taken : (start : LedgerState) (items : List Item) (front : FrontState) (parcels : List Parcel)
+    (old new : BareLedgerState) (before after : List ReplyValue) → parcels ≡ group_as_batch front.held
+    → IsGroup front.limit front.held → Sends start front.limit parcels old before new after
+    → HasTaken start items before front old → HasTaken start items after (with_group front []) new
+held_taken start items front parcels old new before after is group sends has = record {
+  sent = has.sent ++ all_decisions_in parcels;
+  passed = subst (AreDecisions items front.closed front.stopped)
+      (sym (append-nil (has.sent ++ all_decisions_in parcels) ∙ ap (λ ds. has.sent ++ ds) (ap all_decisions_in is
+      ∙ held_decisions front.held))) has.passed;
+  has_sent = sends has.sent (subst (AreJoinedParcels front.limit) (sym is) (held_joined front.limit front.held group))
+      has.has_sent;
+}
+
+-- ---- a ticket
+
+pub ticket_taken : (start : LedgerState) (items : List Item) (front next : FrontState) (ticket : Ticket) (parcels : List Parcel)
+    (old new : BareLedgerState) (before after : List ReplyValue) → IsFront front → ticket.sender ≤ front.submitters
+    → take_result next parcels ≡ take_step false front ticket.sender ticket.item
+    → Sends start front.limit parcels old before new after
+    → HasTaken start items before front old → HasTaken start (items ++ ticket.item ∷ []) after next new
+ticket_taken start items front next ticket parcels old new before after is among step sends has =
+    let taken = has_taken false front ticket (take_result next parcels) is among step in
+    let sent = has.sent ++ all_decisions_in parcels in
+    record {
+      sent = sent;
+      passed = taken.passes items has.sent has.passed;
+      has_sent = subst (λ limit. HasSent start limit sent new after) (sym taken.same.0)
+          (sends has.sent taken.lawful has.has_sent);
+    }
+
+-- ---- a pulse or the Close
+
+nothing_held : (front : FrontState) → front.held ≡ [] → with_group front [] ≡ front
+nothing_held front none = ap (with_group front) (sym none)
+
+-- the front after it, if the group held was sealed before
+pub steps_after : (front : FrontState) (sender : ℕ) (x : Item) → IsFront front → IsControl x →
+    (take_step false (with_group front []) sender x).front ≡ (take_step false front sender x).front
+steps_after front sender (item.Packet job) is control = absurd control
+steps_after front sender (item.Pulse moment) is control = by (front.closed || front.stopped) refl
+  where
+    by : (clear : Bool) → (front.closed || front.stopped) ≡ clear →
+        (if clear then take_result (with_group front []) [] else take_result (with_group front []) (Pulse moment ∷ [])).front
+        ≡ (if clear then take_result front []
+        else take_result (with_group front []) (group_as_batch front.held ++ Pulse moment ∷ [])).front
+    by true clear = nothing_held front (is.clear clear)
+    by false clear = refl
+steps_after front sender item.End is control = absurd control
+steps_after front sender item.Close is control = refl
+
+places_of_group : (held : List Numbered) (parcels : List Parcel)
+    → places_in (group_as_batch held ++ parcels) ≡ length held + places_in parcels
+places_of_group [] parcels = omega arith
+places_of_group (job ∷ jobs) parcels = refl
+
+-- and what the front passes on
+pub places_after_group : (front : FrontState) (sender : ℕ) (x : Item) → IsFront front → IsControl x →
+    length front.held + places_of (with_group front []) (ticket_of sender x) ≡ places_of front (ticket_of sender x)
+places_after_group front sender (item.Packet job) is control = absurd control
+places_after_group front sender (item.Pulse moment) is control = by (front.closed || front.stopped) refl
+  where
+    by : (clear : Bool) → (front.closed || front.stopped) ≡ clear → length front.held
+        + places_in (if clear then take_result (with_group front []) []
+        else take_result (with_group front []) (Pulse moment ∷ [])).parcels
+        ≡ places_in (if clear then take_result front []
+        else take_result (with_group front []) (group_as_batch front.held ++ Pulse moment ∷ [])).parcels
+    by true clear = omega (arith, ap length (is.clear clear))
+    by false clear = sym (places_of_group front.held (Pulse moment ∷ []))
+places_after_group front sender item.End is control = absurd control
+places_after_group front sender item.Close is control = sym (sym (ap places_in (append-nil (group_as_batch front.held)))
+    ∙ places_of_group front.held [])
+
+-- whether a ledger halts after some packets and pulses and then others
+pub halts_after : (old middle : BareLedgerState) (first second : ℕ) → middle.stopped ≡ halts old first
+    → middle.places ≡ places_with old first → halts middle second ≡ halts old (first + second)
+halts_after old middle first second stopped places =
+    by (halts old first) refl
+  where
+    by : (halted : Bool) → halts old first ≡ halted → halts middle second ≡ halts old (first + second)
+    by true is = grind (arith, nat_tests, stopped, places, is)
+    by false is = grind (arith, nat_tests, stopped, places, is)
+
+-- ---- nothing held
+
+-- a ledger that commits nothing halts exactly if it has stopped
+pub halts_at_none : (ledger : BareLedgerState) → ledger.places ≤ places_max → ledger.stopped ≡ halts ledger 0
+halts_at_none ledger few = grind (arith, nat_tests, few)
+
+pub none_of : (held : List Numbered) → not (length held == 0) ≡ false → held ≡ []
+none_of [] is = refl
+none_of (job ∷ jobs) is = grind (arith, nat_tests, is)

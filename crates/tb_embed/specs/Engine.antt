@@ -1,11 +1,12 @@
 -- An engine: what was queued in it, which replies were read, and what follows. No batch is in it.
 use Rattle.std.specs.Prelude.{◌≡◌, ◌≤◌, ◌==◌, ◌⊎◌, ◌^◌, ◌-◌, ℕ, Bool, false, nat_lt, nat_le, if◌then◌else◌, List, [], ◌∷◌, ◌++◌, ◌+◌, map, length, get_or, Option, Some, None, Result, Ok, Err}
-use Rattle.tb_layout.specs.inside.Limits.{batch_max, moment_max, submitters_max}
+use Rattle.tb_layout.specs.inside.Limits.{batch_max, moment_max, places_max, submitters_max}
 use Rattle.tb_machine.specs.Replay.{State, replay}
 use Rattle.tb_work.specs.Admission.{admission_of}
 use Rattle.tb_work.specs.Ahead.{ahead, items_in, items_from}
 use Rattle.tb_work.specs.Packet.{ReplyValue}
 use Rattle.tb_work.specs.declared.item.Item.{Item}
+use Rattle.tb_work.specs.declared.item.Item.TheVariants as item
 use Rattle.tb_work.specs.declared.item.Ticket.{Ticket}
 use Rattle.tb_work.specs.declared.packet.Packet.{Packet}
 use Rattle.tb_work.specs.declared.refusal.Refusal.{Refusal}
@@ -19,7 +20,9 @@ use Rattle.tb_core.specs.Ledger.{new_ledger}
 use Rattle.tb_core.specs.EndedRun.{Run, IsPrefix}
 use Rattle.tb_core.specs.Grouping.{AreJoined}
 use Rattle.tb_core.specs.Report.{LawfulReport}
-use Rattle.tb_core.specs.BareLedger.{BareLedgerState, HasCommitted, HasSent, with_journal}
+use Rattle.tb_core.specs.BareLedger.{BareLedgerState, HasCommitted, HasSent, halts, with_journal}
+use Rattle.tb_core.specs.declared.parcel.Parcel.{Parcel}
+use Rattle.tb_core.specs.declared.parcel.Parcel.TheVariants.{Batch, Pulse}
 use Rattle.tb_embed.specs.Queued.{AreQueued, ended_queue, packets_in}
 
 -- the front, the bare ledger, the replies that are not read, of each submitter the number of its next packet, and whether
@@ -58,10 +61,17 @@ pub record HasTaken (start : LedgerState) (items : List Item) (replies : List Re
   pub passed : AreDecisions items front.closed front.stopped (sent ++ held_by front)
   pub has_sent : HasSent start front.limit sent ledger replies
 
--- since its ledger was `start` this is what was queued in the engine, and these replies were read
+-- with those committed before there are at most 2^63 packets and pulses ahead of the Close
+abbrev pub HasPlaces : LedgerState → List Item → Type 0
+HasPlaces start items = length (inputs start) + length (ahead items) ≤ places_max
+
+-- Since its ledger was `start` this is what was queued in the engine, and these replies were read. The front hasn't stopped, and the
+-- ledger hasn't while there are places.
 pub record Serves (start : LedgerState) (queue : List Ticket) (read : List ReplyValue) (engine : EngineState) : Type 0 where
   pub taken : HasTaken start (items_in queue) (read ++ engine.unread) engine.front engine.ledger
   pub queued : AreQueued engine.front.submitters queue engine.numbers engine.shut
+  pub unstopped : engine.front.stopped ≡ false
+  pub goes : HasPlaces start (items_in queue) → has_stopped engine ≡ false
 
 -- an engine that was opened with these, in which nothing was queued
 pub record IsOpened (clock limit submitters : ℕ) (engine : EngineState) : Type 0 where
@@ -84,23 +94,49 @@ HoldsNothing engine = (engine.front.held ≡ []) × (engine.unread ≡ [])
 abbrev pub Steps : FrontState → Ticket → FrontState → Type 0
 Steps old ticket new = new ≡ (take_step false old ticket.sender ticket.item).front
 
--- the call added this ticket to what was queued, and the front took it
+-- how many packets and pulses a front passes on
+abbrev pub places_in : List Parcel → ℕ
+places_in [] = 0
+places_in (Batch jobs ∷ parcels) = length jobs + places_in parcels
+places_in (Pulse moment ∷ parcels) = 1 + places_in parcels
+places_in (other ∷ parcels) = places_in parcels
+
+-- how many it passes on of a ticket for which there was memory: the group that it seals, and the ticket itself if it is a pulse
+abbrev pub places_of : FrontState → Ticket → ℕ
+places_of front ticket = places_in (take_step false front ticket.sender ticket.item).parcels
+
+abbrev pub IsPacketItem : Item → Type 0
+IsPacketItem (item.Packet job) = Unit {0}
+IsPacketItem other = ⊥
+
+-- a pulse or the Close, which seals the group held
+abbrev pub IsControl : Item → Type 0
+IsControl (item.Pulse moment) = Unit {0}
+IsControl item.Close = Unit {0}
+IsControl other = ⊥
+
+-- The call added this ticket to what was queued, and the front took it. The engine has stopped only if it had before, or there
+-- were no places for what the front passed on.
 pub record Queues (old : EngineState) (ticket : Ticket) (new : EngineState) : Type 0 where
   pub adds : (start : LedgerState) (queue : List Ticket) (read : List ReplyValue) → Serves start queue read old
       → Serves start (queue ++ ticket ∷ []) read new
   pub steps : Steps old.front ticket new.front
+  pub stopped : has_stopped new ≡ halts old.ledger (places_of old.front ticket)
 
 -- the call added this reply to those that were read, and committed nothing
 pub record Reads (old : EngineState) (reply : ReplyValue) (new : EngineState) : Type 0 where
   pub adds : (start : LedgerState) (queue : List Ticket) (read : List ReplyValue) → Serves start queue read old
       → Serves start queue (read ++ reply ∷ []) new
   pub stays : new.front ≡ old.front
+  pub same : new.ledger ≡ old.ledger
 
--- the call added nothing, and the group held was sealed
+-- The call added nothing, and the group held was sealed. The engine has stopped only if it had before, or there were no places for
+-- the group.
 pub record Continues (old new : EngineState) : Type 0 where
   pub adds : (start : LedgerState) (queue : List Ticket) (read : List ReplyValue) → Serves start queue read old
       → Serves start queue read new
   pub seals : new.front ≡ with_group old.front []
+  pub stopped : has_stopped new ≡ halts old.ledger (length old.front.held)
 
 -- ---- refusals
 
@@ -163,8 +199,9 @@ due_since start queue ledger = all_due start.opening (length (inputs start)) (it
 
 -- The engine keeps no journal, but there is one whose replay is the engine's state. It goes on from that of `start`, in groups
 -- lawful under the limit. What it adds is a prefix of what was queued ahead of the Close, and the replies, read and unread,
--- are a prefix of those due by it. Unless something stopped, what is ahead is committed or held. When nothing is held and all
--- replies are read, the report on the run that ends here is lawful.
+-- are a prefix of those due by it. Unless something stopped, what is ahead is committed or held. While there are places nothing
+-- has stopped, however often memory ran out. When nothing is held and all replies are read, the report on the run that ends here is
+-- lawful.
 pub record IsServed (start : LedgerState) (queue : List Ticket) (read : List ReplyValue) (engine : EngineState) : Type 0 where
   pub ledger : LedgerState
   pub own : ledger ≡ with_journal engine.ledger ledger.groups
@@ -178,6 +215,8 @@ pub record IsServed (start : LedgerState) (queue : List Ticket) (read : List Rep
   pub replied : engine.front.held ≡ [] → read ++ engine.unread ≡ due_since start queue ledger
   pub whole : engine.front.stopped ≡ false → ledger.stopped ≡ false
       → inputs_since start ledger ++ inputs_in (held_by engine.front) ≡ ahead (items_in queue)
+  pub goes : HasPlaces start (items_in queue) → (has_stopped engine ≡ false)
+      × (inputs_since start ledger ++ inputs_in (held_by engine.front) ≡ ahead (items_in queue))
   pub report : engine.front.held ≡ [] → engine.unread ≡ [] → LawfulReport (run_of start queue read engine ledger)
 
 -- Whatever was queued and read, in any order of calls.

@@ -1,6 +1,6 @@
 //! The engine.
 
-ghost use Rattle.std.specs.Prelude.{◌≡◌, ◌<◌, ◌≤◌, ◌+◌, ◌++◌, ◌∷◌, [], ℕ, List, Some, None, true, false, length, IfOk, IfErr, OnOk, OnErr, IfSome, IfNone, option_to_list, get_or, slice_get, slice_set};
+ghost use Rattle.std.specs.Prelude.{◌≡◌, ◌<◌, ◌≤◌, ◌+◌, ◌++◌, ◌∷◌, [], ℕ, List, Some, None, true, false, ◌||◌, length, IfOk, IfErr, OnOk, OnErr, IfSome, IfNone, option_to_list, get_or, slice_get, slice_set};
 ghost use Rattle.std.specs.Option.{option_copied};
 ghost use Rattle.std.specs.List.{flat_map};
 ghost use Rattle.tb_layout.specs.Limits.{clock_max};
@@ -15,18 +15,21 @@ ghost use Rattle.tb_work.specs.Packet.{ReplyValue};
 ghost use Rattle.tb_work.specs.declared.item.Item.{Item as ItemValue};
 ghost use Rattle.tb_work.specs.declared.item.Item.TheVariants as item;
 ghost use Rattle.tb_work.specs.declared.refusal.Refusal.TheVariants.{NoMemory as NoMemoryRefusal};
-ghost use Rattle.tb_core.specs.Front.{opening_refusal, all_decisions_in};
+ghost use Rattle.tb_batch.specs.Grouping.{IsGroup};
+ghost use Rattle.tb_core.specs.declared.parcel.Parcel.TheVariants.{Batch as BatchParcel};
+ghost use Rattle.tb_core.specs.Front.{IsFront, opening_refusal, all_decisions_in, group_as_batch, take_result, take_step, takes_memory, with_group};
 ghost use Rattle.tb_core.specs.Grouping.{AreJoinedParcels};
 ghost use Rattle.tb_core.specs.inside.Decision.{Decision};
-ghost use Rattle.tb_core.specs.BareLedger.{HasSent};
+ghost use Rattle.tb_core.specs.BareLedger.{HasSent, halts, places_with};
 ghost use Rattle.tb_core.specs.Journal.{LedgerState};
-ghost use Rattle.tb_embed.specs.Engine.{HasTaken, IsOpened, IsOpenedOver, HoldsNothing, Steps, Queues, Reads, Continues, IsRefusal, either, refusal_in, sender_refusal, packet_with, submit_refusal, pulse_refusal, shut_refusal, has_stopped, state_of};
+ghost use Rattle.tb_embed.specs.Engine.{HasTaken, IsControl, IsPacketItem, IsOpened, IsOpenedOver, HoldsNothing, Steps, places_in, places_of, Queues, Reads, Continues, IsRefusal, either, refusal_in, sender_refusal, packet_with, submit_refusal, pulse_refusal, shut_refusal, has_stopped, state_of};
 ghost use Rattle.tb_embed.specs.Queued.{ticket_of, packet_ticket};
 
 use crate::unread::Unread;
 use arrayvec::ArrayVec;
 use std::alloc::Global;
 use std::marker::Model;
+use tb_batch::Batch;
 use tb_core::{BareLedger, Front, Parcel, Seed};
 use tb_layout::{
     Account, CREATE_ACCOUNTS, CREATE_TRANSFERS, LOOKUP_ACCOUNTS, MOMENT_MAX, Transfer,
@@ -109,17 +112,162 @@ impl Model for Engine {
     ghost invariant = { λ engine. IsEngine engine.limit engine.submitters engine.front engine.numbers };
 }
 
-/// Applies parcels in order, for whose outcomes there is capacity.
-fn apply_all(ledger: &mut BareLedger, unread: &mut Unread, parcels: &mut ArrayVec<Parcel, 2>)
-    requires room { length parcels.old.items ≤ unread.old.room }
-    ensures { (start : LedgerState) (limit : ℕ) (sent : List Decision) (read : List ReplyValue)
-        → AreJoinedParcels limit parcels.old.items
-        → HasSent start limit sent ledger.old (read ++ unread.old.replies)
-        → HasSent start limit (sent ++ all_decisions_in parcels.old.items) ledger.new (read ++ unread.new.replies) }
+/// Applies the parcel, if there is one and capacity for its outcome. If its allocation fails, its batch is returned and nothing
+/// has changed.
+fn apply(ledger: &mut BareLedger, unread: &mut Unread, parcel: Option<Parcel>) -> Result<(), Batch>
+    requires room { 0 < unread.old.room }
+    ensures sent { OnOk result ((start : LedgerState) (limit : ℕ) (sent : List Decision) (read : List ReplyValue)
+        → AreJoinedParcels limit (option_to_list parcel) → HasSent start limit sent ledger.old (read ++ unread.old.replies)
+        → HasSent start limit (sent ++ all_decisions_in (option_to_list parcel)) ledger.new (read ++ unread.new.replies)) }
+    ensures stopped { OnOk result (ledger.new.stopped ≡ halts ledger.old (places_in (option_to_list parcel))) }
+    ensures counted { OnOk result (ledger.new.places ≡ places_with ledger.old (places_in (option_to_list parcel))) }
+    ensures left { OnOk result (unread.old.room ≤ unread.new.room + 1) }
+    ensures batch { IfErr result (λ batch. parcel ≡ Some (BatchParcel batch)) }
+    ensures same { OnErr result ((ledger.new ≡ ledger.old) × (unread.new ≡ unread.old)) }
 {
-    while let Some(parcel) = parcels.pop_at(0) {
-        unread.push(ledger.apply(parcel));
+    // There are never more places than there may be.
+    let _ = ledger.places();
+    let Some(parcel) = parcel else {
+        return Ok(());
+    };
+    match ledger.try_apply(parcel) {
+        Ok(outcomes) => {
+            unread.push(outcomes);
+            Ok(())
+        }
+        Err(Parcel::Batch(batch)) => Err(batch),
+        Err(_) => unreachable!(),
     }
+}
+
+/// Returns the group held as a parcel, and it is no longer held; None if nothing was.
+fn seal(front: &mut Front) -> Option<Parcel>
+    ensures parcel { option_to_list result ≡ group_as_batch front.old.held }
+    ensures left { front.new ≡ with_group front.old [] }
+    ensures front { IsFront front.old }
+{
+    front.idle().map(Parcel::Batch)
+}
+
+/// Commits the group held, for whose outcome there is capacity. If its allocation fails, nothing has changed.
+fn commit_held(front: &mut Front, ledger: &mut BareLedger, unread: &mut Unread) -> Result<(), Refusal>
+    requires room { 0 < unread.old.room }
+    ensures sealed { OnOk result (front.new ≡ with_group front.old []) }
+    ensures taken { OnOk result ((start : LedgerState) (items : List ItemValue) (read : List ReplyValue)
+        → HasTaken start items (read ++ unread.old.replies) front.old ledger.old
+        → HasTaken start items (read ++ unread.new.replies) front.new ledger.new) }
+    ensures stopped { OnOk result (ledger.new.stopped ≡ halts ledger.old (length front.old.held)) }
+    ensures counted { OnOk result (ledger.new.places ≡ places_with ledger.old (length front.old.held)) }
+    ensures left { OnOk result (unread.old.room ≤ unread.new.room + 1) }
+    ensures same { OnErr result ((front.new ≡ front.old) × (ledger.new ≡ ledger.old) × (unread.new ≡ unread.old)) }
+    ensures refusal { IfErr result (λ refusal. refusal ≡ NoMemoryRefusal) }
+    ensures needed { OnErr result (0 < length front.old.held) }
+    ensures front { IsFront front.old }
+{
+    match apply(ledger, unread, seal(front)) {
+        Ok(()) => Ok(()),
+        Err(batch) => {
+            front.hold(batch);
+            Err(Refusal::NoMemory)
+        }
+    }
+}
+
+/// Passes a ticket, of which at most one parcel comes, through a front, and returns the parcel. If its allocation fails, it is
+/// returned and nothing has changed.
+fn offer(front: &mut Front, ticket: Ticket) -> Result<Option<Parcel>, Ticket>
+    requires sender { ticket.sender ≤ front.old.submitters }
+    requires one { length (take_step false front.old ticket.sender ticket.item).parcels ≤ 1 }
+    ensures ok { IfOk result (λ parcel. take_result front.new (option_to_list parcel)
+        ≡ take_step false front.old ticket.sender ticket.item) }
+    ensures err { IfErr result (λ back. (back ≡ ticket) × (front.new ≡ front.old)) }
+    ensures memory { OnErr result (takes_memory front.old ticket.item ≡ true) }
+    ensures front { IsFront front.old }
+{
+    let mut parcels = ArrayVec::new();
+    let mut ticket = ticket;
+    match front.try_take(&mut parcels, &mut ticket) {
+        Ok(()) => Ok(parcels.pop_at(0)),
+        Err(_) => Err(ticket),
+    }
+}
+
+/// Takes the packet out of a front that begins its group, so that the front holds an earlier group again.
+fn take_back(front: &mut Front, batch: Batch) -> Job
+    requires one { length front.old.held ≡ 1 }
+    requires goes { (front.old.closed || front.old.stopped) ≡ false }
+    requires group { IsGroup front.old.limit batch }
+    ensures job { result ∷ [] ≡ front.old.held }
+    ensures held { front.new ≡ with_group front.old batch }
+{
+    let Some(begun) = front.idle() else {
+        unreachable!()
+    };
+    let mut jobs = begun.into_parts().jobs;
+    let Some(job) = jobs.pop() else {
+        unreachable!()
+    };
+    drop(jobs);
+    front.hold(batch);
+    job
+}
+
+/// Passes a packet through a front and a ledger, if there is capacity for an outcome. If an allocation fails, the packet is
+/// returned and nothing has changed.
+fn take_packet(
+    front: &mut Front,
+    ledger: &mut BareLedger,
+    unread: &mut Unread,
+    ticket: Ticket,
+) -> Result<(), Job>
+    requires sender { ticket.sender ≤ front.old.submitters }
+    requires packet { IsPacketItem ticket.item }
+    requires room { 0 < unread.old.room }
+    ensures taken { OnOk result ((start : LedgerState) (items : List ItemValue) (read : List ReplyValue)
+        → HasTaken start items (read ++ unread.old.replies) front.old ledger.old
+        → HasTaken start (items ++ ticket.item ∷ []) (read ++ unread.new.replies) front.new ledger.new) }
+    ensures steps { OnOk result (Steps front.old ticket front.new) }
+    ensures stopped { OnOk result (ledger.new.stopped ≡ halts ledger.old (places_of front.old ticket)) }
+    ensures back { IfErr result (λ job. ticket.item ≡ item.Packet job) }
+    ensures same { OnErr result ((front.new ≡ front.old) × (ledger.new ≡ ledger.old) × (unread.new ≡ unread.old)) }
+    ensures front { IsFront front.old }
+{
+    let parcel = match offer(front, ticket) {
+        Ok(parcel) => parcel,
+        Err(
+            Ticket {
+                sender: _,
+                item: Item::Packet(job),
+            },
+        ) => return Err(job),
+        Err(_) => unreachable!(),
+    };
+    match apply(ledger, unread, parcel) {
+        Ok(()) => Ok(()),
+        Err(batch) => Err(take_back(front, batch)),
+    }
+}
+
+/// Passes a pulse or the Close through a front that holds nothing, and through a ledger, if there is capacity for an
+/// outcome. Allocates nothing.
+fn pass(front: &mut Front, ledger: &mut BareLedger, unread: &mut Unread, ticket: Ticket)
+    requires sender { ticket.sender ≤ front.old.submitters }
+    requires control { IsControl ticket.item }
+    requires empty { front.old.held ≡ [] }
+    requires room { 0 < unread.old.room }
+    ensures taken { (start : LedgerState) (items : List ItemValue) (read : List ReplyValue)
+        → HasTaken start items (read ++ unread.old.replies) front.old ledger.old
+        → HasTaken start (items ++ ticket.item ∷ []) (read ++ unread.new.replies) front.new ledger.new }
+    ensures steps { Steps front.old ticket front.new }
+    ensures stopped { ledger.new.stopped ≡ halts ledger.old (places_of front.old ticket) }
+    ensures front { IsFront front.old }
+{
+    let Ok(parcel) = offer(front, ticket) else {
+        unreachable!()
+    };
+    let Ok(()) = apply(ledger, unread, parcel) else {
+        unreachable!()
+    };
 }
 
 /// Returns how many bytes an event of an operation has; None if there is no such operation.
@@ -274,66 +422,66 @@ impl Engine {
         Ok(())
     }
 
-    /// Returns what is due once an item is queued.
-    fn due_with(&self, item: &Item) -> Due {
-        match item {
-            Item::Packet(job) => {
-                self.due
-                    .with(job.packet(), self.front.is_holding(), self.limit)
-            }
-            Item::Pulse(_) | Item::End | Item::Close => self.due,
-        }
-    }
-
-    /// Passes a ticket through the front and the ledger. If there is no memory to queue it, for its outcomes, or for the
-    /// accounts and transfers that are due, it is returned and nothing has changed.
-    fn take(&mut self, ticket: Ticket) -> Result<(), Ticket>
-        requires { ticket.sender ≤ self.old.front.submitters }
+    /// Passes a packet through the front and the ledger. If memory runs out, it is returned and nothing has changed. That is as it
+    /// is queued, as the group that it seals is committed, or as capacity is made for what is due.
+    fn take(&mut self, submitter: u32, job: Job) -> Result<(), Job>
+        requires { submitter ≤ self.old.front.submitters }
         ensures taken { OnOk result ((start : LedgerState) (items : List ItemValue) (read : List ReplyValue)
             → HasTaken start items (read ++ self.old.unread) self.old.front self.old.ledger
-            → HasTaken start (items ++ ticket.item ∷ []) (read ++ self.new.unread) self.new.front self.new.ledger) }
-        ensures steps { OnOk result (Steps self.old.front ticket self.new.front) }
+            → HasTaken start (items ++ item.Packet job ∷ []) (read ++ self.new.unread) self.new.front self.new.ledger) }
+        ensures steps { OnOk result (Steps self.old.front (ticket_of submitter (item.Packet job)) self.new.front) }
+        ensures stopped { OnOk result (has_stopped self.new
+            ≡ halts self.old.ledger (places_of self.old.front (ticket_of submitter (item.Packet job)))) }
         ensures same { (self.new.numbers ≡ self.old.numbers) × (self.new.shut ≡ self.old.shut)
             × (self.new.front.limit ≡ self.old.front.limit)
             × (self.new.front.submitters ≡ self.old.front.submitters) }
-        ensures err { IfErr result (λ back. (back ≡ ticket) × (self.new ≡ self.old)) }
+        ensures err { IfErr result (λ back. (back ≡ job) × (self.new ≡ self.old)) }
+        ensures front { OnOk result (IsFront self.old.front) }
     {
-        if self.unread.reserve(2).is_err() {
-            return Err(ticket);
+        if self.unread.reserve(1).is_err() {
+            return Err(job);
         }
-        let due = self.due_with(&ticket.item);
+        let due = self
+            .due
+            .with(job.packet(), self.front.is_holding(), self.limit);
         if self.ledger.reserve(due.accounts, due.transfers).is_err() {
-            return Err(ticket);
+            return Err(job);
         }
-        let mut parcels = ArrayVec::new();
-        let mut ticket = ticket;
-        match self.front.try_take(&mut parcels, &mut ticket) {
-            Ok(()) => {}
-            Err(_) => return Err(ticket),
-        }
+        let ticket = Ticket {
+            sender: submitter,
+            item: Item::Packet(job),
+        };
+        take_packet(&mut self.front, &mut self.ledger, &mut self.unread, ticket)?;
         self.due = due;
-        let count = parcels.len();
-        prove!(count <= 2);
-        apply_all(&mut self.ledger, &mut self.unread, &mut parcels);
         Ok(())
     }
 
-    /// Passes an item of the control through the front and the ledger.
+    /// Commits the group held, and passes a pulse or the Close through the front and the ledger. If memory runs out, nothing has
+    /// changed.
     fn take_control(&mut self, item: Item) -> Result<(), Refusal>
+        requires { IsControl item }
         ensures taken { OnOk result ((start : LedgerState) (items : List ItemValue) (read : List ReplyValue)
             → HasTaken start items (read ++ self.old.unread) self.old.front self.old.ledger
             → HasTaken start (items ++ item ∷ []) (read ++ self.new.unread) self.new.front self.new.ledger) }
         ensures steps { OnOk result (Steps self.old.front (ticket_of self.old.front.submitters item) self.new.front) }
+        ensures stopped { OnOk result (has_stopped self.new
+            ≡ halts self.old.ledger (places_of self.old.front (ticket_of self.old.front.submitters item))) }
         ensures same { (self.new.numbers ≡ self.old.numbers) × (self.new.shut ≡ self.old.shut)
             × (self.new.front.limit ≡ self.old.front.limit)
             × (self.new.front.submitters ≡ self.old.front.submitters) }
         ensures err { IfErr result (λ refusal. (refusal ≡ NoMemoryRefusal) × (self.new ≡ self.old)) }
+        ensures front { OnOk result (IsFront self.old.front) }
     {
+        if self.unread.reserve(2).is_err() {
+            return Err(Refusal::NoMemory);
+        }
+        commit_held(&mut self.front, &mut self.ledger, &mut self.unread)?;
         let ticket = Ticket {
             sender: self.submitters,
             item,
         };
-        self.take(ticket).map_err(|_ticket| Refusal::NoMemory)
+        pass(&mut self.front, &mut self.ledger, &mut self.unread, ticket);
+        Ok(())
     }
 
     /// Returns the first refusal of a packet that doesn't depend on memory or on the packet; None if there is none.
@@ -370,7 +518,7 @@ impl Engine {
     ///
     /// Returns the packet with the first refusal that applies, and nothing has changed: `BadSubmitters` if there is no
     /// such submitter, `Stopped` if the engine stopped, `Full` if the submitter has no number left, the refusal of
-    /// `admit`, `NoMemory`.
+    /// `admit`, `NoMemory`. Memory may run out for the packet, or as the group that it seals is committed.
     pub fn submit(
         &mut self,
         alloc: Global,
@@ -388,22 +536,12 @@ impl Engine {
         }
         let number = self.numbers[submitter as usize];
         let job = Job::new(alloc, submitter, number, self.limit, packet)?;
-        let ticket = Ticket {
-            sender: submitter,
-            item: Item::Packet(job),
-        };
-        match self.take(ticket) {
+        match self.take(submitter, job) {
             Ok(()) => {
                 self.numbers[submitter as usize] = number + 1;
                 Ok(number)
             }
-            Err(
-                Ticket {
-                    sender: _,
-                    item: Item::Packet(job),
-                },
-            ) => Err((job.into_packet(), Refusal::NoMemory)),
-            Err(_) => unreachable!(),
+            Err(job) => Err((job.into_packet(), Refusal::NoMemory)),
         }
     }
 
@@ -466,14 +604,14 @@ impl Engine {
         ensures needed { OnErr result (0 < length self.old.front.held) }
     {
         if !self.front.is_holding() {
+            // There are never more places than there may be.
+            let _ = self.ledger.places();
             return Ok(());
         }
         if self.unread.reserve(1).is_err() {
             return Err(Refusal::NoMemory);
         }
-        if let Some(batch) = self.front.idle() {
-            self.unread.push(self.ledger.apply(Parcel::Batch(batch)));
-        }
+        commit_held(&mut self.front, &mut self.ledger, &mut self.unread)?;
         Ok(())
     }
 
@@ -547,7 +685,7 @@ impl Engine {
         self.ledger.machine().counts()
     }
 
-    /// Returns whether the engine stopped: memory ran out as a batch was committed, and nothing more is committed.
+    /// Returns whether the engine stopped: 2^63 places are used up, and nothing more is committed.
     pub fn stopped(&self) -> bool
         ensures { result ≡ has_stopped self.now }
     {

@@ -5,7 +5,8 @@ ghost use Rattle.tb_embed.specs.Engine.{RepliesCome, ServingIsLawful};
 use tb_core::{each_part_is_lawful, run_is_lawful};
 
 /// Establishes, for any sequence of calls, that what an engine committed is a prefix of what was queued ahead of the
-/// Close, and its replies a prefix of those due. Once nothing is held or unread, the report is lawful.
+/// Close, and its replies a prefix of those due. While there are places the engine hasn't stopped, and all that is ahead of
+/// the Close is committed or held. Once nothing is held or unread, the report is lawful.
 pub fn serving_is_lawful()
     ensures { ServingIsLawful }
 {

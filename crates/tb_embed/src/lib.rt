@@ -5,6 +5,9 @@
 //! `serving_is_lawful` leads from any sequence of calls to the lawful report of that run. After a `flush` as many calls of
 //! `reply` as packets have unread replies return all of these (`replies_come`).
 //!
+//! A call for which memory runs out is refused as `NoMemory`, and nothing has changed: made again with memory there, it does what it
+//! would have done. An engine stops only if 2^63 places are used up (`stopped` of `Queues` and `Continues`).
+//!
 //! An engine that holds nothing yields its ledger (`Engine::into_ledger`), and another goes on with it (`Engine::over`).
 //!
 //! `calls_in_a_row` in tb_core_tests is an example that the gate compiles.

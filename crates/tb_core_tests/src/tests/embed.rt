@@ -270,3 +270,95 @@ fn looked_up_by_index_and_by_id(rt: HostRuntime) {
     check!(&rt; engine.transfer_status(2) == Some(Status::Pending));
     drop(engine);
 }
+
+/// Makes a call, and once more if memory ran out for it: then nothing has changed, and the memory is there.
+fn got_again(engine: &mut Engine, alloc: Global, call: Call) -> Got {
+    match got_by(engine, alloc, call) {
+        Got::Refused(Refusal::NoMemory) => got_by(engine, alloc, call),
+        got => got,
+    }
+}
+
+/// The calls in a row have their results whichever allocation is refused.
+#[test]
+fn calls_made_again_refused_memory(rt: HostRuntime) {
+    let mut engine = Engine::new(rt.alloc(), 0, 2, 3)
+        .ok()
+        .expect(&rt, "settings");
+    for (step, want) in ROWS.iter() {
+        check!(&rt; got_again(&mut engine, rt.alloc(), *step) == *want);
+    }
+    check!(&rt; engine.clock() == MOMENT_MAX && !engine.stopped());
+    drop(engine);
+}
+
+/// Returns a packet of transfers between an account and none, with ids from here on.
+fn failing(alloc: Global, first_id: u128, count: usize) -> Result<Packet, NoMemory> {
+    let mut made = Vec::new(alloc);
+    for number in 0..count {
+        let id = (number as u128).saturating_add(first_id);
+        made.push(transfer(id, [7, 9], 1, 0))?;
+    }
+    transfers_packet(alloc, made.as_slice())
+}
+
+/// Queues such a packet, which stores the ids of its transfers as failed once it is committed.
+fn submit_failing(engine: &mut Engine, alloc: Global, submitter: u32, count: usize) -> Got {
+    match failing(alloc, count as u128, count) {
+        Ok(packet) => submitted(engine, alloc, submitter, packet),
+        Err(_) => Got::Refused(Refusal::NoMemory),
+    }
+}
+
+/// Queues packets of 4 to 256 failing transfers, and after each makes a call that commits it. Each call is made once more if
+/// memory ran out for it. Returns whether each was done.
+fn commits_of_each_kind(engine: &mut Engine, alloc: Global) -> bool {
+    let calls = [
+        (4, Call::Flush, Got::Done),
+        (8, Call::Pulse(1), Got::Done),
+        (16, Call::Submit(15, LOOKUP_ACCOUNTS, 16), Got::Number(0)),
+        (32, Call::Pulse(2), Got::Done),
+        (64, Call::Submit(15, LOOKUP_ACCOUNTS, 16), Got::Number(1)),
+        (128, Call::Flush, Got::Done),
+        (256, Call::Shut, Got::Done),
+    ];
+    for (number, (count, call, want)) in calls.iter().enumerate() {
+        let queued = match submit_failing(engine, alloc, 3, *count) {
+            Got::Refused(Refusal::NoMemory) => submit_failing(engine, alloc, 3, *count),
+            queued => queued,
+        };
+        if queued != Got::Number(number as u64) || got_again(engine, alloc, *call) != *want {
+            return false;
+        }
+    }
+    true
+}
+
+/// The places of the nine packets: each pulse has one too.
+const PLACES: [(u32, u64, u64); 9] = [
+    (3, 0, 0),
+    (3, 1, 1),
+    (3, 2, 3),
+    (15, 0, 4),
+    (3, 3, 5),
+    (3, 4, 7),
+    (15, 1, 8),
+    (3, 5, 9),
+    (3, 6, 10),
+];
+
+/// With 16 submitters, whatever commits a batch: the map of failed ids has to grow as it is committed.
+#[test]
+fn commits_made_again_refused_memory(rt: HostRuntime) {
+    let mut engine = Engine::new(rt.alloc(), 0, 8190, 16)
+        .ok()
+        .expect(&rt, "settings");
+    check!(&rt; commits_of_each_kind(&mut engine, rt.alloc()));
+    for (submitter, number, place) in PLACES.iter() {
+        let read = got_by(&mut engine, rt.alloc(), Call::Read);
+        check!(&rt; read == Got::Committed(*submitter, *number, *place));
+    }
+    check!(&rt; got_by(&mut engine, rt.alloc(), Call::Read) == Got::Nothing);
+    check!(&rt; engine.counts().failed_ids == 508 && !engine.stopped());
+    drop(engine);
+}

@@ -329,3 +329,26 @@ fn packet_is_answered(rt: HostRuntime) {
     drop(front);
     drop(ledger);
 }
+
+/// Seals the group held and holds it again, as whoever can't commit it does.
+fn hold_again(rt: &impl Abort, front: &mut Front)
+    ensures { front.new.submitters ≡ front.old.submitters }
+{
+    let batch = front.idle().expect(rt, "a group is held");
+    check!(rt; !front.is_holding());
+    front.hold(batch);
+}
+
+/// The next packet joins the group as if it had never been sealed.
+#[test]
+fn group_held_again(rt: HostRuntime) {
+    let mut front = small_front(rt.alloc()).expect(&rt, "memory");
+    assert_taken(&rt, &mut front, 0, FIRST, &[]);
+    hold_again(&rt, &mut front);
+    check!(&rt; front.is_holding());
+    assert_taken(&rt, &mut front, 0, SECOND, &[]);
+    let batch = front.idle().expect(&rt, "a group is held");
+    check!(&rt; batch.jobs().len() == 2);
+    drop(batch);
+    drop(front);
+}

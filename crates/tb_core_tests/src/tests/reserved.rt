@@ -5,7 +5,7 @@ use super::made::{creating, transferring};
 use std::alloc::Global;
 use std::process::Abort;
 use tb_batch::{Batch, Batcher, Offered};
-use tb_core::{BareLedger, Ledger, Parcel};
+use tb_core::{BareLedger, Ledger, Parcel, Seed};
 use tb_embed::Engine;
 use tb_layout::{Account, Transfer};
 use tb_test_makers::{account, check, transfer};
@@ -140,6 +140,48 @@ fn commits_of_an_engine_after_reserve_refused_memory(rt: HostRuntime) {
         reserved_in_engine(rt.alloc()),
     ) {
         assert_commits(&rt, ledger, batches);
+    }
+}
+
+/// Applies a batch, and if it is refused once more: then nothing has changed, and the memory is there. Returns whether it was
+/// refused.
+fn is_refused_at_first(rt: &impl Abort, ledger: &mut BareLedger, batch: Batch, places: u64) -> bool {
+    let parcel = match ledger.try_apply(Parcel::Batch(batch)) {
+        Ok(outcomes) => {
+            drop(outcomes);
+            return false;
+        }
+        Err(parcel) => parcel,
+    };
+    check!(rt; !ledger.stopped() && ledger.places() == places);
+    drop(ledger.try_apply(parcel).ok().expect(rt, "memory is there"));
+    true
+}
+
+/// Applies the batches to a ledger, and says if the first is refused at first.
+fn try_each(rt: &(impl Abort + Print), ledger: &mut BareLedger, batches: Batches) {
+    let Batches {
+        failing,
+        accounts,
+        transfers,
+    } = batches;
+    if is_refused_at_first(rt, ledger, failing, 0) {
+        let _ = println!(rt; "the first commit is refused");
+    }
+    is_refused_at_first(rt, ledger, accounts, 1);
+    is_refused_at_first(rt, ledger, transfers, 2);
+}
+
+/// What a ledger has committed doesn't depend on which allocation was refused.
+#[test]
+fn first_commit_made_again_refused_memory(rt: HostRuntime) {
+    if let Some(batches) = Batches::make(rt.alloc()) {
+        let mut ledger = BareLedger::with_seed(rt.alloc(), 0, Seed::default());
+        try_each(&rt, &mut ledger, batches);
+        check!(&rt; ledger.places() == 3 && !ledger.stopped());
+        let counts = ledger.machine().counts();
+        check!(&rt; (counts.accounts, counts.transfers, counts.failed_ids) == (ACCOUNTS, TRANSFERS, TRANSFERS));
+        drop(ledger);
     }
 }
 

@@ -3,6 +3,7 @@
 use super::{batcher_of, job_of};
 use std::alloc::Global;
 use std::process::Abort;
+use std::slice;
 use tb_batch::{Batch, Batcher, Offered};
 use tb_test_makers::check;
 
@@ -73,6 +74,39 @@ fn joined_up_to_the_limit(rt: HostRuntime) {
     assert_held(&rt, 129, &over, (2, 1_048_320, Some((3, 8189))));
     let many = [(8000, b'J'), (191, b'S'), (8000, b'S')];
     assert_held(&rt, 129, &many, (1, 1_024_000, Some((2, 8000))));
+}
+
+/// Offers packets to a new batcher, asserts the size of their batch, and holds it again. Then a last packet is offered.
+fn assert_held_again(
+    rt: &(impl Abort + Alloc<A = Global>),
+    operation: u8,
+    packets: &[(usize, u8)],
+    wanted: (usize, usize, Option<(u64, u32)>),
+    last: (usize, u8),
+) {
+    let mut batcher = batcher_of(rt, 8190);
+    offer_all(rt, &mut batcher, operation, packets);
+    let batch = batcher.seal().expect(rt, "a batch");
+    check!(rt; size_of(&batch) == wanted);
+    batcher.hold(batch);
+    check!(rt; !batcher.is_empty());
+    offer_all(rt, &mut batcher, operation, slice::from_ref(&last));
+    drop(batcher);
+}
+
+/// A packet joins a batch that is held again exactly if it would have joined it before.
+#[test]
+fn batches_held_again(rt: HostRuntime) {
+    let many = (8190, 1_048_320, Some((8189, 1)));
+    assert_held_again(&rt, 130, &[(1, b'J'); 8190], many, (1, b'S'));
+    let almost = [(8000, b'J'), (189, b'J')];
+    let size = (2, 1_048_192, Some((1, 189)));
+    assert_held_again(&rt, 129, &almost, size, (1, b'J'));
+    assert_held_again(&rt, 129, &almost, size, (2, b'S'));
+    let ids = (1, 131_040, Some((0, 8190)));
+    assert_held_again(&rt, 131, &[(8190, b'J')], ids, (0, b'S'));
+    let one = (1, 16, Some((0, 1)));
+    assert_held_again(&rt, 131, &[(1, b'J')], one, (1, b'S'));
 }
 
 /// A lookup has capacity for an account for each id.

@@ -2,7 +2,7 @@ use Rattle.std.proofs.Common.{refl, sym, subst, ap, ◌∙◌}
 use Rattle.tb_work.specs.declared.item.Item.TheVariants as item
 use Rattle.tb_embed.specs.Engine.{EngineState, Queues, Steps}
 use Rattle.tb_embed.specs.Queued.{ticket_of}
-use Rattle.tb_embed.proofs.EngineRun.{Takes, control_serves}
+use Rattle.tb_embed.proofs.EngineRun.{Stops, Takes, control_serves}
 use Rattle.tb_embed.proofs.engine.Engine.pulse.Goals as goal
 
 pub returns-clause-ok : goal.returns-clause-ok
@@ -16,4 +16,6 @@ returns-clause-ok c =
     (control_serves old new x
     (subst (λ moment. Takes old (item.Pulse moment) new) c.new.ensures c.in_ok-take_control.ensures.taken)
     (subst (λ moment. Steps old.front (ticket_of old.front.submitters (item.Pulse moment)) new.front) c.new.ensures
-    c.in_ok-take_control.ensures.steps) same.0 same.3 refl tt refl open_yet)
+    c.in_ok-take_control.ensures.steps)
+    (subst (λ moment. Stops old (ticket_of old.front.submitters (item.Pulse moment)) new) c.new.ensures
+    c.in_ok-take_control.ensures.stopped) c.in_ok-take_control.ensures.front same.0 same.3 refl tt refl open_yet)

@@ -4,7 +4,7 @@ use Rattle.tb_work.specs.Packet.{Numbered}
 use Rattle.tb_work.specs.declared.item.Item.TheVariants as item
 use Rattle.tb_embed.specs.Engine.{EngineState, Queues, Steps}
 use Rattle.tb_embed.specs.Queued.{packet_ticket, ticket_of}
-use Rattle.tb_embed.proofs.EngineRun.{Takes, packet_serves, is_among}
+use Rattle.tb_embed.proofs.EngineRun.{Stops, Takes, packet_serves, is_among}
 use Rattle.tb_embed.proofs.engine.Engine.submit.Goals as goal
 
 pub returns-in-Ok-clause-ok : goal.returns-in-Ok-clause-ok
@@ -23,6 +23,8 @@ returns-in-Ok-clause-ok c =
     (subst (λ (job : Numbered). Takes old (item.Packet job) new) c.in_ok-job.ensures.job c.in-Ok.ensures.taken)
     (subst (λ (job : Numbered). Steps old.front (ticket_of submitter (item.Packet job)) new.front)
     c.in_ok-job.ensures.job c.in-Ok.ensures.steps)
+    (subst (λ (job : Numbered). Stops old (ticket_of submitter (item.Packet job)) new)
+    c.in_ok-job.ensures.job c.in-Ok.ensures.stopped) c.in-Ok.ensures.front
     same.0 same.1 same.3
     (is_among old submitter (sym c.refusal.ensures ∙ c.in_default.is))
     (subst (λ (s : EngineState). s.front.submitters ≤ length s.numbers) c.self.view_is
