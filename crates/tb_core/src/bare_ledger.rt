@@ -351,6 +351,7 @@ impl BareLedger {
             Err(parcel) => self.refuse(parcel),
         }
     }
+
     /// Applies one parcel unless an allocation fails. If one does, the parcel is returned, which is a batch, and nothing has
     /// changed; what isn't committed, however much memory there is, is never returned. So the ledger stops only if it has no
     /// places left. It takes memory for the facts.

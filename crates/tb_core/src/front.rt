@@ -348,6 +348,7 @@ impl Front {
             Err(_) => self.step_refused(parcels, ticket),
         }
     }
+
     /// Holds a batch again that `idle` gave, as the group that it was. Takes no memory, and the cost doesn't depend on how much
     /// is in it. A front holds nothing after a Close or a stop.
     pub fn hold(&mut self, batch: Batch)
