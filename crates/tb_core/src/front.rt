@@ -243,6 +243,7 @@ impl Front {
     /// Takes one ticket whose allocation succeeds, and puts the parcels that it yields into the list. If the allocation
     /// fails, the ticket and everything else are as before; only a packet that would be taken is ever refused. The
     /// ticket is lent: returning a value of its size, for each ticket, would cost more than the rest.
+    #[inline(always)]
     pub fn try_take(
         &mut self,
         parcels: &mut ArrayVec<Parcel, 2>,
@@ -326,6 +327,7 @@ impl Front {
 
     /// Takes one ticket as `take` does, and puts the parcels that it yields into an empty list. With many tickets this
     /// spares moving the parcels, which are large, for each of them.
+    #[inline(always)]
     pub fn take_into(&mut self, parcels: &mut ArrayVec<Parcel, 2>, ticket: Ticket)
         requires sender { ticket.sender ≤ self.old.submitters }
         requires empty { parcels.old.items ≡ [] }
