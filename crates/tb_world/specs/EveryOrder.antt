@@ -10,9 +10,10 @@ use Rattle.tb_world.specs.declared.event.Event.TheVariants.{Push, Pop, BatchPop}
 use Rattle.tb_core.specs.Due.{due}
 use Rattle.tb_core.specs.Front.{HaveAllEnded}
 use Rattle.tb_core.specs.Journal.{LedgerState, inputs, inputs_since}
-use Rattle.tb_core.specs.EndedRun.{IsPrefix, any_stopped}
+use Rattle.tb_core.specs.EndedRun.{Run, IsPrefix, any_stopped}
 use Rattle.tb_core.specs.Report.{LawfulReport}
 use Rattle.tb_core.specs.Run.{Commits}
+use Rattle.tb_core.specs.TwoRuns.{FollowsOn}
 use Rattle.tb_world.specs.World.{WorldState, is_lawful, received_of, moved, after_event, run, world_over}
 
 -- the ticket that an event pushes
@@ -58,17 +59,20 @@ abbrev pub NoneStopped : ℕ → WorldState → Type 0
 NoneStopped submitters world =
     (submitter : ℕ) → submitter < submitters → any_stopped (received_of world submitter) ≡ false
 
--- the report of a World whose ledger was `start`: its senders queued what they pushed
-abbrev pub Reports : LedgerState → ℕ → List Ticket → WorldState → Type 0
-Reports start submitters queue world =
-    LawfulReport (record {
+-- the run of a World whose ledger was `start`: its senders queued what they pushed
+abbrev pub run_of : LedgerState → ℕ → List Ticket → WorldState → Run
+run_of start submitters queue world =
+    record {
       submitters = submitters;
       queue = queue;
       queued = λ sender. items_from sender queue;
       before = inputs start;
       ledger = world.ledger;
       replies = received_of world;
-    })
+    }
+
+abbrev pub Reports : LedgerState → ℕ → List Ticket → WorldState → Type 0
+Reports start submitters queue world = LawfulReport (run_of start submitters queue world)
 
 -- a World at rest, after these pushes
 pub record IsLawfulAtRest (start : LedgerState) (submitters : ℕ) (queue : List Ticket) (world : WorldState) : Type 0 where
@@ -76,8 +80,8 @@ pub record IsLawfulAtRest (start : LedgerState) (submitters : ℕ) (queue : List
       → received_of world submitter ≡ due start.opening (length (inputs start)) queue (inputs world.ledger) submitter
   pub reports : HaveAllEnded submitters queue → Reports start submitters queue world
 
--- A World after these events, whatever they are, which began over `start`; and what also holds if no allocation failed and
--- there are places for all, and at rest.
+-- A World after these events, whatever they are, which began over `start`, as a run may; and what also holds if no allocation
+-- failed and the ledger has places, and at rest.
 pub record HasRun (start : LedgerState) (limit submitters : ℕ) (events : List Event) (world : WorldState) : Type 0 where
   pub began : Commits start [] start []
   pub is : world ≡ run (world_over start limit submitters) events
@@ -88,3 +92,21 @@ pub record HasRun (start : LedgerState) (limit submitters : ℕ) (events : List 
   pub whole : list_any is_refused events ≡ false
       → HasPlaces start (history (world_over start limit submitters) events) → IsAtRest world
       → inputs_since start world.ledger ≡ ahead (items_in (history (world_over start limit submitters) events))
+
+-- ---- laws
+
+-- a World that began over a ledger goes on with any events
+abbrev pub RunsGoOn : Type 0
+RunsGoOn =
+    (start : LedgerState) (limit submitters : ℕ) (before events : List Event) (world : WorldState)
+    → HasRun start limit submitters before world →
+    HasRun start limit submitters (before ++ events) (run world events)
+
+-- A World that began over the ledger of another follows it. If both have a lawful report, they are as one by tb_core's law
+-- `two_runs_are_one`.
+abbrev pub WorldsFollow : Type 0
+WorldsFollow =
+    (start : LedgerState) (submitters : ℕ) (queue : List Ticket) (first second : WorldState) (limit others : ℕ)
+    (events : List Event) → HasRun first.ledger limit others events second →
+    FollowsOn (run_of start submitters queue first)
+    (run_of first.ledger others (history (world_over first.ledger limit others) events) second)

@@ -190,13 +190,6 @@ UseCredit credit world (event ∷ events) =
 
 -- ---- laws
 
--- a World that began over a ledger goes on with any events
-abbrev pub RunsGoOn : Type 0
-RunsGoOn =
-    (start : LedgerState) (limit submitters : ℕ) (before events : List Event) (world : WorldState)
-    → HasRun start limit submitters before world →
-    HasRun start limit submitters (before ++ events) (run world events)
-
 -- In any state: a step that moves and is no push lowers what is left, also if its allocation fails, a push that moves adds
 -- seven, and nothing is left exactly at rest.
 pub record EachStepCounts : Type 0 where

@@ -24,7 +24,7 @@ mod world;
 pub use event::Event;
 pub use laws::{
     credit_leaves_room, each_step_counts, fair_lists_rest, fair_runs_are_answered, left_is_bounded,
-    none_is_stuck, one_round_is_a_round, runs_go_on,
+    none_is_stuck, one_round_is_a_round, runs_go_on, worlds_follow,
 };
 pub use run::{run_to_rest, run_world};
 pub use world::World;

@@ -197,8 +197,12 @@ impl World {
         })
     }
 
-    /// Returns the ledger of a World at rest, for another run to go on with. What the submitters received is freed. If a
-    /// ticket, a parcel, an outcome or an unread reply is left, or Last isn't applied yet, the World comes back as it was.
+    /// Returns the ledger of a World at rest, for another run to go on with. What the submitters received is freed. Takes no
+    /// memory.
+    ///
+    /// # Errors
+    ///
+    /// The World as it was, if a ticket, a parcel, an outcome or an unread reply is left, or Last isn't cut yet.
     pub fn into_ledger(self) -> Result<Ledger, World>
         ensures ledger { IfOk result (λ ledger. ledger ≡ self.ledger) }
         ensures rest { OnOk result (IsAtRest self) }

@@ -29,7 +29,7 @@ use Rattle.tb_core.proofs.Runs.{so_far}
 use Rattle.tb_world.proofs.orders.Pushed.{none_pushed}
 use Rattle.tb_world.proofs.orders.Holding.{on_the_way, Holds, NextIsApplied, push_holds, pop_holds, batch_push_holds, batch_pop_holds, outcome_push_holds, outcome_pop_holds, reply_push_holds, reply_pop_holds}
 
--- ---- if nothing was refused the next parcel is committed: there are a place for each that is ahead
+-- ---- if nothing was refused the next parcel is committed: there is a place for each that is ahead
 
 fewer_places : (start : LedgerState) (queue others : List Ticket) → HasPlaces start (queue ++ others) → HasPlaces start queue
 fewer_places start queue others room =

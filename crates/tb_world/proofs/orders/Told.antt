@@ -18,13 +18,12 @@ use Rattle.tb_core.specs.Run.{Commits, Ran}
 use Rattle.tb_world.specs.Mailbox.{Mailbox, mailbox_at, after_pop_of}
 use Rattle.tb_world.specs.World.{WorldState, pop, batch_push, batch_pop, outcome_push, outcome_pop, reply_push, reply_pop, received_of, after_event, run, world_over}
 use Rattle.tb_core.specs.EndedRun.{IsPrefix}
-use Rattle.tb_world.specs.EveryOrder.{history, IsAtRest, IsLawfulSoFar, NoneStopped, IsLawfulAtRest, HasRun}
+use Rattle.tb_world.specs.EveryOrder.{history, IsAtRest, IsLawfulSoFar, NoneStopped, IsLawfulAtRest, HasRun, RunsGoOn, WorldsFollow}
 use Rattle.tb_core.proofs.HeadlineLemmas.{is-prefix-trans, prefix-filter}
 use Rattle.tb_core.proofs.FrontDecisions.{ahead-first}
 use Rattle.tb_core.proofs.Runs.{none_of_first, none_among, SoFar, so_far, run_is_lawful}
 use Rattle.tb_world.proofs.orders.Pushed.{numbered_by, queue_of_all}
 use Rattle.tb_world.proofs.orders.Holding.{on_the_way, unrouted, of_all, of_one, shelved, Holds, Goes}
-use Rattle.tb_world.specs.Progress.{RunsGoOn}
 use Rattle.tb_world.proofs.orders.Runs.{GoesOn, all_holds}
 
 -- ---- prefixes
@@ -235,3 +234,7 @@ pub runs_go_on : RunsGoOn
 runs_go_on start limit n before events world ran =
     has_run start limit n (before ++ events) (run world events) ran.began
     (ap (λ (w : WorldState). run w events) ran.is ∙ sym (run_more (world_over start limit n) before events))
+
+pub worlds_follow : WorldsFollow
+worlds_follow start submitters queue first second limit others events ran =
+    record { opening = ran.so_far.opening; before = refl }
