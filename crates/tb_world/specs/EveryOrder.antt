@@ -80,8 +80,8 @@ pub record IsLawfulAtRest (start : LedgerState) (submitters : ℕ) (queue : List
       → received_of world submitter ≡ due start.opening (length (inputs start)) queue (inputs world.ledger) submitter
   pub reports : HaveAllEnded submitters queue → Reports start submitters queue world
 
--- A World after these events, whatever they are, which began over `start`, as a run may; and what also holds if no allocation
--- failed and the ledger has places, and at rest.
+-- A World that began over `start`, as a run may, after these events, whatever they are. Some of it holds if no allocation
+-- failed and the ledger has places, or at rest.
 pub record HasRun (start : LedgerState) (limit submitters : ℕ) (events : List Event) (world : WorldState) : Type 0 where
   pub began : Commits start [] start []
   pub is : world ≡ run (world_over start limit submitters) events

@@ -402,7 +402,7 @@ fn list_over(
 
 /// Plays lists of several numbers of submitters and limits over one ledger, until it has stopped. Returns how many.
 fn lists_in_a_row(rt: &(impl Abort + Alloc<A = Global>), first: u64) -> u64 {
-    let mut ledger = Ledger::new(rt.alloc(), first);
+    let mut ledger = Ledger::new(rt.alloc(), 7);
     for number in 0..6u32 {
         if ledger.stopped() {
             drop(ledger);
