@@ -413,7 +413,8 @@ fn lists_in_a_row(rt: &(impl Abort + Alloc<A = Global>), first: u64) -> u64 {
             limit: 1 + number,
             submitters: 16 - number,
         };
-        ledger = list_over(rt, ledger, setting, first * 6 + u64::from(number));
+        let seed = first.wrapping_mul(6).wrapping_add(u64::from(number));
+        ledger = list_over(rt, ledger, setting, seed);
     }
     drop(ledger);
     6

@@ -2,9 +2,7 @@
 
 use super::{Step, add_words, answer, play};
 use crate::tests::made::{Made, creating, first_transferring};
-use crate::tests::told::{
-    Noted, SIX_PLACES, Told, assert_failures, assert_noted, assert_told,
-};
+use crate::tests::told::{Noted, SIX_PLACES, Told, assert_failures, assert_noted, assert_told};
 use std::alloc::Global;
 use std::process::Abort;
 use tb_core::Ledger;
@@ -181,7 +179,11 @@ fn world_that_holds_something_keeps_its_ledger(rt: HostRuntime) {
         play(&rt, &mut world, steps);
         world = kept(&rt, world);
     }
-    play(&rt, &mut world, "pop pop batch-push batch-pop outcome-push outcome-pop");
+    play(
+        &rt,
+        &mut world,
+        "pop pop batch-push batch-pop outcome-push outcome-pop",
+    );
     assert_told(&rt, world.received(0), &[Told::Committed(0)]);
     let ledger = world.into_ledger().ok().expect(&rt, "it is at rest");
     check!(&rt; ledger.places() == 1);
