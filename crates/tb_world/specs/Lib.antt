@@ -8,3 +8,4 @@ pub use Rattle.tb_core.specs.Front
 pub use Rattle.tb_core.specs.Ledger
 pub use Rattle.tb_core.specs.EndedRun
 pub use Rattle.tb_core.specs.Report
+pub use Rattle.tb_core.specs.TwoRuns

@@ -1,5 +1,5 @@
 -- How a World comes to rest: the steps that are left, rounds, and rings with bounds.
-use Rattle.std.specs.Prelude.{◌≡◌, ◌<◌, ◌≤◌, ◌⊎◌, ℕ, zero, suc, ◌+◌, ◌-◌, ◌*◌, ◌^◌, ◌==◌, Bool, true, false, not, ◌&&◌, if◌then◌else◌, List, [], ◌∷◌, ◌++◌, length, take, sum_by, flat_map, nat_lt, Option, Some, None, is_some, unwrap_or}
+use Rattle.std.specs.Prelude.{◌≡◌, ◌<◌, ◌≤◌, ◌⊎◌, ℕ, zero, suc, ◌+◌, ◌-◌, ◌*◌, ◌==◌, Bool, true, false, not, ◌&&◌, if◌then◌else◌, List, [], ◌∷◌, ◌++◌, length, take, sum_by, flat_map, nat_lt, Option, Some, None, is_some, unwrap_or}
 use Rattle.std.specs.List.{list_any, list_all, AllByRecursion}
 use Rattle.tb_work.specs.Packet.{Numbered, ReplyValue}
 use Rattle.tb_work.specs.declared.item.Item.{Item}
@@ -9,11 +9,12 @@ use Rattle.tb_core.specs.declared.outcomes.Outcomes.{Outcomes}
 use Rattle.tb_core.specs.declared.parcel.Parcel.{Parcel}
 use Rattle.tb_core.specs.declared.parcel.Parcel.TheVariants.{Batch, Return}
 use Rattle.tb_core.specs.Front.{all_ended, group_as_batch}
-use Rattle.tb_core.specs.Run.{replies_in}
+use Rattle.tb_core.specs.Journal.{LedgerState}
+use Rattle.tb_core.specs.Run.{Commits, replies_in}
 use Rattle.tb_world.specs.declared.event.Event.{Event}
 use Rattle.tb_world.specs.declared.event.Event.TheVariants.{Push, Pop, BatchPush, BatchPop, OutcomePush, OutcomePop, ReplyPush, ReplyPop}
 use Rattle.tb_world.specs.Mailbox.{Mailbox, mailbox_at}
-use Rattle.tb_world.specs.World.{WorldState, sender_at, received_of, moved, after_event, run, new_world, takes_memory}
+use Rattle.tb_world.specs.World.{WorldState, sender_at, received_of, moved, after_event, run, world_over, takes_memory}
 use Rattle.tb_world.specs.EveryOrder.{IsAtRest, is_push, is_refused, history, HasRun, IsLawfulAtRest}
 
 -- ---- how many steps are left
@@ -79,24 +80,32 @@ pub record HasFinished (old new : WorldState) : Type 0 where
   pub few : length steps ≤ left old
   pub rest : IsAtRest new
 
--- after some steps, none of them a push, one that moves takes memory
-pub record MayRunOut (old : WorldState) : Type 0 where
+-- some steps, none of them a push, lead to `new`, and then one that moves takes memory
+pub record RunsOut (old new : WorldState) : Type 0 where
   pub steps : List Event
   pub event : Event
-  pub no_push : list_any is_push steps ≡ false
-  pub next : MayMove (run old steps) event
-  pub takes : takes_memory (run old steps) event ≡ true
-
--- Any events, and then steps that end at rest, none of them a push: each submitter has received exactly what is due to it. The
--- steps are at most seven for each ticket that the events pushed.
-pub record HasRested (clock limit submitters : ℕ) (events : List Event) (world : WorldState) : Type 0 where
-  pub steps : List Event
-  pub ran : HasRun clock limit submitters (events ++ steps) world
+  pub leads : new ≡ run old steps
   pub no_push : list_any is_push steps ≡ false
   pub unrefused : list_any is_refused steps ≡ false
-  pub few : length steps ≤ 7 * length (history (new_world clock limit submitters) events)
+  pub next : MayMove new event
+  pub takes : takes_memory new event ≡ true
+
+-- after some steps, none of them a push, one that moves takes memory
+abbrev pub MayRunOut : WorldState → Type 0
+MayRunOut old = (new : WorldState) × RunsOut old new
+
+-- Any events, and then steps that end at rest, none of them a push: each submitter has received exactly what is due to it. The
+-- steps push nothing, and are at most seven for each ticket that the events pushed.
+pub record HasRested (start : LedgerState) (limit submitters : ℕ) (events : List Event) (world : WorldState) : Type 0 where
+  pub steps : List Event
+  pub ran : HasRun start limit submitters (events ++ steps) world
+  pub no_push : list_any is_push steps ≡ false
+  pub none_more : history (world_over start limit submitters) (events ++ steps)
+      ≡ history (world_over start limit submitters) events
+  pub unrefused : list_any is_refused steps ≡ false
+  pub few : length steps ≤ 7 * length (history (world_over start limit submitters) events)
   pub rest : IsAtRest world
-  pub answered : IsLawfulAtRest clock submitters (history (new_world clock limit submitters) events) world
+  pub answered : IsLawfulAtRest start submitters (history (world_over start limit submitters) events) world
 
 -- ---- rounds
 
@@ -191,12 +200,12 @@ pub record EachStepCounts : Type 0 where
   pub rests : (world : WorldState) → left world ≡ 0 → IsAtRest world
   pub ends : (world : WorldState) → IsAtRest world → left world ≡ 0
 
--- Any events from a new World on leave at most seven steps for each ticket that was pushed.
+-- Any events from a World's opening on leave at most seven steps for each ticket that was pushed.
 abbrev pub LeftIsBounded : Type 0
 LeftIsBounded =
-    (clock limit submitters : ℕ) (events : List Event) →
-    left (run (new_world clock limit submitters) events)
-    ≤ 7 * length (history (new_world clock limit submitters) events)
+    (start : LedgerState) (limit submitters : ℕ) (events : List Event) →
+    left (run (world_over start limit submitters) events)
+    ≤ 7 * length (history (world_over start limit submitters) events)
 
 -- No state is stuck, however full its rings are: it is at rest, or a step that finds a free slot moves.
 abbrev pub NoneIsStuck : Type 0
@@ -215,11 +224,11 @@ FairListsRest =
 -- and if all senders have ended the report is lawful.
 abbrev pub FairRunsAreAnswered : Type 0
 FairRunsAreAnswered =
-    (clock limit submitters : ℕ) (events : List Event) (rounds : List (List Event)) (world : WorldState)
+    (start : LedgerState) (limit submitters : ℕ) (events : List Event) (rounds : List (List Event)) (world : WorldState)
     → AllByRecursion (IsRound submitters) rounds →
-    7 * length (history (new_world clock limit submitters) events) ≤ length rounds
-    → HasRun clock limit submitters (events ++ all_of rounds) world
-    → IsLawfulAtRest clock submitters (history (new_world clock limit submitters) events) world
+    7 * length (history (world_over start limit submitters) events) ≤ length rounds
+    → HasRun start limit submitters (events ++ all_of rounds) world
+    → IsLawfulAtRest start submitters (history (world_over start limit submitters) events) world
 
 -- There are rounds.
 abbrev pub OneRoundIsARound : Type 0
@@ -229,7 +238,6 @@ OneRoundIsARound = (submitters : ℕ) → IsRound submitters (one_round submitte
 -- submitter.
 abbrev pub CreditLeavesRoom : Type 0
 CreditLeavesRoom =
-    (clock limit submitters credit slots : ℕ) (events : List Event) → 0 < credit →
-    length (history (new_world clock limit submitters) events) ≤ 2 ^ 63
-    → UseCredit credit (new_world clock limit submitters) events →
-    has_room slots credit (run (new_world clock limit submitters) events) ReplyPush ≡ true
+    (start : LedgerState) (limit submitters credit slots : ℕ) (events : List Event) → Commits start [] start []
+    → 0 < credit → UseCredit credit (world_over start limit submitters) events →
+    has_room slots credit (run (world_over start limit submitters) events) ReplyPush ≡ true

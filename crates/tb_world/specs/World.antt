@@ -156,15 +156,19 @@ abbrev pub run : WorldState → List Event → WorldState
 run world [] = world
 run world (event ∷ events) = run (after_event world event) events
 
+-- one of the events moves and may fail for memory, and those before it lead to `next`
+abbrev pub FailsAt : WorldState → List Event → WorldState → Type 0
+FailsAt world events next =
+    (before : List Event) × (event : Event) × (after : List Event) × (events ≡ before ++ event ∷ after)
+    × (next ≡ run world before) × (is_some (moved next event) ≡ true) × (takes_memory next event ≡ true)
+
 -- one of the events, after those before it, moves and may fail for memory
 abbrev pub TakeMemory : WorldState → List Event → Type 0
-TakeMemory world events =
-    (before : List Event) × (event : Event) × (after : List Event) × (events ≡ before ++ event ∷ after)
-    × (is_some (moved (run world before) event) ≡ true) × (takes_memory (run world before) event ≡ true)
+TakeMemory world events = (next : WorldState) × FailsAt world events next
 
--- a new World
-abbrev pub new_world : ℕ → ℕ → ℕ → WorldState
-new_world clock limit submitters =
+-- a World over a ledger, in which nothing happened
+abbrev pub world_over : LedgerState → ℕ → ℕ → WorldState
+world_over start limit submitters =
     record {
       limit = limit;
       submitters = submitters;
@@ -181,12 +185,16 @@ new_world clock limit submitters =
       parcels = [];
       last_sent = false;
       batches = [];
-      ledger = new_ledger clock;
+      ledger = start;
       outcome = None;
       outcomes = [];
       replies = [];
       mailboxes = replicate submitters empty_mailbox;
     }
+
+-- a World over a new ledger
+abbrev pub new_world : ℕ → ℕ → ℕ → WorldState
+new_world clock limit submitters = world_over (new_ledger clock) limit submitters
 
 -- what is true of a World between its steps: the front takes tickets of these senders
 pub record IsWorld (submitters : ℕ) (front : FrontState) (queue : List Ticket) (senders : List WorldSender) : Type 0 where

@@ -1,6 +1,18 @@
-//! Laws of how a World comes to rest. Each is the clause of a function that does nothing.
+//! Laws of how a World goes on and comes to rest. Each is the clause of a function that does nothing.
 
+ghost use Rattle.tb_world.specs.EveryOrder.{RunsGoOn, WorldsFollow};
 ghost use Rattle.tb_world.specs.Progress.{CreditLeavesRoom, EachStepCounts, FairListsRest, FairRunsAreAnswered, LeftIsBounded, NoneIsStuck, OneRoundIsARound};
+
+/// Establishes that a World that began over a ledger goes on with any events: one that began and then takes events is as
+/// one that takes them all.
+pub fn runs_go_on()
+    ensures { RunsGoOn }
+{}
+
+/// Establishes that a World over the ledger of another follows it: its run begins with what that one committed.
+pub fn worlds_follow()
+    ensures { WorldsFollow }
+{}
 
 /// Establishes that each step lowers the number of steps that are left, that a push adds seven, and that none is left exactly at
 /// rest.

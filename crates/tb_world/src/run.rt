@@ -1,11 +1,14 @@
 //! A list of events.
 
-ghost use Rattle.std.specs.Prelude.{◌≡◌, ◌≤◌, ◌⊎◌, true, is_some, IfOk, OnOk, OnErr};
+ghost use Rattle.std.specs.Prelude.{◌≡◌, ◌≤◌, ◌⊎◌, ◌++◌, ℕ, List, [], true, is_some, IfOk, OnOk, OnErr};
 ghost use Rattle.tb_layout.specs.inside.Limits.{batch_max, submitters_max};
 ghost use Rattle.tb_layout.specs.Limits.{clock_max};
-ghost use Rattle.tb_world.specs.EveryOrder.{HasRun};
-ghost use Rattle.tb_world.specs.Progress.{HasFinished, HasRested, MayRunOut};
-ghost use Rattle.tb_world.specs.World.{TakeMemory, after_event, moved, new_world, run, takes_memory};
+ghost use Rattle.tb_core.specs.Journal.{LedgerState};
+ghost use Rattle.tb_core.specs.Ledger.{new_ledger};
+ghost use Rattle.tb_world.specs.declared.event.Event.{Event as EventValue};
+ghost use Rattle.tb_world.specs.EveryOrder.{HasPlaces, HasRun, history};
+ghost use Rattle.tb_world.specs.Progress.{HasFinished, HasRested, MayRunOut, RunsOut};
+ghost use Rattle.tb_world.specs.World.{FailsAt, TakeMemory, after_event, moved, new_world, run, takes_memory};
 
 use crate::event::Event;
 use crate::world::World;
@@ -15,7 +18,8 @@ use tb_layout::NoMemory;
 /// Takes one event more.
 fn go_on(world: &mut World, event: Event) -> Result<(), NoMemory>
     ensures ok { OnOk result (world.new ≡ after_event world.old event) }
-    ensures memory { OnErr result ((is_some (moved world.old event) ≡ true) × (takes_memory world.old event ≡ true)) }
+    ensures memory { OnErr result ((is_some (moved world.old event) ≡ true) × (takes_memory world.old event ≡ true)
+        × (world.new ≡ world.old)) }
 {
     match world.step(event) {
         Ok(_) => Ok(()),
@@ -23,26 +27,43 @@ fn go_on(world: &mut World, event: Event) -> Result<(), NoMemory>
     }
 }
 
-/// Takes events in order.
-fn go_through(world: &mut World, events: Vec<Event>) -> Result<(), NoMemory>
-    ensures ok { OnOk result (world.new ≡ run world.old events.items) }
-    ensures memory { OnErr result (TakeMemory world.old events.items) }
-{
-    for event in events {
-        go_on(world, event)?;
+impl World {
+    /// Takes events in order; one that returns false is passed over. Only its steps take memory.
+    ///
+    /// # Errors
+    ///
+    /// `NoMemory` if an allocation fails in a step. The World is then as the events before it left it.
+    pub fn go_through(&mut self, events: Vec<Event>) -> Result<(), NoMemory>
+        ensures ok { OnOk result (self.new ≡ run self.old events.items) }
+        ensures ran { OnOk result ((start : LedgerState) (limit : ℕ) (submitters : ℕ) (before : List EventValue)
+            → HasRun start limit submitters before self.old
+            → HasRun start limit submitters (before ++ events.items) self.new) }
+        ensures memory { OnErr result (FailsAt self.old events.items self.new) }
+    {
+        for event in events {
+            go_on(self, event)?;
+        }
+        Ok(())
     }
-    Ok(())
-}
 
-/// Takes steps, none of them a push, until none moves.
-fn finish(world: &mut World) -> Result<(), NoMemory>
-    ensures ok { OnOk result (HasFinished world.old world.new) }
-    ensures memory { OnErr result (MayRunOut world.old) }
-{
-    while let Some(event) = world.next_event() {
-        go_on(world, event)?;
+    /// Takes steps, none of them a push, until none moves. These are at most seven for each ticket that was pushed, and
+    /// each submitter has then received exactly what is due to it. It always returns.
+    ///
+    /// # Errors
+    ///
+    /// `NoMemory` if an allocation fails in a step. The World is then as the steps before it left it.
+    pub fn finish(&mut self) -> Result<(), NoMemory>
+        ensures ok { OnOk result (HasFinished self.old self.new) }
+        ensures rested { OnOk result ((start : LedgerState) (limit : ℕ) (submitters : ℕ) (events : List EventValue)
+            → HasRun start limit submitters events self.old
+            → HasRested start limit submitters events self.new) }
+        ensures memory { OnErr result (RunsOut self.old self.new) }
+    {
+        while let Some(event) = self.next_event() {
+            go_on(self, event)?;
+        }
+        Ok(())
     }
-    Ok(())
 }
 
 /// Returns a World, from a clock in nanoseconds, 0 to `CLOCK_MAX`, on, after events in order; one that returns false is
@@ -61,13 +82,14 @@ pub fn run_world(
     requires clock { clock ≤ clock_max }
     requires limit { (1 ≤ limit) × (limit ≤ batch_max) }
     requires submitters { (1 ≤ submitters) × (submitters ≤ submitters_max) }
-    ensures ran { IfOk result (λ world. HasRun clock limit submitters events.items world) }
+    ensures ran { IfOk result (λ world. HasRun (new_ledger clock) limit submitters events.items world) }
+    ensures places { HasPlaces (new_ledger clock) (history (new_world clock limit submitters) events.items) }
     ensures memory { OnErr result (TakeMemory (new_world clock limit submitters) events.items) }
 {
     let Ok(mut world) = World::new(alloc, clock, limit, submitters) else {
         unreachable!();
     };
-    go_through(&mut world, events)?;
+    world.go_through(events)?;
     Ok(world)
 }
 
@@ -88,11 +110,12 @@ pub fn run_to_rest(
     requires clock { clock ≤ clock_max }
     requires limit { (1 ≤ limit) × (limit ≤ batch_max) }
     requires submitters { (1 ≤ submitters) × (submitters ≤ submitters_max) }
-    ensures rested { IfOk result (λ world. HasRested clock limit submitters events.items world) }
+    ensures rested { IfOk result (λ world. HasRested (new_ledger clock) limit submitters events.items world) }
+    ensures places { HasPlaces (new_ledger clock) (history (new_world clock limit submitters) events.items) }
     ensures memory { OnErr result (TakeMemory (new_world clock limit submitters) events.items
         ⊎ MayRunOut (run (new_world clock limit submitters) events.items)) }
 {
     let mut world = run_world(alloc, clock, limit, submitters, events)?;
-    finish(&mut world)?;
+    world.finish()?;
     Ok(world)
 }

@@ -1,12 +1,14 @@
 //! The stages in one thread, in any order of their steps.
 
-ghost use Rattle.std.specs.Prelude.{◌≡◌, ◌≤◌, ◌<◌, ◌+◌, true, length, replicate, slice_set, Some, None, IfOk, OnOk, IfErr, OnErr, is_some, IfSome, IfNone};
+ghost use Rattle.std.specs.Prelude.{◌≡◌, ◌≤◌, ◌<◌, ◌+◌, [], true, false, length, replicate, slice_set, Some, None, IfOk, OnOk, IfErr, OnErr, is_some, IfSome, IfNone};
 ghost use Rattle.tb_layout.specs.Limits.{clock_max};
 ghost use Rattle.tb_layout.specs.inside.Limits.{submitters_max};
 ghost use Rattle.tb_core.specs.Front.{opening_refusal};
 ghost use Rattle.tb_world.specs.Pushing.{newcomer};
 ghost use Rattle.tb_world.specs.Mailbox.{empty_mailbox};
-ghost use Rattle.tb_world.specs.World.{pending_of, new_world, IsMove, batch_push};
+ghost use Rattle.tb_core.specs.Ledger.{new_ledger};
+ghost use Rattle.tb_world.specs.EveryOrder.{HasRun, IsAtRest};
+ghost use Rattle.tb_world.specs.World.{pending_of, new_world, world_over, IsMove, batch_push};
 ghost use Rattle.tb_world.specs.Progress.{MayMove, left};
 
 use crate::event::Event;
@@ -140,10 +142,44 @@ impl World {
     pub fn new(alloc: Global, clock: u64, limit: u32, submitters: u32) -> Result<World, Refusal>
         requires { clock ≤ clock_max }
         ensures world { IfOk result (λ world. world ≡ new_world clock limit submitters) }
+        ensures ran { IfOk result (λ world. HasRun (new_ledger clock) limit submitters [] world) }
         ensures opens { OnOk result (opening_refusal limit submitters ≡ None) }
         ensures refusal { IfErr result (λ refusal. opening_refusal limit submitters ≡ Some refusal) }
     {
-        let front = Front::new(alloc, limit, submitters)?;
+        match World::over(alloc, Ledger::new(alloc, clock), limit, submitters) {
+            Ok(world) => Ok(world),
+            Err((ledger, refusal)) => {
+                drop(ledger);
+                Err(refusal)
+            }
+        }
+    }
+
+    /// Returns a World over a ledger that an earlier run left and that hasn't stopped. Its clock, its accounts and its
+    /// transfers go on, and places count on; packets are numbered from 0 again. Takes no memory.
+    ///
+    /// # Errors
+    ///
+    /// Those of `new`, with the ledger.
+    pub fn over(
+        alloc: Global,
+        ledger: Ledger,
+        limit: u32,
+        submitters: u32,
+    ) -> Result<World, (Ledger, Refusal)>
+        requires { ledger.stopped ≡ false }
+        ensures world { IfOk result (λ world. world ≡ world_over ledger limit submitters) }
+        ensures ran { IfOk result (λ world. HasRun ledger limit submitters [] world) }
+        ensures opens { OnOk result (opening_refusal limit submitters ≡ None) }
+        ensures refusal { IfErr result (λ refused. opening_refusal limit submitters ≡ Some refused.1) }
+        ensures back { IfErr result (λ refused. refused.0 ≡ ledger) }
+    {
+        // The law that a run may begin with this ledger.
+        let _ = ledger.begin();
+        let front = match Front::new(alloc, limit, submitters) {
+            Ok(front) => front,
+            Err(refusal) => return Err((ledger, refusal)),
+        };
         Ok(World {
             limit,
             submitters,
@@ -153,12 +189,54 @@ impl World {
             parcels: ArrayVec::new(),
             last_sent: false,
             batches: VecDeque::new(alloc),
-            ledger: Ledger::new(alloc, clock),
+            ledger,
             outcome: None,
             outcomes: VecDeque::new(alloc),
             pending: PendingReplies::nothing(),
             mailboxes: Mailboxes::new(alloc, submitters),
         })
+    }
+
+    /// Returns the ledger of a World at rest, for another run to go on with. What the submitters received is freed. Takes no
+    /// memory.
+    ///
+    /// # Errors
+    ///
+    /// The World as it was, if a ticket, a parcel, an outcome or an unread reply is left, or Last isn't cut yet.
+    pub fn into_ledger(self) -> Result<Ledger, World>
+        ensures ledger { IfOk result (λ ledger. ledger ≡ self.ledger) }
+        ensures rest { OnOk result (IsAtRest self) }
+        ensures back { IfErr result (λ back. back ≡ self) }
+        ensures left { OnErr result (IsAtRest self → ⊥) }
+    {
+        if !self.is_at_rest() {
+            return Err(self);
+        }
+        let World {
+            limit: _,
+            submitters: _,
+            senders,
+            queue,
+            front,
+            parcels,
+            last_sent: _,
+            batches,
+            ledger,
+            outcome,
+            outcomes,
+            pending,
+            mailboxes,
+        } = self;
+        drop(senders);
+        drop(queue);
+        drop(front);
+        drop(parcels);
+        drop(batches);
+        drop(outcome);
+        drop(outcomes);
+        drop(pending);
+        drop(mailboxes);
+        Ok(ledger)
     }
 
     /// Returns what a submitter received, in order; nothing if there is no such submitter.
@@ -364,6 +442,20 @@ impl World {
             return Some(Event::Pop { refused: false });
         }
         None
+    }
+
+    /// Returns whether the World is at rest: no step moves but a push.
+    pub fn is_at_rest(&self) -> bool
+        ensures rest { result ≡ true → IsAtRest self.now }
+        ensures moves { result ≡ false → IsAtRest self.now → ⊥ }
+    {
+        match self.next_event() {
+            Some(event) => {
+                drop(event);
+                false
+            }
+            None => true,
+        }
     }
 
     /// Takes one event. Returns true if it may happen, and the World then moves as its table says; false changes

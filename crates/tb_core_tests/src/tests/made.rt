@@ -56,6 +56,15 @@ pub(super) fn transferring(
     job_of(alloc, 0, number, transfers_packet(alloc, transfers))
 }
 
+/// Returns the first packet of a submitter, which creates transfers.
+pub(super) fn first_transferring(
+    alloc: Global,
+    submitter: u32,
+    transfers: &[Transfer],
+) -> Result<Job, Refusal> {
+    job_of(alloc, submitter, 0, transfers_packet(alloc, transfers))
+}
+
 /// Returns the job of a packet of zeros.
 fn job_of_zeros(
     alloc: Global,

@@ -12,6 +12,7 @@ use tb_world::{Event, World, run_world};
 mod answers;
 mod examples;
 mod lists;
+mod over;
 mod runs;
 
 /// An event of the World; what a push pushes has yet to be made.

@@ -16,7 +16,7 @@ use Rattle.tb_core.specs.declared.parcel.Parcel.TheVariants as parcel
 use Rattle.tb_core.specs.inside.Decision.{Decision, Admitted, AreDecisions}
 use Rattle.tb_core.specs.Front.{FrontState, take_step, with_group, all_ended, all_decisions_in, decisions_in, held_by}
 use Rattle.tb_core.specs.Journal.{LedgerState}
-use Rattle.tb_core.specs.Ledger.{apply_step, new_ledger}
+use Rattle.tb_core.specs.Ledger.{apply_step}
 use Rattle.tb_core.specs.Due.{replies_to}
 use Rattle.tb_core.specs.Run.{Commits, replies_in}
 use Rattle.tb_world.specs.Mailbox.{Mailbox, empty_mailbox, mailbox_at, with_reply, mailboxes_with, after_pop_of}
@@ -69,7 +69,7 @@ pub record Goes (batcher : FrontState) (committer : LedgerState) : Type 0 where
 
 -- Of what was pushed some was taken; the front's decisions on that were applied, or are on the way. The replies to what
 -- was applied are with their submitters, or on the way. If no allocation failed, nothing stopped.
-pub record Holds (Unrefused : Type 0) (clock submitters : ℕ) (pushed : List Ticket) (world : WorldState) : Type 0 where
+pub record Holds (Unrefused : Type 0) (start : LedgerState) (submitters : ℕ) (pushed : List Ticket) (world : WorldState) : Type 0 where
   pub taken : List Ticket
   pub applied : List Decision
   pub answers : List ReplyValue
@@ -77,7 +77,7 @@ pub record Holds (Unrefused : Type 0) (clock submitters : ℕ) (pushed : List Ti
   pub counted : world.submitters ≡ submitters
   pub senders : HavePushed submitters pushed world.senders
   pub sent : AreSent taken applied world.front world.parcels world.batches
-  pub commits : Commits (new_ledger clock) applied world.ledger answers
+  pub commits : Commits start applied world.ledger answers
   pub routed : AreRouted submitters answers world.mailboxes (unrouted world.replies world.outcomes world.outcome)
   pub goes : Unrefused → Goes world.front world.ledger
 
@@ -110,18 +110,18 @@ sent_ticket refused queue applied front batches ticket sent =
     }
 
 -- the batcher hasn't stopped
-batched : (Unrefused : Type 0) (clock n : ℕ) (pushed taken queue : List Ticket) (w : WorldState)
-    (front : FrontState) (parcels batches : List Parcel) (last : Bool) → (h : Holds Unrefused clock n pushed w)
+batched : (Unrefused : Type 0) (start : LedgerState) (n : ℕ) (pushed taken queue : List Ticket) (w : WorldState)
+    (front : FrontState) (parcels batches : List Parcel) (last : Bool) → (h : Holds Unrefused start n pushed w)
     → pushed ≡ taken ++ queue →
     (Unrefused → front.stopped ≡ false) → AreSent taken h.applied front parcels batches
-    → Holds Unrefused clock n pushed (record w {
+    → Holds Unrefused start n pushed (record w {
       queue = queue;
       front = front;
       parcels = parcels;
       last_sent = last;
       batches = batches;
     })
-batched Unrefused clock n pushed taken queue w front parcels batches last h split goes sent =
+batched Unrefused start n pushed taken queue w front parcels batches last h split goes sent =
     record {
       taken = taken;
       applied = h.applied;
@@ -135,17 +135,17 @@ batched Unrefused clock n pushed taken queue w front parcels batches last h spli
       goes = λ is. record { front = goes is; ledger = (h.goes is).ledger };
     }
 
-pub pop_holds : (Unrefused : Type 0) (refused : Bool) (clock n : ℕ) (pushed : List Ticket) (w : WorldState)
+pub pop_holds : (Unrefused : Type 0) (refused : Bool) (start : LedgerState) (n : ℕ) (pushed : List Ticket) (w : WorldState)
     (parcels : List Parcel) (queue : List Ticket) → w.parcels ≡ parcels → w.queue ≡ queue
     → (Unrefused → refused ≡ false) →
-    Holds Unrefused clock n pushed w → Holds Unrefused clock n pushed (unwrap_or (pop refused w parcels queue) w)
-pop_holds Unrefused refused clock n pushed w (first ∷ parcels) queue p q u h = h
-pop_holds Unrefused refused clock n pushed w [] [] p q u h = h
-pop_holds Unrefused refused clock n pushed w [] (ticket ∷ queue) p q u h =
+    Holds Unrefused start n pushed w → Holds Unrefused start n pushed (unwrap_or (pop refused w parcels queue) w)
+pop_holds Unrefused refused start n pushed w (first ∷ parcels) queue p q u h = h
+pop_holds Unrefused refused start n pushed w [] [] p q u h = h
+pop_holds Unrefused refused start n pushed w [] (ticket ∷ queue) p q u h =
     let next = take_step refused w.front ticket.sender ticket.item in
     let sent = sent_ticket refused h.taken h.applied w.front w.batches ticket
     (subst (λ ps. AreSent h.taken h.applied w.front ps w.batches) p h.sent) in
-    batched Unrefused clock n pushed (h.taken ++ ticket ∷ []) queue w next.front next.parcels w.batches w.last_sent h
+    batched Unrefused start n pushed (h.taken ++ ticket ∷ []) queue w next.front next.parcels w.batches w.last_sent h
     (h.split ∙ ap (λ rest. h.taken ++ rest) q ∙ sym (append_assoc h.taken (ticket ∷ []) queue))
     (λ is. goes_on HasJobs refused w.front ticket.sender ticket.item next
     (stepped refused w.front ticket h.sent.clear) (u is) (h.goes is).front) sent
@@ -168,33 +168,33 @@ sent_parcel queue applied front held parcels others batches p has all clear list
       batch_jobs = all-push HasJobs batches p sent.batch_jobs has;
     }
 
-pub batch_push_holds : (Unrefused : Type 0) (clock n : ℕ) (pushed : List Ticket) (w : WorldState)
+pub batch_push_holds : (Unrefused : Type 0) (start : LedgerState) (n : ℕ) (pushed : List Ticket) (w : WorldState)
     (parcels : List Parcel) (held : List Numbered) → w.parcels ≡ parcels → w.front.held ≡ held →
-    Holds Unrefused clock n pushed w → Holds Unrefused clock n pushed (unwrap_or (batch_push w parcels held) w)
-batch_push_holds Unrefused clock n pushed w (p ∷ parcels) held e g h =
+    Holds Unrefused start n pushed w → Holds Unrefused start n pushed (unwrap_or (batch_push w parcels held) w)
+batch_push_holds Unrefused start n pushed w (p ∷ parcels) held e g h =
     let sent = subst (λ ps. AreSent h.taken h.applied w.front ps w.batches) e h.sent in
-    batched Unrefused clock n pushed h.taken w.queue w w.front parcels (w.batches ++ p ∷ []) w.last_sent h h.split
+    batched Unrefused start n pushed h.taken w.queue w w.front parcels (w.batches ++ p ∷ []) w.last_sent h h.split
     (λ is. (h.goes is).front)
     (sent_parcel h.taken h.applied w.front w.front.held
     (p ∷ parcels) parcels w.batches p sent.parcel_jobs.0 sent.parcel_jobs.1 sent.clear
     (append_assoc (decisions_in p) (all_decisions_in parcels) (held_by w.front)) sent)
-batch_push_holds Unrefused clock n pushed w [] (job ∷ jobs) e g h =
+batch_push_holds Unrefused start n pushed w [] (job ∷ jobs) e g h =
     let group = parcel.Batch (job ∷ jobs) in
     let list : all_decisions_in w.parcels ++ held_by w.front ≡ decisions_in group ++ (all_decisions_in w.parcels ++ []) =
     ap (λ (ps : List Parcel). all_decisions_in ps ++ held_by w.front) e ∙ ap (map Admitted) g
     ∙ sym (append-nil (decisions_in group)) ∙ ap (λ (ps : List Parcel). decisions_in group
     ++ (all_decisions_in ps ++ [])) (sym e) in
-    batched Unrefused clock n pushed h.taken w.queue w (with_group w.front []) w.parcels
+    batched Unrefused start n pushed h.taken w.queue w (with_group w.front []) w.parcels
     (w.batches ++ group ∷ []) w.last_sent h h.split (λ is. (h.goes is).front)
     (sent_parcel h.taken h.applied w.front [] w.parcels w.parcels w.batches group (omega arith) h.sent.parcel_jobs
     (λ any. refl) list h.sent)
-batch_push_holds Unrefused clock n pushed w [] [] e g h = by (all_ended w.front && not w.last_sent)
+batch_push_holds Unrefused start n pushed w [] [] e g h = by (all_ended w.front && not w.last_sent)
   where
-    by : (b : Bool) → Holds Unrefused clock n pushed
+    by : (b : Bool) → Holds Unrefused start n pushed
         (unwrap_or (if b then Some (record w { last_sent = true; batches = w.batches ++ parcel.Last ∷ [] })
         else None) w)
     by true =
-        batched Unrefused clock n pushed h.taken w.queue w w.front w.parcels
+        batched Unrefused start n pushed h.taken w.queue w w.front w.parcels
         (w.batches ++ parcel.Last ∷ []) true h h.split (λ is. (h.goes is).front)
         (sent_parcel h.taken h.applied w.front w.front.held w.parcels w.parcels w.batches parcel.Last tt
         h.sent.parcel_jobs h.sent.clear refl h.sent)
@@ -244,14 +244,14 @@ NextIsApplied Unrefused refused w =
     Unrefused → (p : Parcel) (batches : List Parcel) → w.batches ≡ p ∷ batches
     → (apply_step refused w.ledger p).ledger.stopped ≡ false
 
-pub batch_pop_holds : (Unrefused : Type 0) (refused : Bool) (clock n : ℕ) (pushed : List Ticket) (w : WorldState)
+pub batch_pop_holds : (Unrefused : Type 0) (refused : Bool) (start : LedgerState) (n : ℕ) (pushed : List Ticket) (w : WorldState)
     (outcome : Option Outcomes) (batches : List Parcel) → w.outcome ≡ outcome → w.batches ≡ batches
     → NextIsApplied Unrefused refused w →
-    Holds Unrefused clock n pushed w → Holds Unrefused clock n pushed
+    Holds Unrefused start n pushed w → Holds Unrefused start n pushed
     (unwrap_or (batch_pop refused w outcome batches) w)
-batch_pop_holds Unrefused refused clock n pushed w (Some outcome) batches o e goes h = h
-batch_pop_holds Unrefused refused clock n pushed w None [] o e goes h = h
-batch_pop_holds Unrefused refused clock n pushed w None (p ∷ batches) o e goes h =
+batch_pop_holds Unrefused refused start n pushed w (Some outcome) batches o e goes h = h
+batch_pop_holds Unrefused refused start n pushed w None [] o e goes h = h
+batch_pop_holds Unrefused refused start n pushed w None (p ∷ batches) o e goes h =
     let next = apply_step refused w.ledger p in
     let sent = subst (λ ps. AreSent h.taken h.applied w.front w.parcels ps) e h.sent in
     let more = replies_in next.outcomes in
@@ -268,23 +268,23 @@ batch_pop_holds Unrefused refused clock n pushed w None (p ∷ batches) o e goes
       counted = h.counted;
       senders = h.senders;
       sent = sent_applied h.taken h.applied w.front w.parcels batches p sent;
-      commits = commits_more (new_ledger clock) h.applied w.ledger h.answers h.commits refused p sent.batch_jobs.0;
+      commits = commits_more start h.applied w.ledger h.answers h.commits refused p sent.batch_jobs.0;
       routed = subst (AreRouted n (h.answers ++ more) w.mailboxes) way routed;
       goes = λ is. record { front = (h.goes is).front; ledger = goes is p batches e };
     }
 
 -- the replies on the way are elsewhere, and the mailboxes may have changed
-rerouted : (Unrefused : Type 0) (clock n : ℕ) (pushed : List Ticket) (w : WorldState) (replies : List ReplyValue)
+rerouted : (Unrefused : Type 0) (start : LedgerState) (n : ℕ) (pushed : List Ticket) (w : WorldState) (replies : List ReplyValue)
     (outcomes : List Outcomes) (outcome : Option Outcomes) (mailboxes : List Mailbox)
-    → (h : Holds Unrefused clock n pushed w) →
+    → (h : Holds Unrefused start n pushed w) →
     AreRouted n h.answers mailboxes (unrouted replies outcomes outcome)
-    → Holds Unrefused clock n pushed (record w {
+    → Holds Unrefused start n pushed (record w {
       replies = replies;
       outcomes = outcomes;
       outcome = outcome;
       mailboxes = mailboxes;
     })
-rerouted Unrefused clock n pushed w replies outcomes outcome mailboxes h routed =
+rerouted Unrefused start n pushed w replies outcomes outcome mailboxes h routed =
     record {
       taken = h.taken;
       applied = h.applied;
@@ -298,26 +298,26 @@ rerouted Unrefused clock n pushed w replies outcomes outcome mailboxes h routed 
       goes = h.goes;
     }
 
-pub outcome_push_holds : (Unrefused : Type 0) (clock n : ℕ) (pushed : List Ticket) (w : WorldState)
+pub outcome_push_holds : (Unrefused : Type 0) (start : LedgerState) (n : ℕ) (pushed : List Ticket) (w : WorldState)
     (outcome : Option Outcomes) → w.outcome ≡ outcome →
-    Holds Unrefused clock n pushed w → Holds Unrefused clock n pushed (unwrap_or (outcome_push w outcome) w)
-outcome_push_holds Unrefused clock n pushed w None o h = h
-outcome_push_holds Unrefused clock n pushed w (Some outcome) o h =
+    Holds Unrefused start n pushed w → Holds Unrefused start n pushed (unwrap_or (outcome_push w outcome) w)
+outcome_push_holds Unrefused start n pushed w None o h = h
+outcome_push_holds Unrefused start n pushed w (Some outcome) o h =
     let way : unrouted w.replies w.outcomes (Some outcome)
     ≡ unrouted w.replies (w.outcomes ++ outcome ∷ []) None =
     simp (flat_map-append replies_in w.outcomes (outcome ∷ []), append-nil) in
-    rerouted Unrefused clock n pushed w w.replies (w.outcomes ++ outcome ∷ []) None w.mailboxes h
+    rerouted Unrefused start n pushed w w.replies (w.outcomes ++ outcome ∷ []) None w.mailboxes h
     (subst (AreRouted n h.answers w.mailboxes) (ap (unrouted w.replies w.outcomes) o ∙ way) h.routed)
 
 -- ---- the demultiplexer
 
-pub outcome_pop_holds : (Unrefused : Type 0) (clock n : ℕ) (pushed : List Ticket) (w : WorldState)
+pub outcome_pop_holds : (Unrefused : Type 0) (start : LedgerState) (n : ℕ) (pushed : List Ticket) (w : WorldState)
     (replies : List ReplyValue) (outcomes : List Outcomes) → w.replies ≡ replies → w.outcomes ≡ outcomes →
-    Holds Unrefused clock n pushed w → Holds Unrefused clock n pushed (unwrap_or (outcome_pop w replies outcomes) w)
-outcome_pop_holds Unrefused clock n pushed w (reply ∷ replies) outcomes r o h = h
-outcome_pop_holds Unrefused clock n pushed w [] [] r o h = h
-outcome_pop_holds Unrefused clock n pushed w [] (outcome ∷ outcomes) r o h =
-    rerouted Unrefused clock n pushed w (replies_in outcome) outcomes w.outcome w.mailboxes h
+    Holds Unrefused start n pushed w → Holds Unrefused start n pushed (unwrap_or (outcome_pop w replies outcomes) w)
+outcome_pop_holds Unrefused start n pushed w (reply ∷ replies) outcomes r o h = h
+outcome_pop_holds Unrefused start n pushed w [] [] r o h = h
+outcome_pop_holds Unrefused start n pushed w [] (outcome ∷ outcomes) r o h =
+    rerouted Unrefused start n pushed w (replies_in outcome) outcomes w.outcome w.mailboxes h
     (subst (AreRouted n h.answers w.mailboxes)
     (ap (λ (rs : List ReplyValue). unrouted rs w.outcomes w.outcome) r
     ∙ ap (λ (os : List Outcomes). unrouted [] os w.outcome) o
@@ -340,15 +340,15 @@ replaced n submitter own mailboxes new old way long among here elsewhere =
     (cases_eq own submitter)
 
 -- a reply goes from the way to its submitter's ring
-pub reply_push_holds : (Unrefused : Type 0) (clock n : ℕ) (pushed : List Ticket) (w : WorldState)
+pub reply_push_holds : (Unrefused : Type 0) (start : LedgerState) (n : ℕ) (pushed : List Ticket) (w : WorldState)
     (replies : List ReplyValue) → w.replies ≡ replies →
-    Holds Unrefused clock n pushed w → Holds Unrefused clock n pushed (unwrap_or (reply_push w replies) w)
-reply_push_holds Unrefused clock n pushed w [] r h = h
-reply_push_holds Unrefused clock n pushed w (reply ∷ replies) r h =
+    Holds Unrefused start n pushed w → Holds Unrefused start n pushed (unwrap_or (reply_push w replies) w)
+reply_push_holds Unrefused start n pushed w [] r h = h
+reply_push_holds Unrefused start n pushed w (reply ∷ replies) r h =
     let own = reply.packet.submitter in
     let mailbox = mailbox_at w.mailboxes own in
     let way = unrouted replies w.outcomes w.outcome in
-    rerouted Unrefused clock n pushed w replies w.outcomes w.outcome (mailboxes_with w.mailboxes reply) h
+    rerouted Unrefused start n pushed w replies w.outcomes w.outcome (mailboxes_with w.mailboxes reply) h
     (record {
       long = length-set w.mailboxes own (with_reply mailbox reply) ∙ h.routed.long;
       each = λ submitter among. h.routed.each submitter among
@@ -361,16 +361,16 @@ reply_push_holds Unrefused clock n pushed w (reply ∷ replies) r h =
 
 -- ---- the submitters
 
-pub reply_pop_holds : (Unrefused : Type 0) (clock n : ℕ) (pushed : List Ticket) (w : WorldState) (own : ℕ)
+pub reply_pop_holds : (Unrefused : Type 0) (start : LedgerState) (n : ℕ) (pushed : List Ticket) (w : WorldState) (own : ℕ)
     (ring : List ReplyValue) → (mailbox_at w.mailboxes own).ring ≡ ring →
-    Holds Unrefused clock n pushed w → Holds Unrefused clock n pushed
+    Holds Unrefused start n pushed w → Holds Unrefused start n pushed
     (unwrap_or (reply_pop w own (after_pop_of (mailbox_at w.mailboxes own) ring)) w)
-reply_pop_holds Unrefused clock n pushed w own [] e h = h
-reply_pop_holds Unrefused clock n pushed w own (reply ∷ ring) e h =
+reply_pop_holds Unrefused start n pushed w own [] e h = h
+reply_pop_holds Unrefused start n pushed w own (reply ∷ ring) e h =
     let received = (mailbox_at w.mailboxes own).received in
     let new : Mailbox = record { ring = ring; received = received ++ reply ∷ [] } in
     let way = unrouted w.replies w.outcomes w.outcome in
-    rerouted Unrefused clock n pushed w w.replies w.outcomes w.outcome _ h
+    rerouted Unrefused start n pushed w w.replies w.outcomes w.outcome _ h
     (record {
       long = length-set w.mailboxes own new ∙ h.routed.long;
       each = λ submitter among. h.routed.each submitter among
@@ -381,16 +381,16 @@ reply_pop_holds Unrefused clock n pushed w own (reply ∷ ring) e h =
 
 -- ---- a push
 
-pub push_holds : (Unrefused : Type 0) (clock n : ℕ) (pushed : List Ticket) (w : WorldState) (ticket : Ticket)
-    (b : Bool) → is_lawful w ticket ≡ b → Holds Unrefused clock n pushed w →
-    Holds Unrefused clock n (pushed ++ (if b then ticket ∷ [] else []))
+pub push_holds : (Unrefused : Type 0) (start : LedgerState) (n : ℕ) (pushed : List Ticket) (w : WorldState) (ticket : Ticket)
+    (b : Bool) → is_lawful w ticket ≡ b → Holds Unrefused start n pushed w →
+    Holds Unrefused start n (pushed ++ (if b then ticket ∷ [] else []))
     (unwrap_or (if b then Some (record w {
       senders = senders_after w.senders ticket;
       queue = w.queue ++ ticket ∷ [];
     }) else None) w)
-push_holds Unrefused clock n pushed w ticket false is h =
-    subst (λ l. Holds Unrefused clock n l w) (sym (append-nil pushed)) h
-push_holds Unrefused clock n pushed w ticket true is h =
+push_holds Unrefused start n pushed w ticket false is h =
+    subst (λ l. Holds Unrefused start n l w) (sym (append-nil pushed)) h
+push_holds Unrefused start n pushed w ticket true is h =
     record {
       taken = h.taken;
       applied = h.applied;

@@ -2,7 +2,7 @@
 use Rattle.std.proofs.Common.{refl, sym, ap, subst, ◌∙◌, arith, ◌≡◌, ℕ, ◌+◌, ◌^◌, ◌≤◌, Bool, true, false, List, [], ◌∷◌, ◌++◌, length, append_assoc, append-nil, length-append, replicate, None}
 use Rattle.std.specs.Prelude.{if◌then◌else◌}
 use Rattle.std.specs.List.{list_any}
-use Rattle.std.proofs.lemmas.List.{get_or-replicate, length-replicate, length-map}
+use Rattle.std.proofs.lemmas.List.{get_or-replicate, length-replicate, length-map, map-append}
 use Rattle.std.proofs.lemmas.Bool.{le-ltb, or_parts}
 use Rattle.tb_work.specs.Ahead.{ahead, items_in}
 use Rattle.tb_work.specs.Packet.{input_of}
@@ -15,23 +15,32 @@ use Rattle.tb_world.specs.declared.event.Event.{Event}
 use Rattle.tb_world.specs.declared.event.Event.TheVariants.{Push, Pop, BatchPush, BatchPop, OutcomePush, OutcomePop, ReplyPush, ReplyPop}
 use Rattle.tb_core.specs.inside.Decision.{inputs_in}
 use Rattle.tb_core.specs.Front.{decisions_in}
-use Rattle.tb_core.specs.Journal.{LedgerState, inputs}
-use Rattle.tb_core.specs.Ledger.{Applied, must_stop, apply_step, new_ledger}
+use Rattle.tb_core.specs.Journal.{LedgerState, inputs, inputs_since}
+use Rattle.tb_core.specs.Run.{Commits}
+use Rattle.tb_core.specs.Ledger.{Applied, must_stop, apply_step}
 use Rattle.tb_world.specs.Pushing.{newcomer}
 use Rattle.tb_world.specs.Mailbox.{Mailbox, empty_mailbox, mailbox_at}
-use Rattle.tb_world.specs.World.{WorldState, is_lawful, after_event, run, new_world}
-use Rattle.tb_world.specs.EveryOrder.{pushed_at, history, is_refused}
+use Rattle.tb_world.specs.World.{WorldState, is_lawful, after_event, run, world_over}
+use Rattle.tb_world.specs.EveryOrder.{pushed_at, history, is_refused, HasPlaces}
+use Rattle.tb_core.proofs.FrontDecisions.{ahead-first}
+use Rattle.tb_core.proofs.Since.{cancel, inputs-parts}
 use Rattle.tb_core.proofs.LedgerSteps.{inputs_in-append, inputs_in-admitted}
 use Rattle.tb_core.proofs.Runs.{so_far}
 use Rattle.tb_world.proofs.orders.Pushed.{none_pushed}
 use Rattle.tb_world.proofs.orders.Holding.{on_the_way, Holds, NextIsApplied, push_holds, pop_holds, batch_push_holds, batch_pop_holds, outcome_push_holds, outcome_pop_holds, reply_push_holds, reply_pop_holds}
 
--- ---- if nothing was refused the next parcel is committed: there are fewer places than 2^63
+-- ---- if nothing was refused the next parcel is committed: there is a place for each that is ahead
 
-length-ahead : (items : List Item) → length (ahead items) ≤ length items
-length-ahead [] = omega arith
-length-ahead (item.Packet job ∷ items) = omega (arith, length-ahead items)
-length-ahead (x ∷ items) = omega (arith, length-ahead items)
+fewer_places : (start : LedgerState) (queue others : List Ticket) → HasPlaces start (queue ++ others) → HasPlaces start queue
+fewer_places start queue others room =
+    let more = ahead-first (items_in queue) (items_in others) in
+    omega (
+      arith,
+      room,
+      length-append (ahead (items_in queue)) more.0,
+      ap length
+          (more.1 ∙ ap ahead (sym (map-append (λ (ticket : Ticket). ticket.item) queue others))),
+    )
 
 goes_on : (ledger : LedgerState) (p : Parcel) → ledger.stopped ≡ false
     → length (inputs ledger) + length (inputs_in (decisions_in p)) ≤ 2 ^ 63
@@ -55,76 +64,84 @@ goes_on ledger p goes room = by p room
     by (parcel.Pulse moment) room = committed 1 _ _ room goes
     by p room = goes
 
-pub parcel_goes : (Unrefused : Type 0) (refused : Bool) (clock n : ℕ) (pushed : List Ticket) (w : WorldState)
-    → (Unrefused → refused ≡ false) → length pushed ≤ 2 ^ 63 → Holds Unrefused clock n pushed w
-    → NextIsApplied Unrefused refused w
-parcel_goes Unrefused refused clock n pushed w u short h = λ is p batches e.
+pub parcel_goes : (Unrefused : Type 0) (refused : Bool) (start : LedgerState) (n : ℕ) (pushed : List Ticket)
+    (w : WorldState) → (Unrefused → refused ≡ false) → (Unrefused → HasPlaces start pushed)
+    → Holds Unrefused start n pushed w → NextIsApplied Unrefused refused w
+parcel_goes Unrefused refused start n pushed w u room h = λ is p batches e.
     let on_way = on_the_way w.front w.parcels w.batches in
     let rest = on_the_way w.front w.parcels batches in
     let way : inputs_in on_way ≡ inputs_in (decisions_in p)
     ++ inputs_in rest =
     rw e (ap inputs_in (append_assoc (decisions_in p) _ _) ∙ inputs_in-append (decisions_in p) rest) in
-    let far = so_far (new_ledger clock) (items_in h.taken) w.front.closed w.front.stopped h.applied on_way w.ledger h.answers
+    let far = so_far start (items_in h.taken) w.front.closed w.front.stopped h.applied on_way w.ledger h.answers
     h.sent.passes h.commits in
     let all = far.whole (h.goes is).front (h.goes is).ledger in
-    let few : length (ahead (items_in h.taken)) ≤ length pushed = omega (
-      arith,
-      length-ahead (items_in h.taken),
-      length-map h.taken
-          (λ (ticket : Ticket). ticket.item),
-      ap length h.split,
-      length-append h.taken w.queue,
-    ) in
-    let sum = ap length way ∙ length-append (inputs_in (decisions_in p)) (inputs_in rest) in
-    let room : length (inputs w.ledger) + length (inputs_in (decisions_in p))
+    let few : HasPlaces start h.taken = fewer_places start h.taken w.queue
+    (subst (HasPlaces start) h.split (room is)) in
+    let since = inputs_since start w.ledger in
+    let places : length (inputs w.ledger) + length (inputs_in (decisions_in p))
     ≤ 2 ^ 63 =
-    omega (arith, short, few, sum, ap length all, length-append (inputs w.ledger) (inputs_in on_way)) in
+    omega (
+      arith,
+      few,
+      ap length (inputs-parts start w.ledger h.commits.continues),
+      length-append (inputs start) since,
+      ap length way,
+      length-append (inputs_in (decisions_in p)) (inputs_in rest),
+      ap length all,
+      length-append since (inputs_in on_way),
+    ) in
     subst (λ b. (apply_step b w.ledger p).ledger.stopped ≡ false) (sym (u is))
-    (goes_on w.ledger p (h.goes is).ledger room)
+    (goes_on w.ledger p (h.goes is).ledger places)
 
 -- ---- one event
 
-none_more : (Unrefused : Type 0) (clock n : ℕ) (pushed : List Ticket) (w : WorldState)
-    → Holds Unrefused clock n pushed w → Holds Unrefused clock n (pushed ++ []) w
-none_more Unrefused clock n pushed w h = subst (λ l. Holds Unrefused clock n l w) (sym (append-nil pushed)) h
+none_more : (Unrefused : Type 0) (start : LedgerState) (n : ℕ) (pushed : List Ticket) (w : WorldState)
+    → Holds Unrefused start n pushed w → Holds Unrefused start n (pushed ++ []) w
+none_more Unrefused start n pushed w h = subst (λ l. Holds Unrefused start n l w) (sym (append-nil pushed)) h
 
-event_holds : (Unrefused : Type 0) (clock n : ℕ) (pushed : List Ticket) (w : WorldState) (e : Event)
-    → (Unrefused → is_refused e ≡ false) → length pushed ≤ 2 ^ 63 → Holds Unrefused clock n pushed w →
-    Holds Unrefused clock n (pushed ++ pushed_at w e) (after_event w e)
-event_holds U clock n pushed w (Push ticket) u short h =
-    push_holds U clock n pushed w ticket (is_lawful w ticket) refl h
-event_holds U clock n pushed w (Pop refused) u short h =
-    none_more U clock n pushed _ (pop_holds U refused clock n pushed w w.parcels w.queue refl refl u h)
-event_holds U clock n pushed w BatchPush u short h =
-    none_more U clock n pushed _ (batch_push_holds U clock n pushed w w.parcels w.front.held refl refl h)
-event_holds U clock n pushed w (BatchPop refused) u short h =
-    none_more U clock n pushed _ (batch_pop_holds U refused clock n pushed w w.outcome w.batches refl refl
-    (parcel_goes U refused clock n pushed w u short h) h)
-event_holds U clock n pushed w OutcomePush u short h =
-    none_more U clock n pushed _ (outcome_push_holds U clock n pushed w w.outcome refl h)
-event_holds U clock n pushed w OutcomePop u short h =
-    none_more U clock n pushed _ (outcome_pop_holds U clock n pushed w w.replies w.outcomes refl refl h)
-event_holds U clock n pushed w ReplyPush u short h =
-    none_more U clock n pushed _ (reply_push_holds U clock n pushed w w.replies refl h)
-event_holds U clock n pushed w (ReplyPop own) u short h =
-    none_more U clock n pushed _ (reply_pop_holds U clock n pushed w own (mailbox_at w.mailboxes own).ring refl h)
+event_holds : (Unrefused : Type 0) (start : LedgerState) (n : ℕ) (pushed : List Ticket) (w : WorldState) (e : Event)
+    → (Unrefused → is_refused e ≡ false) → (Unrefused → HasPlaces start pushed) → Holds Unrefused start n pushed w →
+    Holds Unrefused start n (pushed ++ pushed_at w e) (after_event w e)
+event_holds U start n pushed w (Push ticket) u room h =
+    push_holds U start n pushed w ticket (is_lawful w ticket) refl h
+event_holds U start n pushed w (Pop refused) u room h =
+    none_more U start n pushed _ (pop_holds U refused start n pushed w w.parcels w.queue refl refl u h)
+event_holds U start n pushed w BatchPush u room h =
+    none_more U start n pushed _ (batch_push_holds U start n pushed w w.parcels w.front.held refl refl h)
+event_holds U start n pushed w (BatchPop refused) u room h =
+    none_more U start n pushed _ (batch_pop_holds U refused start n pushed w w.outcome w.batches refl refl
+    (parcel_goes U refused start n pushed w u room h) h)
+event_holds U start n pushed w OutcomePush u room h =
+    none_more U start n pushed _ (outcome_push_holds U start n pushed w w.outcome refl h)
+event_holds U start n pushed w OutcomePop u room h =
+    none_more U start n pushed _ (outcome_pop_holds U start n pushed w w.replies w.outcomes refl refl h)
+event_holds U start n pushed w ReplyPush u room h =
+    none_more U start n pushed _ (reply_push_holds U start n pushed w w.replies refl h)
+event_holds U start n pushed w (ReplyPop own) u room h =
+    none_more U start n pushed _ (reply_pop_holds U start n pushed w own (mailbox_at w.mailboxes own).ring refl h)
 
 -- ---- a list of events
 
-run_holds : (U : Type 0) (clock n : ℕ) (pushed : List Ticket) (w : WorldState) (es : List Event)
-    → (U → list_any is_refused es ≡ false) → length (pushed ++ history w es) ≤ 2 ^ 63 → Holds U clock n pushed w →
-    Holds U clock n (pushed ++ history w es) (run w es)
-run_holds U clock n pushed w [] u short h = none_more U clock n pushed w h
-run_holds U clock n pushed w (e ∷ es) u short h =
+run_holds : (U : Type 0) (start : LedgerState) (n : ℕ) (pushed : List Ticket) (w : WorldState) (es : List Event)
+    → (U → list_any is_refused es ≡ false) → (U → HasPlaces start (pushed ++ history w es)) →
+    Holds U start n pushed w → Holds U start n (pushed ++ history w es) (run w es)
+run_holds U start n pushed w [] u room h = none_more U start n pushed w h
+run_holds U start n pushed w (e ∷ es) u room h =
     let others = history (after_event w e) es in
     let list : (pushed ++ pushed_at w e) ++ others
     ≡ pushed ++ (pushed_at w e ++ others) = append_assoc pushed (pushed_at w e) others in
-    subst (λ l. Holds U clock n l (run (after_event w e) es)) list
-    (run_holds U clock n (pushed ++ pushed_at w e) (after_event w e) es
+    subst (λ l. Holds U start n l (run (after_event w e) es)) list
+    (run_holds U start n (pushed ++ pushed_at w e) (after_event w e) es
     (λ is. (or_parts (is_refused e) (list_any is_refused es) (u is)).1)
-    (subst (λ l. length l ≤ 2 ^ 63) (sym list) short)
-    (event_holds U clock n pushed w e (λ is. (or_parts (is_refused e) (list_any is_refused es) (u is)).0)
-    (omega (arith, short, length-append pushed (pushed_at w e ++ others))) h))
+    (λ is. subst (HasPlaces start) (sym list) (room is))
+    (event_holds U start n pushed w e (λ is. (or_parts (is_refused e) (list_any is_refused es) (u is)).0)
+    (λ is. fewer_places start pushed (pushed_at w e ++ others) (room is)) h))
+
+pub length-ahead : (items : List Item) → length (ahead items) ≤ length items
+length-ahead [] = omega arith
+length-ahead (item.Packet job ∷ items) = omega (arith, length-ahead items)
+length-ahead (x ∷ items) = omega (arith, length-ahead items)
 
 -- at most one ticket an event
 pub length-history : (w : WorldState) (es : List Event) → length (history w es) ≤ length es
@@ -146,8 +163,9 @@ length-history w (e ∷ es) =
     one (Push ticket) = by (is_lawful w ticket) ticket
     one e = omega arith
 
-opened_holds : (U : Type 0) (clock limit n : ℕ) → Holds U clock n [] (new_world clock limit n)
-opened_holds U clock limit n =
+opened_holds : (U : Type 0) (start : LedgerState) (limit n : ℕ) → Commits start [] start []
+    → Holds U start n [] (world_over start limit n)
+opened_holds U start limit n began =
     record {
       taken = [];
       applied = [];
@@ -162,27 +180,25 @@ opened_holds U clock limit n =
         parcel_jobs = tt;
         batch_jobs = tt;
       };
-      commits = record {
-        from = refl;
-        continues = ([], refl);
-        remainder = [];
-        committed = refl;
-        whole = λ any. refl;
-        unstopped = λ any. refl;
-        state = refl;
-        replied = refl;
-      };
+      commits = began;
       routed = record {
         long = length-replicate n empty_mailbox;
         each = λ submitter among. sym (ap (λ (mailbox : Mailbox). mailbox.received ++ (mailbox.ring ++ []))
             (get_or-replicate n submitter empty_mailbox empty_mailbox among));
       };
-      goes = λ is. record { front = refl; ledger = refl };
+      goes = λ is. record { front = refl; ledger = goes_on_from };
     }
+  where
+    goes_on_from : start.stopped ≡ false
+    goes_on_from = began.unstopped (cancel (inputs start) began.remainder [] began.committed)
 
-pub all_holds : (clock limit n : ℕ) (es : List Event) → length (history (new_world clock limit n) es) ≤ 2 ^ 63
-    → Holds (list_any is_refused es ≡ false) clock n (history (new_world clock limit n) es)
-    (run (new_world clock limit n) es)
-all_holds clock limit n es short =
-    run_holds (list_any is_refused es ≡ false) clock n [] (new_world clock limit n) es (λ is. is) short
-    (opened_holds (list_any is_refused es ≡ false) clock limit n)
+-- no allocation failed, and there are places for all
+abbrev pub GoesOn : LedgerState → List Event → List Ticket → Type 0
+GoesOn start es queue = (list_any is_refused es ≡ false) × HasPlaces start queue
+
+pub all_holds : (start : LedgerState) (limit n : ℕ) (es : List Event) → Commits start [] start []
+    → Holds (GoesOn start es (history (world_over start limit n) es)) start n
+    (history (world_over start limit n) es) (run (world_over start limit n) es)
+all_holds start limit n es began =
+    let U = GoesOn start es (history (world_over start limit n) es) in
+    run_holds U start n [] (world_over start limit n) es (λ is. is.0) (λ is. is.1) (opened_holds U start limit n began)

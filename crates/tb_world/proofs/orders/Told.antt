@@ -1,6 +1,5 @@
 -- What a World's steps tell: so far, if nothing was refused, and at rest.
-use Rattle.std.proofs.Common.{refl, sym, ap, subst, ◌∙◌, ◌≡◌, ℕ, ◌^◌, ◌<◌, ◌≤◌, ◌==◌, false, List, [], ◌∷◌, ◌++◌, map, length, append_assoc, append-nil, Option, Some, None}
-use Rattle.std.specs.List.{list_any}
+use Rattle.std.proofs.Common.{refl, sym, ap, subst, ◌∙◌, ◌≡◌, ℕ, ◌<◌, ◌==◌, false, List, [], ◌∷◌, ◌++◌, map, length, append_assoc, append-nil, Option, Some, None}
 use Rattle.std.proofs.lemmas.List.{map-append}
 use Rattle.tb_layout.specs.Events.{Input}
 use Rattle.tb_work.specs.Packet.{Numbered, ReplyValue}
@@ -14,19 +13,18 @@ use Rattle.tb_world.specs.declared.event.Event.TheVariants.{Pop, BatchPush, Batc
 use Rattle.tb_core.specs.Due.{outcome_at, reply_due, all_due_from, all_due, replies_to, Place, Ahead, next_place}
 use Rattle.tb_core.specs.inside.Decision.{inputs_in, Decision, Admitted, AreDecisions}
 use Rattle.tb_core.specs.Front.{all_decisions_in, held_by}
-use Rattle.tb_core.specs.Journal.{inputs}
-use Rattle.tb_core.specs.Ledger.{new_ledger}
-use Rattle.tb_core.specs.Run.{Ran}
+use Rattle.tb_core.specs.Journal.{LedgerState, inputs, inputs_since}
+use Rattle.tb_core.specs.Run.{Commits, Ran}
 use Rattle.tb_world.specs.Mailbox.{Mailbox, mailbox_at, after_pop_of}
-use Rattle.tb_world.specs.World.{WorldState, pop, batch_push, batch_pop, outcome_push, outcome_pop, reply_push, reply_pop, received_of, run, new_world}
+use Rattle.tb_world.specs.World.{WorldState, pop, batch_push, batch_pop, outcome_push, outcome_pop, reply_push, reply_pop, received_of, after_event, run, world_over}
 use Rattle.tb_core.specs.EndedRun.{IsPrefix}
-use Rattle.tb_world.specs.EveryOrder.{history, is_refused, IsAtRest, IsLawfulSoFar, NoneStopped, IsLawfulAtRest, HasRun}
+use Rattle.tb_world.specs.EveryOrder.{history, IsAtRest, IsLawfulSoFar, NoneStopped, IsLawfulAtRest, HasRun, RunsGoOn, WorldsFollow}
 use Rattle.tb_core.proofs.HeadlineLemmas.{is-prefix-trans, prefix-filter}
 use Rattle.tb_core.proofs.FrontDecisions.{ahead-first}
 use Rattle.tb_core.proofs.Runs.{none_of_first, none_among, SoFar, so_far, run_is_lawful}
 use Rattle.tb_world.proofs.orders.Pushed.{numbered_by, queue_of_all}
 use Rattle.tb_world.proofs.orders.Holding.{on_the_way, unrouted, of_all, of_one, shelved, Holds, Goes}
-use Rattle.tb_world.proofs.orders.Runs.{all_holds}
+use Rattle.tb_world.proofs.orders.Runs.{GoesOn, all_holds}
 
 -- ---- prefixes
 
@@ -43,42 +41,43 @@ due-prefix clock journal place (x ∷ items) others =
 
 -- ---- so far
 
-module _ (U : Type 0) (clock n : ℕ) (pushed : List Ticket) (w : WorldState) (h : Holds U clock n pushed w) where
+module _ (U : Type 0) (start : LedgerState) (n : ℕ) (pushed : List Ticket) (w : WorldState) (h : Holds U start n pushed w) where
   abbrev way : List Decision
   way = on_the_way w.front w.parcels w.batches
 
-  far : SoFar (new_ledger clock) (items_in h.taken) w.front.stopped w.ledger h.answers way
-  far = so_far (new_ledger clock) (items_in h.taken) w.front.closed w.front.stopped h.applied way w.ledger
+  far : SoFar start (items_in h.taken) w.front.stopped w.ledger h.answers way
+  far = so_far start (items_in h.taken) w.front.closed w.front.stopped h.applied way w.ledger
       h.answers h.sent.passes h.commits
 
   items_are : items_in pushed ≡ items_in h.taken ++ items_in w.queue
   items_are = ap items_in h.split ∙ map-append (λ (ticket : Ticket). ticket.item) h.taken w.queue
 
-  pub far_prefix : IsPrefix h.answers (all_due clock 0 (items_in pushed) (inputs w.ledger))
+  pub far_prefix : IsPrefix h.answers (all_due start.opening (length (inputs start)) (items_in pushed) (inputs w.ledger))
   far_prefix =
       let before = items_in h.taken in
       let after = items_in w.queue in
       let journal = inputs w.ledger in
-      rw items_are (is-prefix-trans h.answers (all_due clock 0 before journal) (all_due clock 0 (before ++ after) journal)
-      (far.later, far.due) (due-prefix clock journal (Ahead 0) before after))
+      rw items_are (is-prefix-trans h.answers (all_due start.opening (length (inputs start)) before journal) (all_due start.opening (length (inputs start)) (before ++ after) journal)
+      (far.later, far.due) (due-prefix start.opening journal (Ahead (length (inputs start))) before after))
 
-  is_lawful_so_far : IsLawfulSoFar clock n pushed w
+  is_lawful_so_far : IsLawfulSoFar start n pushed w
   is_lawful_so_far =
       let before = items_in h.taken in
       let after = items_in w.queue in
       let journal = inputs w.ledger in
       record {
         opening = h.commits.from;
+        continues = h.commits.continues;
         submitted = h.senders.submitted;
         numbered = numbered_by n pushed w.senders h.senders;
-        committed = rw items_are (is-prefix-trans journal (ahead before) (ahead (before ++ after))
+        committed = rw items_are (is-prefix-trans (inputs_since start w.ledger) (ahead before) (ahead (before ++ after))
             (far.remainder, far.committed) (ahead-first before after));
         received = λ submitter among.
             let mailbox = mailbox_at w.mailboxes submitter in
             let others = mailbox.ring ++ replies_to (unrouted w.replies w.outcomes w.outcome) submitter in
-            let all = all_due clock 0 (before ++ after) journal in
-            let answers = is-prefix-trans h.answers (all_due clock 0 before journal) all (far.later, far.due)
-            (due-prefix clock journal (Ahead 0) before after) in
+            let all = all_due start.opening (length (inputs start)) (before ++ after) journal in
+            let answers = is-prefix-trans h.answers (all_due start.opening (length (inputs start)) before journal) all (far.later, far.due)
+            (due-prefix start.opening journal (Ahead (length (inputs start))) before after) in
             rw items_are (is-prefix-trans mailbox.received (replies_to h.answers submitter) (replies_to all submitter)
             (others, sym (h.routed.each submitter among))
             (prefix-filter (λ (reply : ReplyValue). reply.packet.submitter == submitter) h.answers all answers));
@@ -155,12 +154,12 @@ empty_at_rest w rest =
       rings = λ own. no_ring w own (mailbox_at w.mailboxes own) (mailbox_at w.mailboxes own).ring (rest (ReplyPop own) refl);
     }
 
-module _ (U : Type 0) (clock n : ℕ) (pushed : List Ticket) (w : WorldState)
-    (h : Holds U clock n pushed w) (e : IsEmpty w) where
+module _ (U : Type 0) (start : LedgerState) (n : ℕ) (pushed : List Ticket) (w : WorldState)
+    (h : Holds U start n pushed w) (e : IsEmpty w) where
   taken_all : h.taken ≡ pushed
   taken_all = sym (h.split ∙ ap (λ l. h.taken ++ l) e.queue ∙ append-nil h.taken)
 
-  ran : Ran (new_ledger clock) (items_in pushed) w.ledger h.answers
+  ran : Ran start (items_in pushed) w.ledger h.answers
   ran =
       record {
         closed = w.front.closed;
@@ -179,47 +178,63 @@ module _ (U : Type 0) (clock n : ℕ) (pushed : List Ticket) (w : WorldState)
       sym (h.routed.each submitter among ∙ ap (λ (way : List ReplyValue). shelved submitter w.mailboxes way) e.unrouted
       ∙ ap (λ (ring : List ReplyValue). received ++ (ring ++ [])) (e.rings submitter) ∙ append-nil received)
 
-  rests : IsLawfulAtRest clock n pushed w
+  rests : IsLawfulAtRest start n pushed w
   rests =
-      let all : h.answers ≡ all_due clock 0 (items_in pushed) (inputs w.ledger) =
-      (far U clock n pushed w h).replied e.way ∙ ap
-      (λ (queue : List Ticket). all_due clock 0 (items_in queue) (inputs w.ledger)) taken_all in
+      let all : h.answers ≡ all_due start.opening (length (inputs start)) (items_in pushed) (inputs w.ledger) =
+      (far U start n pushed w h).replied e.way ∙ ap
+      (λ (queue : List Ticket). all_due start.opening (length (inputs start)) (items_in queue) (inputs w.ledger)) taken_all in
       record {
         received = λ submitter among. received_all submitter among ∙ ap (λ rs. replies_to rs submitter) all;
-        reports = λ over. run_is_lawful _ (new_ledger clock) h.answers
+        reports = λ over. run_is_lawful _ start h.answers
             (queue_of_all n pushed w.senders h.senders over) refl ran received_all;
       }
 
-  whole : Goes w.front w.ledger → inputs w.ledger ≡ ahead (items_in pushed)
+  whole : Goes w.front w.ledger → inputs_since start w.ledger ≡ ahead (items_in pushed)
   whole goes =
-      let is = far U clock n pushed w h in
-      sym (append-nil (inputs w.ledger)) ∙ ap (λ (l : List Decision). inputs w.ledger ++ inputs_in l) (sym e.way)
+      let is = far U start n pushed w h in
+      sym (append-nil (inputs_since start w.ledger))
+      ∙ ap (λ (l : List Decision). inputs_since start w.ledger ++ inputs_in l) (sym e.way)
       ∙ is.whole goes.front goes.ledger ∙ ap (λ (queue : List Ticket). ahead (items_in queue)) taken_all
 
 -- ---- a list of events
 
-pub has_run : (clock limit n : ℕ) (events : List Event) (world : WorldState)
-    → length (history (new_world clock limit n) events) ≤ 2 ^ 63 → world ≡ run (new_world clock limit n) events → HasRun clock limit n events world
-has_run clock limit n events world short is = subst (HasRun clock limit n events) (sym is) there
+pub has_run : (start : LedgerState) (limit n : ℕ) (events : List Event) (world : WorldState) → Commits start [] start []
+    → world ≡ run (world_over start limit n) events → HasRun start limit n events world
+has_run start limit n events world began is = subst (HasRun start limit n events) (sym is) there
   where
-    U : Type 0
-    U = list_any is_refused events ≡ false
-
     pushed : List Ticket
-    pushed = history (new_world clock limit n) events
+    pushed = history (world_over start limit n) events
+
+    U : Type 0
+    U = GoesOn start events pushed
 
     end : WorldState
-    end = run (new_world clock limit n) events
+    end = run (world_over start limit n) events
 
-    holds : Holds U clock n pushed end
-    holds = all_holds clock limit n events short
+    holds : Holds U start n pushed end
+    holds = all_holds start limit n events began
 
-    there : HasRun clock limit n events end
+    there : HasRun start limit n events end
     there =
         record {
+          began = began;
           is = refl;
-          so_far = is_lawful_so_far U clock n pushed end holds;
-          no_stop_seen = λ unrefused. none_stopped U clock n pushed end holds (holds.goes unrefused);
-          at_rest = λ rest. rests U clock n pushed end holds (empty_at_rest end rest);
-          whole = λ unrefused rest. whole U clock n pushed end holds (empty_at_rest end rest) (holds.goes unrefused);
+          so_far = is_lawful_so_far U start n pushed end holds;
+          no_stop_seen = λ unrefused room. none_stopped U start n pushed end holds (holds.goes (unrefused, room));
+          at_rest = λ rest. rests U start n pushed end holds (empty_at_rest end rest);
+          whole = λ unrefused room rest. whole U start n pushed end holds (empty_at_rest end rest)
+              (holds.goes (unrefused, room));
         }
+
+pub run_more : (world : WorldState) (xs ys : List Event) → run world (xs ++ ys) ≡ run (run world xs) ys
+run_more world [] ys = refl
+run_more world (x ∷ xs) ys = run_more (after_event world x) xs ys
+
+pub runs_go_on : RunsGoOn
+runs_go_on start limit n before events world ran =
+    has_run start limit n (before ++ events) (run world events) ran.began
+    (ap (λ (w : WorldState). run w events) ran.is ∙ sym (run_more (world_over start limit n) before events))
+
+pub worlds_follow : WorldsFollow
+worlds_follow start submitters queue first second limit others events ran =
+    record { opening = ran.so_far.opening; before = refl }

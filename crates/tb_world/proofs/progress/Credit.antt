@@ -1,7 +1,6 @@
 -- Within the credit a reply ring has room for each reply.
 use Rattle.std.proofs.Common.{refl, sym, ap, subst, ◌∙◌, arith, ◌≡◌, ◌≢◌, ⊎_elim, ℕ, ◌+◌, ◌-◌, ◌<◌, ◌≤◌, ◌==◌, Bool, true, false, List, [], ◌∷◌, ◌++◌, length, length-append, set, Option, Some, None, unwrap_or, ltb-true, lt-ltb, eq-eqb, get_or-set_other}
 use Rattle.std.specs.Prelude.{if◌then◌else◌, nat_lt}
-use Rattle.std.specs.List.{list_any}
 use Rattle.std.proofs.lemmas.Bool.{cases_eq, cases_lt}
 use Rattle.std.proofs.lemmas.List.{length-map, get_or-set_same, set_past, get_or-replicate, get_or_past, length-replicate}
 use Rattle.tb_layout.specs.Events.{Input}
@@ -14,7 +13,7 @@ use Rattle.tb_work.specs.declared.item.Ticket.{Ticket}
 use Rattle.tb_core.specs.Due.{all_due, replies_to, Ahead}
 use Rattle.tb_core.specs.EndedRun.{IsPrefix}
 use Rattle.tb_core.specs.Headline.{packets_queued}
-use Rattle.tb_core.specs.Journal.{inputs}
+use Rattle.tb_core.specs.Journal.{LedgerState, inputs}
 use Rattle.tb_core.proofs.HeadlineLemmas.{prefix-filter, one-each}
 use Rattle.tb_core.proofs.Packets.{jobs-part}
 use Rattle.tb_world.specs.declared.event.Event.{Event}
@@ -22,13 +21,13 @@ use Rattle.tb_world.specs.declared.event.Event.TheVariants.{Push}
 use Rattle.tb_world.specs.declared.sender.WorldSender.{WorldSender}
 use Rattle.tb_world.specs.Pushing.{newcomer, sender_after}
 use Rattle.tb_world.specs.Mailbox.{empty_mailbox, mailbox_at}
-use Rattle.tb_world.specs.World.{WorldState, sender_at, is_lawful, senders_after, received_of, moved, after_event, run, new_world}
-use Rattle.tb_world.specs.EveryOrder.{is_refused, history}
+use Rattle.tb_world.specs.World.{WorldState, sender_at, is_lawful, senders_after, received_of, moved, after_event, run, world_over}
+use Rattle.tb_world.specs.EveryOrder.{history}
 use Rattle.tb_world.specs.Progress.{unread, in_flight, has_credit, uses_credit, UseCredit, has_reply_slot, CreditLeavesRoom}
 use Rattle.tb_world.proofs.progress.Steps.{Steps, steps}
 use Rattle.tb_world.proofs.orders.Pushed.{packets_in}
 use Rattle.tb_world.proofs.orders.Holding.{unrouted, Holds}
-use Rattle.tb_world.proofs.orders.Runs.{all_holds}
+use Rattle.tb_world.proofs.orders.Runs.{GoesOn, all_holds}
 use Rattle.tb_world.proofs.orders.Told.{far_prefix}
 
 -- ---- what is in flight stays within the credit
@@ -102,8 +101,8 @@ run_keeps credit w [] uses h = h
 run_keeps credit w (event ∷ events) uses h =
     run_keeps credit (after_event w event) events uses.1 (event_keeps credit w event uses.0 h)
 
-new_keeps : (credit clock limit n : ℕ) → InCredit credit (new_world clock limit n)
-new_keeps credit clock limit n = λ s.
+new_keeps : (credit : ℕ) (start : LedgerState) (limit n : ℕ) → InCredit credit (world_over start limit n)
+new_keeps credit start limit n = λ s.
     ⊎_elim
     (λ (among : s < n + 1). omega (
       arith,
@@ -111,7 +110,7 @@ new_keeps credit clock limit n = λ s.
     ))
     (λ (past : n + 1 ≤ s). omega (
       arith,
-      ap (λ (sender : WorldSender). sender.pushed) (get_or_past (new_world clock limit n).senders s newcomer
+      ap (λ (sender : WorldSender). sender.pushed) (get_or_past (world_over start limit n).senders s newcomer
           (omega (arith, past, length-replicate (n + 1) newcomer))),
     ))
     (cases_lt s (n + 1))
@@ -123,14 +122,14 @@ counted [] = refl
 counted (item.Packet job ∷ items) = omega (arith, counted items)
 counted (x ∷ items) = counted items
 
-as_many : (clock n s : ℕ) (journal : List Input) (queue : List Ticket) → AreSubmitted n queue
-    → length (replies_to (all_due clock 0 (items_in queue) journal) s) ≡ packets_in (items_from s queue)
-as_many clock n s journal queue all =
-    let replies = replies_to (all_due clock 0 (items_in queue) journal) s in
+as_many : (clock before n s : ℕ) (journal : List Input) (queue : List Ticket) → AreSubmitted n queue
+    → length (replies_to (all_due clock before (items_in queue) journal) s) ≡ packets_in (items_from s queue)
+as_many clock before n s journal queue all =
+    let replies = replies_to (all_due clock before (items_in queue) journal) s in
     omega (
       arith,
       length-map replies (λ (reply : ReplyValue). reply.packet),
-      ap length (one-each clock s journal (Ahead 0) (items_in queue) ∙ sym (jobs-part n s queue all)),
+      ap length (one-each clock s journal (Ahead before) (items_in queue) ∙ sym (jobs-part n s queue all)),
       counted (items_from s queue),
     )
 
@@ -140,36 +139,36 @@ fewer : {X : Type 0} (xs ys : List X) → IsPrefix xs ys → length xs ≤ lengt
 fewer xs ys (rest, is) = omega (arith, length-append xs rest, ap length is)
 
 -- what a submitter received, what is in its ring, and its own of those on the way, are no more than it pushed
-unread_few : (U : Type 0) (clock n : ℕ) (pushed : List Ticket) (w : WorldState) → Holds U clock n pushed w
+unread_few : (U : Type 0) (start : LedgerState) (n : ℕ) (pushed : List Ticket) (w : WorldState) → Holds U start n pushed w
     → (s : ℕ) → s < n →
     length (received_of w s) + (unread (mailbox_at w.mailboxes s)
     + length (replies_to (unrouted w.replies w.outcomes w.outcome) s)) ≤ (sender_at w.senders s).pushed
-unread_few U clock n pushed w h s among =
+unread_few U start n pushed w h s among =
     let mailbox = mailbox_at w.mailboxes s in
     let way = replies_to (unrouted w.replies w.outcomes w.outcome) s in
-    let all = all_due clock 0 (items_in pushed) (inputs w.ledger) in
+    let all = all_due start.opening (length (inputs start)) (items_in pushed) (inputs w.ledger) in
     let mine : IsPrefix (replies_to h.answers s) (replies_to all s) =
     prefix-filter (λ (reply : ReplyValue). reply.packet.submitter == s) h.answers all
-    (far_prefix U clock n pushed w h) in
+    (far_prefix U start n pushed w h) in
     omega (
       arith,
       ap length (h.routed.each s among),
       length-append mailbox.received (mailbox.ring ++ way),
       length-append mailbox.ring way,
       fewer (replies_to h.answers s) (replies_to all s) mine,
-      as_many clock n s (inputs w.ledger) pushed h.senders.submitted,
+      as_many start.opening (length (inputs start)) n s (inputs w.ledger) pushed h.senders.submitted,
       (h.senders.each s (omega (arith, among))).counted,
     )
 
-room_for : (U : Type 0) (credit clock n : ℕ) (pushed : List Ticket) (w : WorldState) → Holds U clock n pushed w
+room_for : (U : Type 0) (credit : ℕ) (start : LedgerState) (n : ℕ) (pushed : List Ticket) (w : WorldState) → Holds U start n pushed w
     → InCredit credit w → 0 < credit → (replies : List ReplyValue) → w.replies ≡ replies →
     has_reply_slot credit w replies ≡ true
-room_for U credit clock n pushed w h in_credit some [] r = refl
-room_for U credit clock n pushed w h in_credit some (reply ∷ replies) r =
+room_for U credit start n pushed w h in_credit some [] r = refl
+room_for U credit start n pushed w h in_credit some (reply ∷ replies) r =
     let s = reply.packet.submitter in
     let less : unread (mailbox_at w.mailboxes s) < credit =
     ⊎_elim
-    (λ (among : s < n). omega (arith, in_credit s, unread_few U clock n pushed w h s among, one_more))
+    (λ (among : s < n). omega (arith, in_credit s, unread_few U start n pushed w h s among, one_more))
     (λ (past : n ≤ s). omega (
       arith,
       some,
@@ -187,8 +186,9 @@ room_for U credit clock n pushed w h in_credit some (reply ∷ replies) r =
         rw (r, own) (omega arith)
 
 pub credit_leaves_room : CreditLeavesRoom
-credit_leaves_room clock limit n credit slots events some short uses =
-    let begin = new_world clock limit n in
+credit_leaves_room start limit n credit slots events began some uses =
+    let begin = world_over start limit n in
     let world = run begin events in
-    room_for (list_any is_refused events ≡ false) credit clock n (history begin events) world (all_holds clock limit n events short)
-    (run_keeps credit begin events uses (new_keeps credit clock limit n)) some world.replies refl
+    let queue = history begin events in
+    room_for (GoesOn start events queue) credit start n queue world (all_holds start limit n events began)
+    (run_keeps credit begin events uses (new_keeps credit start limit n)) some world.replies refl

@@ -1,5 +1,5 @@
 -- Steps that end at rest, and rounds after any events.
-use Rattle.std.proofs.Common.{refl, sym, ap, subst, ◌∙◌, arith, ◌≡◌, ◌⊎◌, inl, inr, ℕ, zero, suc, add-one, ◌+◌, ◌*◌, ◌^◌, ◌<◌, ◌≤◌, Bool, true, false, ◌&&◌, List, [], ◌∷◌, ◌++◌, length, length-append, append-nil, append_assoc, sum_by, replicate, Option, Some, None, is_some, unwrap_or}
+use Rattle.std.proofs.Common.{refl, sym, ap, subst, ◌∙◌, arith, ◌≡◌, ◌⊎◌, inl, inr, ℕ, zero, suc, add-one, ◌+◌, ◌*◌, ◌<◌, ◌≤◌, Bool, true, false, ◌&&◌, List, [], ◌∷◌, ◌++◌, length, length-append, append-nil, append_assoc, sum_by, replicate, Option, Some, None, is_some, unwrap_or}
 use Rattle.std.specs.Prelude.{if◌then◌else◌}
 use Rattle.std.specs.List.{list_any, AllByRecursion}
 use Rattle.std.proofs.lemmas.Bool.{or_parts}
@@ -11,10 +11,11 @@ use Rattle.tb_core.specs.Front.{all_ended}
 use Rattle.tb_world.specs.declared.event.Event.{Event}
 use Rattle.tb_world.specs.declared.event.Event.TheVariants.{Push}
 use Rattle.tb_world.specs.Mailbox.{empty_mailbox}
-use Rattle.tb_world.specs.World.{WorldState, is_lawful, senders_after, moved, after_event, run, new_world, takes_memory}
-use Rattle.tb_world.specs.EveryOrder.{IsAtRest, is_push, is_refused, pushed_at, history, IsLawfulAtRest}
-use Rattle.tb_world.specs.Progress.{unread, left, left_of_last, MayMove, HasFinished, MayRunOut, HasRested, IsRound, all_of, has_room, run_within, LeftIsBounded, EachStepCounts, FairRunsAreAnswered}
-use Rattle.tb_world.proofs.orders.Told.{has_run}
+use Rattle.tb_world.specs.World.{WorldState, is_lawful, senders_after, moved, after_event, run, world_over, takes_memory}
+use Rattle.tb_world.specs.EveryOrder.{IsAtRest, is_push, is_refused, pushed_at, history, HasRun, IsLawfulAtRest}
+use Rattle.tb_core.specs.Journal.{LedgerState}
+use Rattle.tb_world.specs.Progress.{unread, left, left_of_last, MayMove, HasFinished, RunsOut, HasRested, IsRound, all_of, has_room, run_within, LeftIsBounded, EachStepCounts, FairRunsAreAnswered}
+use Rattle.tb_world.proofs.orders.Told.{run_more, runs_go_on}
 use Rattle.tb_world.proofs.progress.Steps.{Steps, steps}
 use Rattle.tb_world.proofs.progress.Rests.{MovesWithin, within_parts, moves_within, rests, ends}
 use Rattle.tb_world.proofs.progress.Rounds.{rounds_rest}
@@ -84,19 +85,15 @@ none_unread : (n : ℕ) → sum_by unread (replicate n empty_mailbox) ≡ 0
 none_unread zero = refl
 none_unread (suc n) = sum_by-cons unread empty_mailbox (replicate n empty_mailbox) ∙ omega (arith, none_unread n)
 
-new_left : (clock limit n : ℕ) → left (new_world clock limit n) ≡ 0
-new_left clock limit n = omega (arith, none_unread n, last)
+new_left : (start : LedgerState) (limit n : ℕ) → left (world_over start limit n) ≡ 0
+new_left start limit n = omega (arith, none_unread n, last)
   where
-    last : left_of_last (all_ended (new_world clock limit n).front && true) ≡ 0
+    last : left_of_last (all_ended (world_over start limit n).front && true) ≡ 0
     last = rw add-one refl
 
 pub left_is_bounded : LeftIsBounded
-left_is_bounded clock limit n events =
-    omega (arith, new_left clock limit n, (after_all (new_world clock limit n) events).few)
-
-run_more : (w : WorldState) (xs ys : List Event) → run w (xs ++ ys) ≡ run (run w xs) ys
-run_more w [] ys = refl
-run_more w (x ∷ xs) ys = run_more (after_event w x) xs ys
+left_is_bounded start limit n events =
+    omega (arith, new_left start limit n, (after_all (world_over start limit n) events).few)
 
 history_more : (w : WorldState) (xs ys : List Event) → history w (xs ++ ys) ≡ history w xs ++ history (run w xs) ys
 history_more w [] ys = refl
@@ -171,33 +168,35 @@ has_finished old new far none =
       rest = rests new none;
     }
 
-pub may_run_out : (old w : WorldState) (event : Event) → SoFar old w → MayMove w event
-    → takes_memory w event ≡ true → MayRunOut old
-may_run_out old w event far may takes =
+pub runs_out : (old w : WorldState) (event : Event) → SoFar old w → MayMove w event
+    → takes_memory w event ≡ true → RunsOut old w
+runs_out old w event far may takes =
     record {
       steps = far.steps;
       event = event;
+      leads = far.leads;
       no_push = far.no_push;
-      next = subst (λ (world : WorldState). MayMove world event) far.leads may;
-      takes = subst (λ (world : WorldState). takes_memory world event ≡ true) far.leads takes;
+      unrefused = far.unrefused;
+      next = may;
+      takes = takes;
     }
 
-pub has_rested : (clock limit n : ℕ) (events : List Event) (world : WorldState)
-    → length (history (new_world clock limit n) events) ≤ 2 ^ 63 →
-    HasFinished (run (new_world clock limit n) events) world → HasRested clock limit n events world
-has_rested clock limit n events world short finished =
-    let begin = new_world clock limit n in
+pub has_rested : (start : LedgerState) (limit n : ℕ) (events : List Event) (old world : WorldState)
+    → HasRun start limit n events old → HasFinished old world → HasRested start limit n events world
+has_rested start limit n events old world ran finished =
+    let begin = world_over start limit n in
     let same = history_same begin events finished.steps finished.no_push in
-    let ran = has_run clock limit n (events ++ finished.steps) world (omega (arith, short, ap length same))
-    (finished.leads ∙ sym (run_more begin events finished.steps)) in
+    let further = subst (HasRun start limit n (events ++ finished.steps)) (sym finished.leads)
+    (runs_go_on start limit n events finished.steps old ran) in
     record {
       steps = finished.steps;
-      ran = ran;
+      ran = further;
       no_push = finished.no_push;
+      none_more = same;
       unrefused = finished.unrefused;
-      few = omega (arith, finished.few, left_is_bounded clock limit n events);
+      few = omega (arith, finished.few, ap left ran.is, left_is_bounded start limit n events);
       rest = finished.rest;
-      answered = subst (λ (queue : List Ticket). IsLawfulAtRest clock n queue world) same (ran.at_rest finished.rest);
+      answered = subst (λ (queue : List Ticket). IsLawfulAtRest start n queue world) same (further.at_rest finished.rest);
     }
 
 -- ---- rounds
@@ -224,8 +223,8 @@ rounds_push_nothing n (round ∷ rounds) all =
     rw (list_any-append is_push round (all_of rounds), all.0.no_push, rounds_push_nothing n rounds all.1) refl
 
 pub fair_runs_are_answered : FairRunsAreAnswered
-fair_runs_are_answered clock limit n events rounds world all enough ran =
-    let begin = new_world clock limit n in
+fair_runs_are_answered start limit n events rounds world all enough ran =
+    let begin = world_over start limit n in
     let middle = run begin events in
     let long : length middle.mailboxes ≤ n =
     omega (arith, (after_all begin events).long, length-replicate n empty_mailbox) in
@@ -233,6 +232,6 @@ fair_runs_are_answered clock limit n events rounds world all enough ran =
     run_always middle (all_of rounds) ∙ sym (ran.is ∙ run_more begin events (all_of rounds)) in
     let rest : IsAtRest world =
     subst IsAtRest same (rounds_rest always (λ w event other is. refl) moves_always n middle rounds long all
-    (omega (arith, enough, left_is_bounded clock limit n events))) in
-    subst (λ (queue : List Ticket). IsLawfulAtRest clock n queue world)
+    (omega (arith, enough, left_is_bounded start limit n events))) in
+    subst (λ (queue : List Ticket). IsLawfulAtRest start n queue world)
     (history_same begin events (all_of rounds) (rounds_push_nothing n rounds all)) (ran.at_rest rest)

@@ -6,15 +6,16 @@ use crate::tests::push;
 use crate::tests::told::{Told, told_by};
 use std::alloc::Global;
 use std::process::Abort;
-use tb_core::Entry;
+use tb_core::{Entry, Ledger};
 use tb_layout::{CLOCK_MAX, CREATE_TRANSFERS, LOOKUP_ACCOUNTS, MOMENT_MAX};
 use tb_test_makers::check;
 use tb_work::{Reply, Stub};
 use tb_world::World;
 
-/// What was pushed, with the sender of a packet or an End.
+/// What was pushed, with the sender of a packet or an End; `Earlier` is what an earlier list committed.
 #[derive(Clone, Copy, PartialEq, Eq)]
 enum Pushed {
+    Earlier,
     Packet { sender: u32, number: u64 },
     Pulse(u64),
     Close,
@@ -29,10 +30,12 @@ struct Setting {
     submitters: u32,
 }
 
-/// What plain code knows of a list: how the World was opened, what was pushed, and whether an allocation failed.
+/// What plain code knows of a list: how the World was opened, how much its ledger had committed before, what was pushed, and
+/// whether an allocation failed.
 #[derive(Drop)]
 struct Known {
     setting: Setting,
+    before: usize,
     pushed: Vec<Pushed>,
     refused: bool,
 }
@@ -154,7 +157,7 @@ fn push_next(
         Pushed::Packet { sender, number } => packet(known.setting.limit, sender, number),
         Pushed::Pulse(moment) => Made::Pulse(moment),
         Pushed::Close => Made::Close,
-        Pushed::End(_) => Made::End,
+        Pushed::End(_) | Pushed::Earlier => Made::End,
     };
     let moves = answer(rt, world, Step::Push(sender, item));
     let wanted = !has_ended(known, sender);
@@ -180,13 +183,22 @@ fn step(
     }
 }
 
-/// Returns the packets and pulses ahead of the Close, in order.
-fn ahead(rt: &(impl Abort + Alloc<A = Global>), pushed: &[Pushed]) -> Vec<Pushed> {
-    let mut ahead = Vec::new(rt.alloc());
-    for one in pushed {
+/// Returns what earlier lists committed.
+fn earlier(rt: &(impl Abort + Alloc<A = Global>), before: usize) -> Vec<Pushed> {
+    let mut earlier = Vec::new(rt.alloc());
+    for _ in 0..before {
+        push(rt, &mut earlier, Pushed::Earlier);
+    }
+    earlier
+}
+
+/// Returns what was committed before, and then the packets and pulses ahead of the Close, in order.
+fn ahead(rt: &(impl Abort + Alloc<A = Global>), known: &Known) -> Vec<Pushed> {
+    let mut ahead = earlier(rt, known.before);
+    for one in &known.pushed {
         match *one {
             Pushed::Close => break,
-            Pushed::End(_) => {}
+            Pushed::End(_) | Pushed::Earlier => {}
             one => push(rt, &mut ahead, one),
         }
     }
@@ -249,11 +261,11 @@ fn assert_due(rt: &impl Abort, replies: &[Reply], sender: u32, ahead: &[Pushed],
 /// Asserts that the journal is a prefix of what is ahead, and that each submitter received a prefix of what is
 /// due to it. Gives how many packets and pulses are ahead and aren't committed.
 fn assert_lawful(rt: &(impl Abort + Alloc<A = Global>), world: &World, known: &Known) -> usize {
-    let ahead = ahead(rt, &known.pushed);
+    let ahead = ahead(rt, known);
     let committed = committed(rt, world.ledger().journal());
-    // The journal is the first of what is ahead.
-    let first = ahead.get(..committed.len());
-    check!(rt; first == Some(committed.as_slice()));
+    // What this list committed is the first of what is ahead.
+    let since = committed.get(known.before..).expect(rt, "nothing is lost");
+    check!(rt; ahead.get(known.before..committed.len()) == Some(since));
     for sender in 0..known.setting.submitters {
         assert_due(rt, world.received(sender), sender, &ahead, committed.len());
     }
@@ -319,6 +331,7 @@ fn one_list(rt: &(impl Abort + Alloc<A = Global>), setting: Setting, seed: u64) 
     let mut world = world.expect(rt, "memory");
     let mut known = Known {
         setting,
+        before: 0,
         pushed: Vec::new(rt.alloc()),
         refused: false,
     };
@@ -363,4 +376,56 @@ fn lists_of_each_opening(rt: HostRuntime) {
             }
         }
     }
+}
+
+/// Plays a list over the ledger that an earlier one left, and returns the ledger.
+fn list_over(
+    rt: &(impl Abort + Alloc<A = Global>),
+    ledger: Ledger,
+    setting: Setting,
+    seed: u64,
+) -> Ledger {
+    check!(rt; !ledger.stopped());
+    let mut known = Known {
+        setting,
+        before: ledger.places() as usize,
+        pushed: Vec::new(rt.alloc()),
+        refused: false,
+    };
+    let mut world = World::over(rt.alloc(), ledger, setting.limit, setting.submitters)
+        .ok()
+        .expect(rt, "it is opened");
+    play_list(rt, &mut world, &mut known, seed);
+    drop(known);
+    world.into_ledger().ok().expect(rt, "it is at rest")
+}
+
+/// Plays lists of several numbers of submitters and limits over one ledger, until it has stopped. Returns how many.
+fn lists_in_a_row(rt: &(impl Abort + Alloc<A = Global>), first: u64) -> u64 {
+    let mut ledger = Ledger::new(rt.alloc(), 7);
+    for number in 0..6u32 {
+        if ledger.stopped() {
+            drop(ledger);
+            return u64::from(number);
+        }
+        let setting = Setting {
+            clock: 0,
+            limit: 1 + number,
+            submitters: 16 - number,
+        };
+        let seed = first.wrapping_mul(6).wrapping_add(u64::from(number));
+        ledger = list_over(rt, ledger, setting, seed);
+    }
+    drop(ledger);
+    6
+}
+
+/// A row ends with a list that stops its ledger.
+#[test]
+fn lists_over_one_ledger(rt: HostRuntime) {
+    let mut lists = 0u64;
+    for first in 0..60 {
+        lists = lists.wrapping_add(lists_in_a_row(&rt, first));
+    }
+    check!(&rt; lists > 120);
 }

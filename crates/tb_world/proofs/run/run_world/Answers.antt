@@ -1,16 +1,38 @@
-use Rattle.std.proofs.Common.{◌≤◌, ◌^◌, ◌∙◌, ap, length, arith}
-use Rattle.tb_world.specs.World.{WorldState, run, new_world}
-use Rattle.tb_world.specs.EveryOrder.{history}
-use Rattle.tb_world.proofs.orders.Runs.{length-history}
-use Rattle.tb_world.proofs.orders.Told.{has_run}
+use Rattle.std.proofs.Common.{ℕ, ◌≤◌, List, [], length, arith}
+use Rattle.std.proofs.lemmas.List.{length-map}
+use Rattle.tb_work.specs.Ahead.{items_in}
+use Rattle.tb_work.specs.declared.item.Ticket.{Ticket}
+use Rattle.tb_core.specs.Ledger.{new_ledger}
+use Rattle.tb_layout.specs.inside.Limits.{places_max}
+use Rattle.tb_world.specs.declared.event.Event.{Event}
+use Rattle.tb_world.specs.World.{new_world}
+use Rattle.tb_world.specs.EveryOrder.{history, HasPlaces}
+use Rattle.tb_world.proofs.orders.Runs.{length-ahead, length-history}
 use Rattle.tb_world.proofs.run.run_world.Goals as goal
+
+places : (clock limit submitters : ℕ) (events : List Event) → length events ≤ places_max
+    → HasPlaces (new_ledger clock) (history (new_world clock limit submitters) events)
+places clock limit submitters events few =
+    let begin = new_world clock limit submitters in
+    let queue = history begin events in
+    omega (
+      arith,
+      few,
+      length-history begin events,
+      length-ahead (items_in queue),
+      length-map queue (λ (ticket : Ticket). ticket.item),
+    )
+
+pub returns-in_err-go_through-clause-places : goal.returns-in_err-go_through-clause-places
+returns-in_err-go_through-clause-places c =
+    places c.args.clock c.args.limit c.args.submitters c.args.events.items
+    (omega (arith, c.args.events.small, c.args.events.ok))
+
+pub returns-clause-places : goal.returns-clause-places
+returns-clause-places c =
+    places c.args.clock c.args.limit c.args.submitters c.args.events.items
+    (omega (arith, c.args.events.small, c.args.events.ok))
 
 pub returns-clause-ran : goal.returns-clause-ran
 returns-clause-ran c =
-    let events = c.args.events.items in
-    let begin = new_world c.args.clock c.args.limit c.args.submitters in
-    let short : length (history begin events) ≤ 2 ^ 63 =
-    omega (arith, c.args.events.small, c.args.events.ok, length-history begin events) in
-    has_run c.args.clock c.args.limit c.args.submitters events c.go_through.new.world short
-    (c.in_ok-go_through.ensures.ok ∙ ap (λ (world : WorldState). run world c.args.events.items)
-    c.in-Ok.ensures.world)
+    c.in_ok-go_through.ensures.ran (new_ledger c.args.clock) c.args.limit c.args.submitters [] c.in-Ok.ensures.ran

@@ -2,12 +2,10 @@ use Rattle.std.proofs.Common.{◌≡◌, ◌∙◌, refl, sym, ap, subst, append
 use Rattle.std.specs.Prelude.{Result, Ok, Err, OnErr, is_some}
 use Rattle.tb_world.specs.declared.event.Event.{Event}
 use Rattle.tb_world.specs.World.{WorldState, after_event, moved, run, takes_memory}
+use Rattle.tb_world.specs.EveryOrder.{HasRun}
 use Rattle.std.proofs.lemmas.List.{nil_from_length}
-use Rattle.tb_world.proofs.run.go_through.Goals as goal
-
-run_more : (world : WorldState) (xs ys : List Event) → run world (xs ++ ys) ≡ run (run world xs) ys
-run_more world [] ys = refl
-run_more world (x ∷ xs) ys = run_more (after_event world x) xs ys
+use Rattle.tb_world.proofs.orders.Told.{run_more, runs_go_on}
+use Rattle.tb_world.proofs.world.World.go_through.Goals as goal
 
 on_err : {A E : Type 0} (result : Result A E) (P : Type 0) → P → OnErr result P
 on_err (Ok x) P holds = tt
@@ -18,7 +16,7 @@ loop-event-init c =
     let all : c.into_iter-event-iterator.result.rest.items
     ≡ c.args.events.items = c.into_iter-event-iterator.ensures.into_iter_gives.0 in
     record {
-      left = ap (λ (events : List Event). run c.args.world.now events) (sym all);
+      left = ap (λ (events : List Event). run c.args.self.now events) (sym all);
       so_far = refl;
       all = sym all;
     }
@@ -31,10 +29,10 @@ loop-event-preserved c =
     let step : c.loop-event.event-iterator.rest.items ≡ event ∷ rest = c.in-Some.ensures.steps.0 in
     let went = c.in_ok-go_on.ensures.ok in
     record {
-      left = inv.left ∙ ap (λ (events : List Event). run c.loop-event.world events) step
+      left = inv.left ∙ ap (λ (events : List Event). run c.loop-event.self events) step
           ∙ ap (λ (world : WorldState). run world rest) (sym went);
       so_far = went ∙ ap (λ (world : WorldState). after_event world event) inv.so_far
-          ∙ sym (run_more c.args.world.now c.loop-event.yielded (event ∷ []));
+          ∙ sym (run_more c.args.self.now c.loop-event.yielded (event ∷ []));
       all = inv.all ∙ ap (λ (events : List Event). c.loop-event.yielded ++ events) step
           ∙ sym (append_assoc c.loop-event.yielded (event ∷ []) rest);
     }
@@ -45,13 +43,15 @@ returns-in_err-go_on-clause-memory c =
     let event = c.in-Some.event in
     let rest = c.next.new.self.rest.items in
     let step : c.loop-event.event-iterator.rest.items ≡ event ∷ rest = c.in-Some.ensures.steps.0 in
+    let failed = c.in_err-go_on.ensures.memory in
     on_err c.from_residual.result _ (
       c.loop-event.yielded,
       event,
       rest,
       inv.all ∙ ap (λ (events : List Event). c.loop-event.yielded ++ events) step,
-      subst (λ (world : WorldState). is_some (moved world event) ≡ true) inv.so_far c.in_err-go_on.ensures.memory.0,
-      subst (λ (world : WorldState). takes_memory world event ≡ true) inv.so_far c.in_err-go_on.ensures.memory.1,
+      failed.2 ∙ inv.so_far,
+      subst (λ (world : WorldState). is_some (moved world event) ≡ true) (sym failed.2) failed.0,
+      subst (λ (world : WorldState). takes_memory world event ≡ true) (sym failed.2) failed.1,
     )
 
 pub returns-clause-ok : goal.returns-clause-ok
@@ -60,4 +60,9 @@ returns-clause-ok c =
     ≡ [] =
     nil_from_length c.loop-event.event-iterator.rest.items
     (sym c.loop-event.event-iterator.rest.ok.0 ∙ c.in-None.ensures.steps.0) in
-    sym (c.loop-event.invariant.left ∙ ap (λ (events : List Event). run c.loop-event.world events) none)
+    sym (c.loop-event.invariant.left ∙ ap (λ (events : List Event). run c.loop-event.self events) none)
+
+pub returns-clause-ran : goal.returns-clause-ran
+returns-clause-ran c = λ start limit submitters before has.
+    subst (HasRun start limit submitters (before ++ c.args.events.items)) (sym (returns-clause-ok c))
+    (runs_go_on start limit submitters before c.args.events.items c.args.self.now has)

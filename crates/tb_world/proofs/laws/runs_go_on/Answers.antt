@@ -1,0 +1,5 @@
+use Rattle.tb_world.proofs.orders.Told.{runs_go_on}
+use Rattle.tb_world.proofs.laws.runs_go_on.Goals as goal
+
+pub returns : goal.returns
+returns c = runs_go_on

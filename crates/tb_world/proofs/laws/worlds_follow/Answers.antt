@@ -1,0 +1,5 @@
+use Rattle.tb_world.proofs.orders.Told.{worlds_follow}
+use Rattle.tb_world.proofs.laws.worlds_follow.Goals as goal
+
+pub returns : goal.returns
+returns c = worlds_follow
