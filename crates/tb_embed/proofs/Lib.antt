@@ -4,3 +4,4 @@ mod Parcels
 mod Places
 mod EngineRun
 mod Replies
+mod Again

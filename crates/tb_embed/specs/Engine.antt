@@ -257,3 +257,19 @@ RepliesCome =
     → Serves start queue read engine → engine.front.held ≡ []
     → length read + length results ≡ packets_in (items_in queue) → AreReplies engine results last
     → HaveAllCome start queue read engine results last
+
+-- ---- calls that are made again
+
+-- two engines in one state, which committed as much and have the same replies, read and unread
+pub record AreAlike (read other_read : List ReplyValue) (engine other : EngineState) : Type 0 where
+  pub state : state_of engine ≡ state_of other
+  pub places : engine.ledger.places ≡ other.ledger.places
+  pub replies : read ++ engine.unread ≡ other_read ++ other.unread
+
+-- What was queued decides, if nothing is held: not when an engine was flushed, how packets joined, or where memory ran out. So a host
+-- that stores each call before it makes it, and makes those stored again, has the ledger again.
+abbrev pub QueueDecides : Type 0
+QueueDecides =
+    (start : LedgerState) (queue : List Ticket) (read other_read : List ReplyValue) (engine other : EngineState)
+    → Serves start queue read engine → Serves start queue other_read other → HasPlaces start (items_in queue)
+    → engine.front.held ≡ [] → other.front.held ≡ [] → AreAlike read other_read engine other

@@ -1,6 +1,6 @@
 //! What follows from an engine's calls.
 
-ghost use Rattle.tb_embed.specs.Engine.{RepliesCome, ServingIsLawful};
+ghost use Rattle.tb_embed.specs.Engine.{QueueDecides, RepliesCome, ServingIsLawful};
 
 use tb_core::{each_part_is_lawful, run_is_lawful};
 
@@ -18,6 +18,15 @@ pub fn serving_is_lawful()
 /// and any further call none.
 pub fn replies_come()
     ensures { RepliesCome }
+{
+    serving_is_lawful();
+}
+
+/// Establishes that engines which began with one ledger, and in which the same was queued, are in one state and have the same replies
+/// once nothing is held, while there are places. When they were flushed doesn't matter, nor where memory ran out. So a host that
+/// stores each call before it makes it, and makes the stored ones again after a crash, has the ledger again.
+pub fn queue_decides()
+    ensures { QueueDecides }
 {
     serving_is_lawful();
 }

@@ -8,6 +8,8 @@
 //! A call for which memory runs out is refused as `NoMemory`, and nothing has changed: made again with memory there, it does what it
 //! would have done. An engine stops only if 2^63 places are used up (`stopped` of `Queues` and `Continues`).
 //!
+//! What is queued decides all else (`queue_decides`): a host that stores each call before it makes it can make them again.
+//!
 //! An engine that holds nothing yields its ledger (`Engine::into_ledger`), and another goes on with it (`Engine::over`).
 //!
 //! `calls_in_a_row` in tb_core_tests is an example that the gate compiles.
@@ -18,5 +20,5 @@ mod laws;
 mod unread;
 
 pub use engine::Engine;
-pub use laws::{replies_come, serving_is_lawful};
+pub use laws::{queue_decides, replies_come, serving_is_lawful};
 pub use tb_core::Seed;

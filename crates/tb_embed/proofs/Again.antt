@@ -1,0 +1,33 @@
+-- Engines in which the same was queued.
+use Rattle.std.proofs.Common.{◌≡◌, sym, ap, ◌∙◌, List, [], ◌++◌, append-nil, map, length}
+use Rattle.tb_machine.specs.Replay.{replay}
+use Rattle.tb_core.proofs.Since.{inputs-parts}
+use Rattle.tb_core.specs.Due.{all_due}
+use Rattle.tb_core.specs.Journal.{LedgerState, inputs, inputs_since}
+use Rattle.tb_core.specs.inside.Decision.{Admitted, inputs_in}
+use Rattle.tb_work.specs.Ahead.{ahead, items_in}
+use Rattle.tb_work.specs.Packet.{ReplyValue}
+use Rattle.tb_work.specs.declared.item.Ticket.{Ticket}
+use Rattle.tb_embed.specs.Engine.{EngineState, HasPlaces, IsServed, ServingIsLawful, QueueDecides}
+
+-- all that is ahead of the Close is committed, behind what was there
+all_committed : (start : LedgerState) (queue : List Ticket) (read : List ReplyValue) (engine : EngineState)
+    → (is : IsServed start queue read engine) → HasPlaces start (items_in queue) → engine.front.held ≡ []
+    → inputs is.ledger ≡ inputs start ++ ahead (items_in queue)
+all_committed start queue read engine is places none =
+    sym (inputs-parts start is.ledger is.continues)
+    ∙ ap (λ since. inputs start ++ since) (sym (append-nil (inputs_since start is.ledger))
+    ∙ (sym (ap (λ jobs. inputs_since start is.ledger ++ inputs_in (map Admitted jobs)) none) ∙ (is.goes places).1))
+
+pub queue_decides : ServingIsLawful → QueueDecides
+queue_decides lawful start queue read other_read engine other serves other_serves places none other_none =
+    let one = lawful start queue read engine serves in
+    let two = lawful start queue other_read other other_serves in
+    let same : inputs one.ledger ≡ inputs two.ledger = all_committed start queue read engine one places none
+        ∙ sym (all_committed start queue other_read other two places other_none) in
+    record {
+      state = one.replayed ∙ (ap (replay start.opening) same ∙ sym two.replayed);
+      places = one.counted ∙ (ap length same ∙ sym two.counted);
+      replies = one.replied none ∙ (ap (all_due start.opening (length (inputs start)) (items_in queue)) same
+          ∙ sym (two.replied other_none));
+    }
