@@ -203,8 +203,7 @@ impl BareLedger {
 
     /// Returns how many packets and pulses were committed.
     pub fn places(&self) -> u64
-        ensures count { result ≡ self.now.places }
-        ensures few { self.now.places ≤ places_max }
+        ensures { result ≡ self.now.places }
     {
         self.places
     }
@@ -372,5 +371,11 @@ impl BareLedger {
         let Recorded { outcomes, entry } = self.try_record(parcel)?;
         drop(entry);
         Ok(outcomes)
+    }
+    /// Establishes that it never has more than `PLACES_MAX` places.
+    pub fn has_few_places(&self)
+        ensures { self.now.places ≤ places_max }
+    {
+        let _ = &self.places;
     }
 }

@@ -114,6 +114,7 @@ impl Model for Engine {
 
 /// Applies the parcel, if there is one and capacity for its outcome. If its allocation fails, its batch is returned and nothing
 /// has changed.
+#[inline(always)]
 fn apply(ledger: &mut BareLedger, unread: &mut Unread, parcel: Option<Parcel>) -> Result<(), Batch>
     requires room { 0 < unread.old.room }
     ensures sent { OnOk result ((start : LedgerState) (limit : ℕ) (sent : List Decision) (read : List ReplyValue)
@@ -125,8 +126,7 @@ fn apply(ledger: &mut BareLedger, unread: &mut Unread, parcel: Option<Parcel>) -
     ensures batch { IfErr result (λ batch. parcel ≡ Some (BatchParcel batch)) }
     ensures same { OnErr result ((ledger.new ≡ ledger.old) × (unread.new ≡ unread.old)) }
 {
-    // There are never more places than there may be.
-    let _ = ledger.places();
+    ledger.has_few_places();
     let Some(parcel) = parcel else {
         return Ok(());
     };
@@ -604,8 +604,7 @@ impl Engine {
         ensures needed { OnErr result (0 < length self.old.front.held) }
     {
         if !self.front.is_holding() {
-            // There are never more places than there may be.
-            let _ = self.ledger.places();
+            self.ledger.has_few_places();
             return Ok(());
         }
         if self.unread.reserve(1).is_err() {

@@ -2,5 +2,5 @@
 use Rattle.std.proofs.Common.{rules}
 use Rattle.tb_core.proofs.bare_ledger.BareLedger.places.Goals as goal
 
-pub returns-clause-count : goal.returns-clause-count
-returns-clause-count c = search rules
+pub returns : goal.returns
+returns c = search rules

@@ -14,7 +14,7 @@ returns-then-not-is_holding-clause-ok c = rw (← c.self.view_is) (
     record {
       adds = λ start queue read serves. serves;
       seals = ap (with_group front) none;
-      stopped = halts_at_none c.self.inside.ledger c.places.ensures.few ∙ ap (λ jobs. halts c.self.inside.ledger (length jobs)) (sym none);
+      stopped = halts_at_none c.self.inside.ledger c.has_few_places.ensures ∙ ap (λ jobs. halts c.self.inside.ledger (length jobs)) (sym none);
     })
 
 pub returns-clause-ok : goal.returns-clause-ok
