@@ -1,9 +1,8 @@
 -- What one more stub, batch or pulse adds to counts.
-use Rattle.std.proofs.Common.{refl, sym, ap, subst, ◌∙◌, arith, ◌≡◌, ◌≢◌, ◌<◌, ◌≤◌, ℕ, zero, suc, ◌+◌, Bool, true, false, List, [], ◌∷◌, ◌++◌, map, drop, take, set, get_or, length, length-append, cond, append-nil}
-use Rattle.std.specs.Prelude.{◌==◌, IsOk, Some, None, if◌then◌else◌, slice_index, min, nat_lt}
-use Rattle.std.specs.List.{count_by, sum_by, filter, flat_map}
+use Rattle.std.proofs.Common.{refl, sym, ap, subst, ◌∙◌, arith, ◌≡◌, ◌<◌, ◌≤◌, ℕ, zero, suc, ◌+◌, Bool, true, false, List, [], ◌∷◌, ◌++◌, map, drop, take, set, get_or, length, length-append, cond, append-nil}
+use Rattle.std.specs.Prelude.{◌==◌, IsOk, Some, None, if◌then◌else◌, slice_index, nat_lt}
+use Rattle.std.specs.List.{count_by, sum_by}
 use Rattle.std.specs.Simd.{first_chunks}
-use Rattle.std.proofs.Math.Nat.{min-eq_left}
 use Rattle.std.proofs.lemmas.List.{length-map, get_or-set_same, get_or-set_other}
 use Rattle.std.proofs.lemmas.List.Sums.{count_by_more_yes, count_by_more_no, count_by-le-length, sum_by_more, sum_by-cons, length-filter}
 use Rattle.std.proofs.lemmas.List.Elements.{filter-append}
@@ -14,9 +13,9 @@ use Rattle.tb_layout.specs.Transfer.{transfer_of}
 use Rattle.tb_layout.specs.Bytes.{little_endian}
 use Rattle.tb_layout.specs.Events.{Input, Packet, Pulse, chunks, events_of}
 use Rattle.tb_layout.specs.inside.Events.{count_of as count_of_events}
-use Rattle.tb_work.specs.Admission.{admission_of, admission_of_size, count_of, count_of_size, event_size}
+use Rattle.tb_work.specs.Admission.{admission_of_size, count_of_size, event_size}
 use Rattle.tb_work.specs.Job.{stub_of}
-use Rattle.tb_work.specs.Packet.{Numbered, events_in, input_of}
+use Rattle.tb_work.specs.Packet.{Numbered, input_of}
 use Rattle.tb_work.specs.declared.stub.Stub.{Stub}
 use Rattle.tb_batch.specs.Batch.{AreAdmitted}
 use Rattle.tb_core.specs.EachSubmitter.{is_packet_of, moments_in, packets_of}

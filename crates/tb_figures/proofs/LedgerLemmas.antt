@@ -8,7 +8,7 @@ use Rattle.std.proofs.lemmas.List.{append_assoc}
 use Rattle.tb_layout.specs.Events.{Input, Pulse}
 use Rattle.tb_layout.specs.inside.Limits.{places_max}
 use Rattle.tb_work.specs.Answer.{reply_with}
-use Rattle.tb_work.specs.Packet.{Numbered, input_of}
+use Rattle.tb_work.specs.Packet.{input_of}
 use Rattle.tb_work.specs.declared.outcome.Outcome.TheVariants as outcome
 use Rattle.tb_core.specs.declared.parcel.Parcel.{Parcel}
 use Rattle.tb_core.specs.declared.parcel.Parcel.TheVariants as parcel

@@ -1,7 +1,7 @@
 -- Where one more is added to what is to be tried again.
-use Rattle.std.proofs.Common.{refl, ap, subst, sym, ◌∙◌, arith, ◌≡◌, ◌<◌, ◌≤◌, ℕ, zero, suc, ◌+◌, Bool, true, false, List, [], ◌∷◌, length}
+use Rattle.std.proofs.Common.{refl, ap, sym, ◌∙◌, arith, ◌≡◌, ◌<◌, ◌≤◌, ℕ, zero, suc, Bool, true, false, List, [], ◌∷◌}
 use Rattle.std.specs.List.{insert}
-use Rattle.std.specs.Prelude.{nat_lt, if◌then◌else◌, slice_index_or}
+use Rattle.std.specs.Prelude.{nat_lt, if◌then◌else◌}
 use Rattle.tb_figures.specs.Retries.{AreFrom, AreOrdered, IsIndexFor, inserted}
 use Rattle.tb_figures.specs.declared.retries.Waiting.{Waiting}
 

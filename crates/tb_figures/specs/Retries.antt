@@ -1,5 +1,5 @@
 -- What is to be tried again, by its moments.
-use Rattle.std.specs.Prelude.{◌≡◌, ◌<◌, ◌≤◌, ℕ, List, [], ◌∷◌, length, slice_index_or, nat_le, nat_lt, Option, Some, None, if◌then◌else◌, Vec, vec_len, vec_capacity}
+use Rattle.std.specs.Prelude.{◌<◌, ◌≤◌, ℕ, List, [], ◌∷◌, length, slice_index_or, nat_le, nat_lt, Option, Some, None, if◌then◌else◌, Vec, vec_len, vec_capacity}
 use Rattle.std.specs.declared.alloc.Global.{Global}
 use Rattle.tb_figures.specs.declared.retries.Waiting.{Waiting}
 

@@ -1,4 +1,3 @@
-use Rattle.std.proofs.Common.{refl}
 use Rattle.tb_figures.proofs.CountLemmas.{split_more}
 use Rattle.tb_figures.proofs.counts.Counts.add_batch.Goals as goal
 

@@ -1,8 +1,6 @@
-use Rattle.std.proofs.Common.{◌≡◌, ap, map, refl, subst, sym, ◌++◌, List}
+use Rattle.std.proofs.Common.{refl, subst, sym, ◌++◌, List}
 use Rattle.tb_layout.specs.Events.{Input}
 use Rattle.tb_core.specs.declared.parcel.Parcel.{Parcel}
-use Rattle.tb_core.specs.declared.parcel.Parcel.TheVariants as parcel
-use Rattle.tb_work.specs.Job.{stub_of}
 use Rattle.tb_figures.specs.Counts.{AreCounts, HasPlaces, groups_of, inputs_of}
 use Rattle.tb_figures.specs.Tally.{IsTally}
 use Rattle.tb_figures.specs.declared.counts.Counts.{Counts}
