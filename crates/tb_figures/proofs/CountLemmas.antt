@@ -172,16 +172,40 @@ counts_batch groups jobs old new are few some tally =
     moments-append before group ∙ ap (λ ms. moments_in before ++ ms) (moments_of_batch jobs)
     ∙ append-nil (moments_in before) in
     record {
-      entries = omega (arith, tally.batches, tally.pulses, are.entries, are.some, are.places, few, some.0,
-      length-append groups (group ∷ []));
+      entries = omega (
+        arith,
+        tally.batches,
+        tally.pulses,
+        are.entries,
+        are.some,
+        are.places,
+        few,
+        some.0,
+        length-append groups (group ∷ []),
+      );
       some = omega (arith, tally.batches, tally.packets, are.some, are.places, stubs, few, some.0);
       places = omega (arith, tally.packets, tally.pulses, are.places, few, stubs, long, ap length all);
       pulses = tally.pulses ∙ are.pulses ∙ sym (ap (λ xs. length (moments_in xs)) all ∙ ap length moments);
-      events = omega (arith, tally.events, are.events, events_of_batch jobs some.1, events-append before group,
-      ap events_together all);
-      submitters = λ k below. omega (arith, tally.submitters k below, are.submitters k below,
-      ap (λ xs. length (packets_of k xs)) all, packets-append k before group, length-filter (is_packet_of k) group,
-      count_of_batch k jobs, packets-few k (before ++ group), long, few);
+      events = omega (
+        arith,
+        tally.events,
+        are.events,
+        events_of_batch jobs some.1,
+        events-append before group,
+        ap events_together all,
+      );
+      submitters = λ k below. omega (
+        arith,
+        tally.submitters k below,
+        are.submitters k below,
+        ap (λ xs. length (packets_of k xs)) all,
+        packets-append k before group,
+        length-filter (is_packet_of k) group,
+        count_of_batch k jobs,
+        packets-few k (before ++ group),
+        long,
+        few,
+      );
     }
 
 pub counts_pulse : (groups : List (List Input)) (moment : ℕ) (old new : Counts) → AreCounts groups old
@@ -198,10 +222,18 @@ counts_pulse groups moment old new are few batches pulses packets events submitt
       entries = omega (arith, batches, pulses, are.entries, are.places, few, length-append groups (group ∷ []));
       some = omega (arith, batches, packets, are.some);
       places = omega (arith, packets, pulses, are.places, few, long, ap length all);
-      pulses = omega (arith, pulses, are.pulses, are.places, few, ap (λ xs. length (moments_in xs)) all,
-      ap length (moments-append before group), length-append (moments_in before) (moment ∷ []));
+      pulses = omega (
+        arith,
+        pulses,
+        are.pulses,
+        are.places,
+        few,
+        ap (λ xs. length (moments_in xs)) all,
+        ap length (moments-append before group),
+        length-append (moments_in before) (moment ∷ []),
+      );
       events = events ∙ are.events
-      ∙ sym (ap (λ xs. capped (events_together xs)) all ∙ ap capped (omega (arith, events-append before group)));
+          ∙ sym (ap (λ xs. capped (events_together xs)) all ∙ ap capped (omega (arith, events-append before group)));
       submitters = λ k below. ap (λ xs. slice_index xs k) submitters ∙ are.submitters k below
-      ∙ sym (ap (λ xs. length (packets_of k xs)) all ∙ packets-append k before group ∙ omega arith);
+          ∙ sym (ap (λ xs. length (packets_of k xs)) all ∙ packets-append k before group ∙ omega arith);
     }

@@ -103,8 +103,7 @@ module _ {L : Type 0} (is : L → LedgerState → Type 0) (began before after : 
       → Applying (IsCounted is began before counts) handed outcomes (IsCounted is began after more)
   counts_on adds goes old was =
       let made = applied old was.own in
-      let gained = gains old made.0 outcomes made.2.refused handed made.2.step (goes made.0 made.1) in
-      (
+      let gained = gains old made.0 outcomes made.2.refused handed made.2.step (goes made.0 made.1) in (
         made.0,
         record {
           own = made.1;
@@ -122,8 +121,7 @@ module _ {L : Type 0} (is : L → LedgerState → Type 0) (began before after : 
   pub counts_stay : ((state : LedgerState) → is after state → state.stopped ≡ true)
       → Applying (IsCounted is began before counts) handed outcomes (IsCounted is began after counts)
   counts_stay stops old was =
-      let made = applied old was.own in
-      (
+      let made = applied old was.own in (
         made.0,
         record {
           own = made.1;

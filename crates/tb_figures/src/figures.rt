@@ -1,5 +1,8 @@
 //! What threads may read of a pipeline that runs.
 
+ghost use Rattle.std.specs.Prelude.{◌≡◌, ◌+◌, ◌-◌, max, IfOk};
+ghost use Rattle.tb_figures.specs.Counts.{capped};
+
 use crate::counts::Counts;
 use std::alloc::{AllocError, Global};
 use std::fmt;
@@ -70,13 +73,32 @@ pub struct SubmitterFigures {
 
 impl SubmitterFigures {
     /// Returns how many queued packets have no reply yet.
-    pub fn in_flight(&self) -> u64 {
+    pub fn in_flight(&self) -> u64
+        ensures { result ≡ self.now.queued - self.now.replied }
+    {
         self.queued.saturating_sub(self.replied)
     }
 
     /// Returns how many queued packets aren't committed.
-    pub fn uncommitted(&self) -> u64 {
+    pub fn uncommitted(&self) -> u64
+        ensures { result ≡ self.now.queued - self.now.committed }
+    {
         self.queued.saturating_sub(self.committed)
+    }
+
+    /// Returns the figures of both together: each number is a sum, and the wait the longer one. A sum stays at 2^64 - 1.
+    fn and(&self, other: SubmitterFigures) -> SubmitterFigures
+        ensures queued { result.queued ≡ capped (self.now.queued + other.queued) }
+        ensures replied { result.replied ≡ capped (self.now.replied + other.replied) }
+        ensures committed { result.committed ≡ capped (self.now.committed + other.committed) }
+        ensures longest_wait { result.longest_wait ≡ max self.now.longest_wait other.longest_wait }
+    {
+        SubmitterFigures {
+            queued: self.queued.saturating_add(other.queued),
+            replied: self.replied.saturating_add(other.replied),
+            committed: self.committed.saturating_add(other.committed),
+            longest_wait: self.longest_wait.max(other.longest_wait),
+        }
     }
 }
 
@@ -93,49 +115,32 @@ pub struct FiguresRead {
     pub events: u64,
     /// What is counted of each submitter, by its number; zeros for a number that no submitter has.
     pub submitters: [SubmitterFigures; 16],
-}
-
-impl FiguresRead {
-    /// Returns how many packets are queued by all submitters.
-    pub fn queued(&self) -> u64 {
-        self.submitters
-            .iter()
-            .fold(0, |sum: u64, one| sum.saturating_add(one.queued))
-    }
-
-    /// Returns how many replies all drivers received.
-    pub fn replied(&self) -> u64 {
-        self.submitters
-            .iter()
-            .fold(0, |sum: u64, one| sum.saturating_add(one.replied))
-    }
-
-    /// Returns how many queued packets have no reply yet.
-    pub fn in_flight(&self) -> u64 {
-        self.queued().saturating_sub(self.replied())
-    }
-
-    /// Returns how many queued packets aren't committed.
-    pub fn uncommitted(&self) -> u64 {
-        self.queued().saturating_sub(self.packets)
-    }
-
-    /// Returns the longest wait for a reply of any submitter, in nanoseconds.
-    pub fn longest_wait(&self) -> u64 {
-        self.submitters
-            .iter()
-            .fold(0, |longest: u64, one| longest.max(one.longest_wait))
-    }
+    /// What is counted of all submitters: sums, and the longest wait.
+    pub total: SubmitterFigures,
 }
 
 impl Display for FiguresRead {
     /// Writes one line: what is committed, what is on its way, and the longest wait.
     fn fmt<W: fmt::Write>(&self, f: &mut Formatter<W>) -> fmt::Result {
-        let (batches, pulses, packets, events) =
-            (self.batches, self.pulses, self.packets, self.events);
-        write!(f, "batches {batches}, pulses {pulses}, packets {packets}, events {events}")?;
-        let (queued, in_flight, wait) = (self.queued(), self.in_flight(), self.longest_wait());
-        write!(f, ", queued {queued}, in flight {in_flight}, longest wait {wait} ns")
+        let (batches, pulses, packets, events) = (
+            self.batches,
+            self.pulses,
+            self.packets,
+            self.events,
+        );
+        write!(
+            f,
+            "batches {batches}, pulses {pulses}, packets {packets}, events {events}"
+        )?;
+        let (queued, in_flight, wait) = (
+            self.total.queued,
+            self.total.in_flight(),
+            self.total.longest_wait / 1000,
+        );
+        write!(
+            f,
+            ", queued {queued}, in flight {in_flight}, longest wait {wait} us"
+        )
     }
 }
 
@@ -172,9 +177,11 @@ fn submitter_cells(alloc: Global, submitters: u32) -> Result<Vec<SubmitterCells>
 }
 
 impl Figures {
-    /// Returns figures of a pipeline that was opened with this number of submitters, at most 16, and this credit. All are 0. Allocates 32
-    /// bytes for each submitter.
-    pub fn new(alloc: Global, submitters: u32, credit: u32) -> Result<Figures, AllocError> {
+    /// Returns figures of a pipeline that is opened with this number of submitters, at most 16, and this credit. All are 0. Allocates 32
+    /// bytes for each submitter. They are of one counted ledger, and of its drivers in run after run.
+    pub fn new(alloc: Global, submitters: u32, credit: u32) -> Result<Figures, AllocError>
+        ensures { IfOk result (λ figures. figures.credit ≡ credit) }
+    {
         let submitters = submitter_cells(alloc, submitters.min(SUBMITTERS_MAX as u32))?;
         let cells = Cells {
             batches: AtomicU64::new(0),
@@ -190,12 +197,15 @@ impl Figures {
     }
 
     /// Returns how many packets of a submitter may be in flight.
-    pub(crate) fn credit(&self) -> usize {
+    pub(crate) fn credit(&self) -> usize
+        ensures { result ≡ self.now.credit }
+    {
         self.credit as usize
     }
 
     /// Returns what is counted up to now. Costs some 70 atomic loads, and slows no other thread down.
     pub fn read(&self) -> FiguresRead {
+        let mut total = SubmitterFigures::default();
         let mut read = FiguresRead {
             batches: self.cells.batches.load(Ordering::SeqCst),
             pulses: self.cells.pulses.load(Ordering::SeqCst),
@@ -204,8 +214,11 @@ impl Figures {
             ..FiguresRead::default()
         };
         for (cells, one) in self.cells.submitters.iter().zip(read.submitters.iter_mut()) {
-            *one = cells.read();
+            let figures = cells.read();
+            total = total.and(figures);
+            *one = figures;
         }
+        read.total = total;
         read
     }
 
@@ -217,10 +230,12 @@ impl Figures {
         }
     }
 
-    /// Stores what a ledger counted.
+    /// Stores what a ledger counted. A load costs less than a store, so what is the same isn't stored again.
     pub(crate) fn store(&self, counts: &Counts) {
         for (cells, committed) in self.cells.submitters.iter().zip(counts.submitters.iter()) {
-            cells.committed.store(*committed, Ordering::SeqCst);
+            if cells.committed.load(Ordering::SeqCst) != *committed {
+                cells.committed.store(*committed, Ordering::SeqCst);
+            }
         }
         self.cells.batches.store(counts.batches, Ordering::SeqCst);
         self.cells.pulses.store(counts.pulses, Ordering::SeqCst);
