@@ -7,11 +7,18 @@ use std::time::{Clock, Instant};
 use tb_drive::{Action, Driver};
 use tb_work::{Refusal, Reply};
 
-/// When each packet in flight was queued.
+/// When a packet was queued, by its number.
+#[derive(Clone, Copy)]
+struct Queued {
+    number: u64,
+    moment: Instant,
+}
+
+/// When each packet in flight was queued, in a ring.
 #[derive(Drop)]
 struct Moments<R: Clock + Drop> {
     clock: R,
-    queued: Vec<Option<Instant>>,
+    queued: Vec<Option<Queued>>,
 }
 
 /// Returns the slot of a packet's number in a ring of this length; None if it has none.
@@ -34,19 +41,25 @@ impl<R: Clock + Drop> Moments<R> {
 
     /// Keeps when a packet is queued.
     fn note(&mut self, number: u64) {
-        let now = Instant::now(&self.clock).ok();
-        let length = self.queued.len();
-        if let Some(moment) = slot(number, length).and_then(|slot| self.queued.get_mut(slot)) {
-            *moment = now;
+        let Ok(moment) = Instant::now(&self.clock) else {
+            return;
+        };
+        if let Some(slot) = slot(number, self.queued.len()) {
+            if let Some(queued) = self.queued.get_mut(slot) {
+                *queued = Some(Queued { number, moment });
+            }
         }
     }
 
     /// Returns how long ago a packet was queued, in nanoseconds; None if that isn't known.
-    fn wait_of(&mut self, number: u64) -> Option<u64> {
+    fn wait_of(&self, number: u64) -> Option<u64> {
         let slot = slot(number, self.queued.len())?;
-        let queued = self.queued.get_mut(slot)?.take()?;
+        let queued = (*self.queued.get(slot)?)?;
+        if queued.number != number {
+            return None;
+        }
         let now = Instant::now(&self.clock).ok()?;
-        Some(u64::try_from(now.duration_since(queued).as_nanos()).unwrap_or(u64::MAX))
+        Some(u64::try_from(now.duration_since(queued.moment).as_nanos()).unwrap_or(u64::MAX))
     }
 }
 

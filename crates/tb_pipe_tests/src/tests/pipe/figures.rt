@@ -1,13 +1,12 @@
 //! Figures of runs: at their end what the report says, and before it numbers that only rise.
 
 use std::alloc::Global;
-use std::io;
 use std::process::Abort;
 use std::sync::Wait;
 use std::sync::atomic::{AtomicBool, AtomicU64, Ordering};
-use std::thread;
 use std::thread::Threads;
 use std::time::{Clock, Duration};
+use std::{io, thread};
 use tb_core::{AnyLedger, BareLedger, Ledger, Parcel, Seed};
 use tb_drive::{Action, ControlPlan, Driver};
 use tb_figures::{CountedDriver, CountedLedger, Figures, FiguresRead, SubmitterFigures};
@@ -42,9 +41,7 @@ impl Ticks {
 
 impl Clock for Ticks {
     fn monotonic(&self) -> io::Result<Duration> {
-        Ok(Duration::from_micros(
-            self.now.fetch_add(1, Ordering::SeqCst),
-        ))
+        Ok(Duration::from_micros(self.now.fetch_add(1, Ordering::SeqCst)))
     }
 
     fn since_1970(&self) -> io::Result<Duration> {
@@ -69,8 +66,7 @@ impl Driver for Sender {
             };
         }
         self.left -= 1;
-        accounts_packet(alloc, &[account(1, 0), account(2, 0)])
-            .map_or(Action::End, Action::Submit)
+        accounts_packet(alloc, &[account(1, 0), account(2, 0)]).map_or(Action::End, Action::Submit)
     }
 
     fn submitted(&mut self, told: Result<u64, Refusal>) {
@@ -89,18 +85,20 @@ fn another(rt: &impl Abort, figures: &Figures) -> Figures {
 }
 
 /// Returns a counted driver for each submitter.
-fn senders(
-    rt: &impl Abort,
-    alloc: Global,
-    figures: &Figures,
-) -> Vec<CountedDriver<Sender, Ticks>> {
+fn senders(rt: &impl Abort, alloc: Global, figures: &Figures) -> Vec<CountedDriver<Sender, Ticks>> {
     let mut senders = Vec::new(alloc);
     for submitter in 0..SENDERS as usize {
         let sender = Sender {
             left: PACKETS,
             unread: 0,
         };
-        let counted = CountedDriver::new(alloc, sender, Ticks::new(), another(rt, figures), submitter);
+        let counted = CountedDriver::new(
+            alloc,
+            sender,
+            Ticks::new(),
+            another(rt, figures),
+            submitter,
+        );
         senders
             .push(counted.ok().expect(rt, "memory"))
             .expect(rt, "memory");
@@ -196,13 +194,16 @@ fn assert_figures<L: AnyLedger>(
     runs: u64,
 ) {
     let counts = ledger.counts();
-    let packets = u64::from(SENDERS) * PACKETS * runs;
+    let each = PACKETS.saturating_mul(runs);
+    let packets = each.saturating_mul(u64::from(SENDERS));
+    let pulses = runs.saturating_mul(PULSES as u64);
+    let events = packets.saturating_mul(2);
     check!(rt; counts.packets == packets && read.packets == packets);
-    check!(rt; counts.events == 2 * packets && read.events == 2 * packets);
-    check!(rt; counts.pulses == PULSES as u64 * runs && read.pulses == counts.pulses);
+    check!(rt; counts.events == events && read.events == events);
+    check!(rt; counts.pulses == pulses && read.pulses == pulses);
     check!(rt; counts.batches <= packets && read.batches == counts.batches);
     for (counted, one) in counts.submitters.iter().zip(read.submitters.iter()) {
-        check!(rt; *counted == PACKETS * runs && one.committed == *counted);
+        check!(rt; *counted == each && one.committed == *counted);
         check!(rt; one.queued == *counted && one.replied == *counted);
         check!(rt; one.in_flight() == 0 && one.uncommitted() == 0);
         check!(rt; 0 < one.longest_wait && one.longest_wait <= u64::from(CREDIT) * 2000);
@@ -216,7 +217,9 @@ fn run_twice<R: Threads + Wait + Sync + Abort, L: AnyLedger + Send>(
     alloc: Global,
     ledger: L,
 ) -> L {
-    let figures = Figures::new(alloc, SENDERS, CREDIT).ok().expect(rt, "memory");
+    let figures = Figures::new(alloc, SENDERS, CREDIT)
+        .ok()
+        .expect(rt, "memory");
     let counted = CountedLedger::over(ledger, another(rt, &figures));
     let (counted, read) = run_watched(rt, alloc, &figures, counted);
     assert_figures(rt, &counted, &read, 1);
@@ -312,6 +315,7 @@ fn figures_are_shown_in_a_line(rt: HostRuntime) {
         committed: 3,
         longest_wait: 7999,
     };
-    let wanted = "batches 1, pulses 2, packets 3, events 4, queued 6, in flight 1, longest wait 7 us";
+    let wanted =
+        "batches 1, pulses 2, packets 3, events 4, queued 6, in flight 1, longest wait 7 us";
     check!(&rt; format!(in rt.alloc(); "{read}").expect(&rt, "memory").as_str() == wanted);
 }
