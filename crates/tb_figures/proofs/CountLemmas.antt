@@ -20,7 +20,7 @@ use Rattle.tb_work.specs.declared.stub.Stub.{Stub}
 use Rattle.tb_batch.specs.Batch.{AreAdmitted}
 use Rattle.tb_core.specs.EachSubmitter.{is_packet_of, moments_in, packets_of}
 use Rattle.tb_core.specs.Grouping.{events_together}
-use Rattle.tb_figures.specs.Counts.{AreCounts, capped, inputs_of}
+use Rattle.tb_figures.specs.Counts.{AreCounts, AreFull, capped, inputs_of}
 use Rattle.tb_figures.specs.Tally.{IsSplit, IsTally, is_of}
 use Rattle.tb_figures.specs.declared.counts.Counts.{Counts}
 
@@ -155,6 +155,11 @@ packets-append k xs ys = ap length (filter-append (is_packet_of k) xs ys)
 packets-few : (k : ℕ) (xs : List Input) → length (packets_of k xs) ≤ length xs
 packets-few k xs = omega (arith, length-filter (is_packet_of k) xs, count_by-le-length (is_packet_of k) xs)
 
+full-push : (groups : List (List Input)) (group : List Input) → AreFull groups → 0 < length group
+    → AreFull (groups ++ group ∷ [])
+full-push [] group full some = (some, tt)
+full-push (first ∷ groups) group full some = (full.0, full-push groups group full.1 some)
+
 -- ---- one batch, one pulse
 
 pub counts_batch : (groups : List (List Input)) (jobs : List Numbered) (old new : Counts) → AreCounts groups old
@@ -172,6 +177,7 @@ counts_batch groups jobs old new are few some tally =
     moments-append before group ∙ ap (λ ms. moments_in before ++ ms) (moments_of_batch jobs)
     ∙ append-nil (moments_in before) in
     record {
+      full = full-push groups group are.full (omega (arith, some.0, packets));
       entries = omega (
         arith,
         tally.batches,
@@ -219,6 +225,7 @@ counts_pulse groups moment old new are few batches pulses packets events submitt
     let all = inputs-more groups group in
     let long = length-append before group in
     record {
+      full = full-push groups group are.full (omega arith);
       entries = omega (arith, batches, pulses, are.entries, are.places, few, length-append groups (group ∷ []));
       some = omega (arith, batches, packets, are.some);
       places = omega (arith, packets, pulses, are.places, few, long, ap length all);

@@ -1,7 +1,6 @@
 -- What one more parcel adds to a ledger, and to its counts.
-use Rattle.std.proofs.Common.{refl, sym, ap, subst, ◌∙◌, arith, ◌≡◌, ◌≤◌, ℕ, ◌+◌, Bool, true, false, List, [], ◌∷◌, ◌++◌, drop, map, length, length-append, append-nil}
+use Rattle.std.proofs.Common.{refl, sym, ap, subst, ◌∙◌, arith, ◌≡◌, ◌≤◌, ℕ, ◌+◌, Bool, true, false, List, [], ◌∷◌, ◌++◌, map, length, length-append, append-nil}
 use Rattle.std.specs.Prelude.{◌||◌, if◌then◌else◌, nat_lt}
-use Rattle.std.proofs.Math.Seq.{drop-append_seam}
 use Rattle.std.proofs.lemmas.Bool.{or_parts}
 use Rattle.std.proofs.lemmas.Grind.{flat_map-append}
 use Rattle.std.proofs.lemmas.List.{append_assoc}
@@ -14,11 +13,13 @@ use Rattle.tb_core.specs.declared.parcel.Parcel.{Parcel}
 use Rattle.tb_core.specs.declared.parcel.Parcel.TheVariants as parcel
 use Rattle.tb_core.specs.declared.outcomes.Outcomes.{Outcomes}
 use Rattle.tb_core.specs.declared.outcomes.Outcomes.TheVariants.{Cut, Nothing}
-use Rattle.tb_core.specs.Journal.{LedgerState, inputs}
+use Rattle.tb_core.proofs.Since.{groups-inputs, prefix-drop}
+use Rattle.tb_core.specs.Grouping.{AreJoined}
+use Rattle.tb_core.specs.Journal.{LedgerState, groups_since, inputs}
 use Rattle.tb_core.specs.AnyLedger.{Applying}
 use Rattle.tb_core.specs.Ledger.{Applied, apply_result, apply_step, must_stop, step_of_batch, with_entry, with_stop}
-use Rattle.tb_figures.specs.Counts.{AreCounts, HasPlaces, groups_of, inputs_of}
-use Rattle.tb_figures.specs.Counted.{HasGained, IsCounted}
+use Rattle.tb_figures.specs.Counts.{AreCounts, AreFull, HasPlaces, groups_of, inputs_of}
+use Rattle.tb_figures.specs.Counted.{CountsAreExact, IsCounted}
 use Rattle.tb_figures.specs.declared.counts.Counts.{Counts}
 
 -- ---- one parcel
@@ -85,62 +86,107 @@ fits parcel.Last before all short has = tt
 
 -- ---- a ledger that counts
 
-since-short : (state start : LedgerState) (since : List (List Input)) → state.groups ≡ start.groups ++ since
-    → length (inputs_of since) ≤ length (inputs state)
-since-short state start since is =
+last-short : (state : LedgerState) (before last : List (List Input)) → state.groups ≡ before ++ last
+    → length (inputs_of last) ≤ length (inputs state)
+last-short state before last is =
     omega (
       arith,
       ap (λ groups. length (inputs_of groups)) is,
-      ap length (flat_map-append (λ (group : List Input). group) start.groups since),
-      length-append (inputs start) (inputs_of since),
+      ap length (flat_map-append (λ (group : List Input). group) before last),
+      length-append (inputs_of before) (inputs_of last),
     )
 
-module _ {L : Type 0} (is : L → LedgerState → Type 0) (began before after : L) (counts more : Counts) (handed : Parcel)
+module _ {L : Type 0} (is : L → LedgerState → Type 0) (before after : L) (counts more : Counts) (handed : Parcel)
     (outcomes : Outcomes) (applied : Applying (is before) handed outcomes (is after)) where
   pub counts_on : ((groups : List (List Input)) → AreCounts groups counts → HasPlaces (inputs_of groups) handed
       → AreCounts (groups ++ groups_of handed) more)
       → ((state : LedgerState) → is after state → state.stopped ≡ false)
-      → Applying (IsCounted is began before counts) handed outcomes (IsCounted is began after more)
+      → Applying (IsCounted is before counts) handed outcomes (IsCounted is after more)
   counts_on adds goes old was =
       let made = applied old was.own in
+      let had = was.last in
       let gained = gains old made.0 outcomes made.2.refused handed made.2.step (goes made.0 made.1) in (
         made.0,
         record {
           own = made.1;
-          start = was.start;
-          was = was.was;
-          since = was.since ++ groups_of handed;
-          gained = gained.0 ∙ ap (λ groups. groups ++ groups_of handed) was.gained
-              ∙ append_assoc was.start.groups was.since (groups_of handed);
-          counted = adds was.since was.counted
-              (fits handed (inputs_of was.since) (inputs old) (since-short old was.start was.since was.gained) gained.1);
+          last = record {
+            before = had.before;
+            last = had.last ++ groups_of handed;
+            groups = gained.0 ∙ ap (λ groups. groups ++ groups_of handed) had.groups
+                ∙ append_assoc had.before had.last (groups_of handed);
+            counted = adds had.last had.counted (fits handed (inputs_of had.last) (inputs old)
+                (last-short old had.before had.last had.groups) gained.1);
+          };
         },
         made.2,
       )
 
   pub counts_stay : ((state : LedgerState) → is after state → state.stopped ≡ true)
-      → Applying (IsCounted is began before counts) handed outcomes (IsCounted is began after counts)
+      → Applying (IsCounted is before counts) handed outcomes (IsCounted is after counts)
   counts_stay stops old was =
-      let made = applied old was.own in (
+      let made = applied old was.own in
+      let had = was.last in (
         made.0,
         record {
           own = made.1;
-          start = was.start;
-          was = was.was;
-          since = was.since;
-          gained = stays old made.0 outcomes made.2.refused handed made.2.step (stops made.0 made.1) ∙ was.gained;
-          counted = was.counted;
+          last = record {
+            before = had.before;
+            last = had.last;
+            groups = stays old made.0 outcomes made.2.refused handed made.2.step (stops made.0 made.1) ∙ had.groups;
+            counted = had.counted;
+          };
         },
         made.2,
       )
 
-pub has_gained : {L : Type 0} (is : L → LedgerState → Type 0) (began ledger : L) (counts : Counts) (state : LedgerState)
-    → IsCounted is began ledger counts state → HasGained (is began) counts state
-has_gained is began ledger counts state counted = record {
-  start = counted.start;
-  began = counted.was;
-  continues = (counted.since, sym counted.gained);
-  counted = subst (λ groups. AreCounts groups counts)
-      (sym (ap (drop (length counted.start.groups)) counted.gained ∙ drop-append_seam counted.start.groups counted.since))
-      counted.counted;
-}
+-- ---- the counts of a run
+
+joined-full : (limit : ℕ) (groups : List (List Input)) → AreJoined limit groups → AreFull groups
+joined-full limit [] joined = tt
+joined-full limit ([] ∷ groups) joined = absurd joined.0
+joined-full limit ((input ∷ group) ∷ groups) joined = (omega arith, joined-full limit groups joined.1)
+
+-- the last groups of a list are known by how many packets and pulses they have
+same-last : (xs ys ps qs : List (List Input)) → xs ++ ps ≡ ys ++ qs → AreFull ps → AreFull qs
+    → length (inputs_of ps) ≡ length (inputs_of qs) → ps ≡ qs
+same-last [] [] ps qs is full_ps full_qs long = is
+same-last [] (y ∷ ys) [] qs is full_ps full_qs long = cc
+same-last [] (y ∷ ys) (p ∷ ps) qs is full_ps full_qs long =
+    let rest : ps ≡ ys ++ qs = cc in
+    absurd (omega (
+      arith,
+      full_ps.0,
+      long,
+      ap length (flat_map-append (λ (g : List Input). g) (p ∷ []) ps),
+      length-append (inputs_of (p ∷ [])) (inputs_of ps),
+      ap length (append-nil p),
+      ap (λ groups. length (inputs_of groups)) rest,
+      ap length (flat_map-append (λ (g : List Input). g) ys qs),
+      length-append (inputs_of ys) (inputs_of qs),
+    ))
+same-last (x ∷ xs) [] ps [] is full_ps full_qs long = cc
+same-last (x ∷ xs) [] ps (q ∷ qs) is full_ps full_qs long =
+    let rest : qs ≡ xs ++ ps = cc in
+    absurd (omega (
+      arith,
+      full_qs.0,
+      long,
+      ap length (flat_map-append (λ (g : List Input). g) (q ∷ []) qs),
+      length-append (inputs_of (q ∷ [])) (inputs_of qs),
+      ap length (append-nil q),
+      ap (λ groups. length (inputs_of groups)) rest,
+      ap length (flat_map-append (λ (g : List Input). g) xs ps),
+      length-append (inputs_of xs) (inputs_of ps),
+    ))
+same-last (x ∷ xs) (y ∷ ys) ps qs is full_ps full_qs long =
+    let rest : xs ++ ps ≡ ys ++ qs = cc in
+    same-last xs ys ps qs rest full_ps full_qs long
+
+pub counts_are_exact : CountsAreExact
+counts_are_exact start state limit counts prefix joined places last =
+    subst (λ groups. AreCounts groups counts)
+    (sym (same-last start.groups last.before (groups_since start state) last.last
+    (prefix-drop start.groups state.groups prefix ∙ last.groups) (joined-full limit (groups_since start state) joined)
+    last.counted.full
+    (ap length (groups-inputs start state prefix) ∙ sym places ∙ last.counted.places)))
+    last.counted

@@ -1,6 +1,6 @@
 -- What is counted of the groups of a journal.
 use Rattle.std.specs.Prelude.{◌≡◌, ◌<◌, ◌≤◌, ℕ, ◌+◌, List, [], ◌∷◌, length, map, min, slice_index, ◌-◌, ◌^◌}
-use Rattle.std.specs.List.{flat_map}
+use Rattle.std.specs.List.{AllByRecursion, flat_map}
 use Rattle.tb_layout.specs.Events.{Input, Pulse}
 use Rattle.tb_layout.specs.inside.Limits.{places_max}
 use Rattle.tb_work.specs.Packet.{input_of}
@@ -30,9 +30,14 @@ HasPlaces before (parcel.Batch jobs) = length before + length jobs ≤ places_ma
 HasPlaces before (parcel.Pulse moment) = length before + 1 ≤ places_max
 HasPlaces before other = Unit {0}
 
+-- each group has a packet or a pulse
+abbrev pub AreFull : List (List Input) → Type 0
+AreFull groups = AllByRecursion (λ group. 0 < length group) groups
+
 -- These are the counts of some groups. Each group is a batch, which has a packet, or a pulse. Each of their inputs is a packet or a
 -- pulse. There are at most 16 submitters.
 pub record AreCounts (groups : List (List Input)) (counts : Counts) : Type 0 where
+  pub full : AreFull groups
   pub entries : counts.batches + counts.pulses ≡ length groups
   pub some : counts.batches ≤ counts.packets
   pub places : counts.packets + counts.pulses ≡ length (inputs_of groups)

@@ -99,7 +99,7 @@ impl<D: Driver, R: Clock + Drop> CountedDriver<D, R> {
     ghost use Rattle.std.specs.Prelude.{◌≡◌, IfOk};
 
     /// Returns the driver, whose packets are counted as those of the submitter of this number. `clock` measures how long replies take;
-    /// a clone of the runtime is one. Allocates 24 bytes for each packet that may be in flight (the credit given to `Figures::new`), and
+    /// a clone of the runtime is one. Allocates 32 bytes for each packet that may be in flight (the credit given to `Figures::new`), and
     /// nothing later.
     pub fn new(
         alloc: Global,

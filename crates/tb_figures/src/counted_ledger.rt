@@ -2,7 +2,6 @@
 
 use crate::counts::Counts;
 use crate::figures::Figures;
-use std::snapshot::Snapshot;
 use tb_core::{AnyLedger, Outcomes, Parcel};
 
 /// A ledger that counts what is committed to it since it was made, and stores its counts into `Figures` after each parcel.
@@ -10,7 +9,6 @@ pub struct CountedLedger<L: AnyLedger> {
     ledger: L,
     counts: Counts,
     figures: Figures,
-    began: Snapshot<L>,
 }
 
 impl<L: AnyLedger> Drop for CountedLedger<L> {
@@ -20,43 +18,37 @@ impl<L: AnyLedger> Drop for CountedLedger<L> {
             ledger,
             counts: _,
             figures,
-            began,
         } = self;
         drop(ledger);
         drop(figures);
-        drop(began);
     }
 }
 
 impl<L: AnyLedger> CountedLedger<L> {
     ghost use Rattle.std.specs.Prelude.{◌≡◌, []};
     ghost use Rattle.tb_core.specs.Journal.{LedgerState};
-    ghost use Rattle.tb_figures.specs.Counted.{HasGained, IsCounted};
+    ghost use Rattle.tb_figures.specs.Counted.{HasLast, IsCounted};
     ghost use Rattle.tb_figures.specs.Counts.{AreCounts};
 
     /// Returns the ledger with counts of nothing. What it committed before isn't counted.
     pub fn over(ledger: L, figures: Figures) -> CountedLedger<L>
         ensures ledger { result.ledger ≡ ledger }
-        ensures began { result.began.value ≡ ledger }
         ensures counts { AreCounts [] result.counts }
         ensures counted { (state : LedgerState) → L.is ledger state
-            → IsCounted L.is result.began.value result.ledger result.counts state }
+            → IsCounted L.is result.ledger result.counts state }
     {
-        let began = Snapshot::of(&ledger);
         CountedLedger {
             ledger,
             counts: Counts::new(),
             figures,
-            began,
         }
     }
 
-    /// Returns what was committed since it was made. Of each ledger that it may be, the counts are those of the groups that the
-    /// journal gained since.
+    /// Returns what was committed since it was made. Of each ledger that it may be, they are the counts of the journal's last groups. If
+    /// as many packets and pulses are counted as a run gained places, they are those of the run, by `counts_are_exact`.
     pub fn counts(&self) -> Counts
         ensures counts { result ≡ self.now.counts }
-        ensures exact { (state : LedgerState) → IsCounted L.is self.now.began.value self.now.ledger self.now.counts state
-            → HasGained (L.is self.now.began.value) result state }
+        ensures last { (state : LedgerState) → IsCounted L.is self.now.ledger self.now.counts state → HasLast result state }
     {
         self.counts
     }
@@ -76,10 +68,8 @@ impl<L: AnyLedger> CountedLedger<L> {
             ledger,
             counts: _,
             figures,
-            began,
         } = self;
         drop(figures);
-        drop(began);
         ledger
     }
 }
@@ -87,7 +77,7 @@ impl<L: AnyLedger> CountedLedger<L> {
 impl<L: AnyLedger> AnyLedger for CountedLedger<L> {
     ghost use Rattle.tb_figures.specs.Counted.{IsCounted};
 
-    ghost is = { λ counted state. IsCounted L.is counted.began.value counted.ledger counted.counts state };
+    ghost is = { λ counted state. IsCounted L.is counted.ledger counted.counts state };
 
     fn stopped(&self) -> bool {
         self.ledger.stopped()
