@@ -3,7 +3,7 @@
 //!     example_service FILE [PAYMENTS]
 //!
 //! Four tills post payments through one pipeline, each from a thread of its own. Each payment moves 1 from a till's wallet to its shop.
-//! A wallet can't pay more than it has, and is topped up every 5 milliseconds. A payment that fails meanwhile is tried again, with a new
+//! A wallet can't pay more than it has, and is topped up every 50 milliseconds. A payment that fails meanwhile is tried again, with a new
 //! id, after a delay that doubles. The ledger is in FILE, which is made if it isn't there, and which `sqlite3` reads. Each till begins
 //! PAYMENTS payments, or as many as come until the process is killed. It prints a line for each reply. Now and then it looks its wallet
 //! up, and prints what is there. Standard error has a line of figures now and then, and one at the end.

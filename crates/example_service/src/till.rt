@@ -14,10 +14,10 @@ use tb_work::{Packet, Refusal, Reply};
 const MILLISECOND: u64 = 1_000_000;
 
 /// How long a till waits between two top-ups of its wallet.
-const TOP_UP_EVERY: u64 = 5 * MILLISECOND;
+const TOP_UP_EVERY: u64 = 50 * MILLISECOND;
 
 /// How long a till waits before it looks its balance up again.
-const BALANCE_EVERY: u64 = 20 * MILLISECOND;
+const BALANCE_EVERY: u64 = 100 * MILLISECOND;
 
 /// How long a till waits before it writes figures again.
 const FIGURES_EVERY: u64 = 200 * MILLISECOND;
