@@ -50,13 +50,14 @@ def enclosing_function(path, texts, offset):
 
 def implementor_of(lines, number, path, texts):
     """Returns what a check puts ahead of the name of a method: `stop::Stop::`, or `gate::OpenGate::` for the trait `Gate`; and
-    whether its `impl` is of a trait. A type's own methods are named by the file of the type, a trait's by the file of the `impl`."""
+    whether its `impl` is of a trait. A type's own methods are named by the file of the type, a trait's by the file of the `impl`. A
+    type's `drop` is named as if it were its own."""
     header = next((IMPL.match(line) for line in reversed(lines[:number]) if line.startswith("impl")), None)
     if header is None:
         return module_of(path), False
-    generics = set(re.findall(r"\w+", header["generics"] or ""))
+    generics = set(re.findall(r"(?:^|, )'?(\w+)", header["generics"] or ""))
     kind, trait = header["type"].split("::")[-1], header["trait"]
     homes = [it for it, text in texts.items() if kind in TYPE.findall(text)] if trait is None else []
-    parts = [kind, *re.findall(r"\w+", trait or "")]
+    parts = [kind, *re.findall(r"\w+", "" if trait in (None, "Drop") else trait)]
     home = path if path in homes or not homes else homes[0]
     return module_of(home) + "".join(it for it in parts if it not in generics) + "::", trait is not None

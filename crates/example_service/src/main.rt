@@ -1,15 +1,18 @@
 //! A payment service whose ledger is in a file, so that it outlives the process.
 //!
-//!     example_service FILE [PACKETS]
+//!     example_service FILE [PAYMENTS]
 //!
 //! Four tills post payments through one pipeline, each from a thread of its own. Each payment moves 1 from a till's wallet to its shop.
-//! The ledger is in FILE, which is made if it isn't there, and which `sqlite3` reads. Each till queues PACKETS packets, or as many as
-//! come until the process is killed. It prints a line for each reply.
+//! A wallet can't pay more than it has, and is topped up every 50 milliseconds. A payment that fails meanwhile is tried again, with a new
+//! id, after a delay that doubles. The ledger is in FILE, which is made if it isn't there, and which `sqlite3` reads. Each till begins
+//! PAYMENTS payments, or as many as come until the process is killed. It prints a line for each reply. Now and then it looks its wallet
+//! up, and prints what is there. Standard error has a line of figures now and then, and one at the end.
 //!
-//! What a line calls committed is on the disk. If the process is killed, it is run again: each till goes on behind its packets that are
-//! stored. So no payment is lost or posted twice, also if its line was never printed.
+//! What a line calls committed is on the disk. If the process is killed, it is run again: each till continues after its packets that are
+//! stored. So no transfer is lost or posted twice, also if its line was never printed. Only the process knows which payments are to be
+//! tried again: a kill leaves these undone. `tools/check-durable` tests it.
 //!
-//! The journal is in the file alone. So the memory of a run grows by the accounts and transfers that are stored, however long it runs.
+//! The journal is only in the file. So the memory of a run grows by the accounts and transfers that are stored, however long it runs.
 //!
 //! The status is 0 if all was committed, 1 for other arguments, and 2 if the ledger can't be opened, it stopped, or memory, a thread or
 //! the output failed. Then standard error has a line that says why. If a ledger stops, its last batch may be in the file though its
@@ -18,8 +21,10 @@
 
 ghost use Rattle.std.specs.Prelude.{◌≡◌, IfSome, length};
 
+mod payments;
 mod till;
 
+use crate::payments::TillAccounts;
 use crate::till::Till;
 use sqlite_trees::store::Store;
 use std::alloc::Global;
@@ -27,9 +32,10 @@ use std::env;
 use std::process::ExitCode;
 use std::sync::Wait;
 use std::thread::Threads;
-use tb_core::Seed;
+use tb_core::{AnyLedger, Seed};
 use tb_drive::ControlPlan;
 use tb_durable::{DurableLedger, LedgerFile, Settings, open_file};
+use tb_figures::{CountedDriver, CountedLedger, Figures};
 use tb_layout::BATCH_MAX;
 use tb_pipe::{Finished, Report, drive_over, open};
 
@@ -43,19 +49,24 @@ const SETTINGS: Settings = Settings {
     submitters: TILLS,
 };
 
+/// How many packets of a till may be in flight.
+const CREDIT: u32 = 16;
+
 type FileLedger = DurableLedger<LedgerFile>;
 
-/// Returns the path and the number of packets that the words ask for.
+type CountedTill = CountedDriver<Till, HostRuntime>;
+
+/// Returns the path and the number of payments that the words ask for.
 fn asked(rt: &HostRuntime) -> Option<(String, u64)> {
     let mut words = env::args(rt).ok()?;
     words.next()?;
     let path = words.next()?;
-    let packets = match words.next() {
+    let payments = match words.next() {
         Some(word) => word.as_str().parse().ok(),
         None => Some(u64::MAX),
     };
-    match (packets, words.next()) {
-        (Some(packets), None) => Some((path, packets)),
+    match (payments, words.next()) {
+        (Some(payments), None) => Some((path, payments)),
         _ => {
             drop(path);
             None
@@ -89,30 +100,77 @@ fn open_ledger(rt: &HostRuntime, path: &str) -> Option<FileLedger> {
     }
 }
 
-/// Returns the tills, each of which goes on behind its packets that are stored.
-fn tills(rt: &HostRuntime, stored: [u64; 16], packets: u64) -> Option<Vec<Till>>
+/// Returns a till that continues after its packets that are stored, and that is counted. The first writes the figures.
+fn counted_till(
+    rt: &HostRuntime,
+    figures: &Figures,
+    number: u32,
+    stored: u64,
+    payments: u64,
+) -> Option<CountedTill> {
+    let mut till = Till::new(rt.clone().ok()?, number, stored, payments)?;
+    if number == 0 {
+        till.write_figures(figures.clone().ok()?);
+    }
+    let clock = rt.clone().ok()?;
+    CountedDriver::new(
+        rt.alloc(),
+        till,
+        clock,
+        figures.clone().ok()?,
+        number as usize,
+    )
+    .ok()
+}
+
+/// Returns the tills.
+fn tills(
+    rt: &HostRuntime,
+    figures: &Figures,
+    stored: [u64; 16],
+    payments: u64,
+) -> Option<Vec<CountedTill>>
     ensures { IfSome result (λ tills. length tills.items ≡ 4) }
 {
     vec![in rt.alloc();
-        Till::new(rt.clone().ok()?, 0, stored[0], packets),
-        Till::new(rt.clone().ok()?, 1, stored[1], packets),
-        Till::new(rt.clone().ok()?, 2, stored[2], packets),
-        Till::new(rt.clone().ok()?, 3, stored[3], packets),
+        counted_till(rt, figures, 0, stored[0], payments)?,
+        counted_till(rt, figures, 1, stored[1], payments)?,
+        counted_till(rt, figures, 2, stored[2], payments)?,
+        counted_till(rt, figures, 3, stored[3], payments)?,
     ]
     .ok()
 }
 
-/// Runs a pipeline over a ledger until all tills have ended. Returns the ledger, and whether no till gave up. None if memory ran out
-/// before the run, or a thread couldn't be started: what was committed is in the file.
-fn run<R: Threads + Wait + Sync, S: Store + Drop + Send>(
+/// Returns the tills, and the figures that their ledger counts for.
+fn figures_and_tills(
+    rt: &HostRuntime,
+    figures: &Figures,
+    stored: [u64; 16],
+    payments: u64,
+) -> Option<(Figures, Vec<CountedTill>)>
+    ensures { IfSome result (λ both. length both.1.items ≡ 4) }
+{
+    let figures_of_ledger = figures.clone().ok()?;
+    match tills(rt, figures, stored, payments) {
+        Some(tills) => Some((figures_of_ledger, tills)),
+        None => {
+            drop(figures_of_ledger);
+            None
+        }
+    }
+}
+
+/// Runs a pipeline over a ledger until all tills have ended, and counts what is committed. Returns the ledger, and whether no till gave
+/// up. None if memory ran out before the run, or a thread couldn't be started: what was committed is in the file.
+fn run_counted<R: Threads + Wait + Sync, L: AnyLedger + Send>(
     rt: &R,
     alloc: Global,
-    ledger: DurableLedger<S>,
-    tills: Vec<Till>,
-) -> Option<(DurableLedger<S>, bool)>
+    ledger: CountedLedger<L>,
+    tills: Vec<CountedTill>,
+) -> Option<(L, bool)>
     requires { length tills.items ≡ 4 }
 {
-    let Ok(opened) = open(alloc, 0, BATCH_MAX, 64, 16, TILLS) else {
+    let Ok(opened) = open(alloc, 0, BATCH_MAX, 64, CREDIT, TILLS) else {
         return None;
     };
     let Ok(opened) = opened.over(ledger) else {
@@ -128,8 +186,21 @@ fn run<R: Threads + Wait + Sync, S: Store + Drop + Send>(
         ..
     } = finished;
     let Report { ledger, .. } = report;
-    let complete = drivers.iter().all(|till| !till.gave_up);
-    Some((ledger, complete))
+    let complete = drivers.iter().all(|till| !till.driver().gave_up);
+    Some((ledger.into_ledger(), complete))
+}
+
+/// Runs the tills over a ledger in a file, as `run_counted` does.
+fn run<R: Threads + Wait + Sync, S: Store + Drop + Send>(
+    rt: &R,
+    alloc: Global,
+    ledger: DurableLedger<S>,
+    figures: Figures,
+    tills: Vec<CountedTill>,
+) -> Option<(DurableLedger<S>, bool)>
+    requires { length tills.items ≡ 4 }
+{
+    run_counted(rt, alloc, CountedLedger::over(ledger, figures), tills)
 }
 
 /// Says what stopped a ledger, if anything did. Returns whether nothing did.
@@ -152,7 +223,7 @@ fn went_on(rt: &HostRuntime, ledger: &FileLedger) -> bool {
 /// Prints what each till has paid in all.
 fn print_tills(rt: &HostRuntime, ledger: &FileLedger) {
     for till in 0..TILLS {
-        if let Some(wallet) = ledger.machine().account(Till::wallet(till)) {
+        if let Some(wallet) = ledger.machine().account(TillAccounts::of(till).wallet) {
             let paid = wallet.debits_posted;
             let _ = println!(rt; "till {till} has paid {paid}");
         }
@@ -160,8 +231,8 @@ fn print_tills(rt: &HostRuntime, ledger: &FileLedger) {
 }
 
 fn main(rt: HostRuntime) -> ExitCode {
-    let Some((path, packets)) = asked(&rt) else {
-        let _ = eprintln!(rt; "usage: example_service FILE [PACKETS]");
+    let Some((path, payments)) = asked(&rt) else {
+        let _ = eprintln!(rt; "usage: example_service FILE [PAYMENTS]");
         return ExitCode::from(1);
     };
     let Some(ledger) = open_ledger(&rt, path.as_str()) else {
@@ -169,8 +240,12 @@ fn main(rt: HostRuntime) -> ExitCode {
     };
     let places = ledger.places();
     let _ = println!(rt; "the ledger has {places} places");
-    let ran = match tills(&rt, ledger.packets(), packets) {
-        Some(tills) => run(&rt, rt.alloc(), ledger, tills),
+    let Ok(figures) = Figures::new(rt.alloc(), TILLS, CREDIT) else {
+        drop(ledger);
+        return ExitCode::from(2);
+    };
+    let ran = match figures_and_tills(&rt, &figures, ledger.packets(), payments) {
+        Some((counted, tills)) => run(&rt, rt.alloc(), ledger, counted, tills),
         None => {
             drop(ledger);
             None
@@ -185,6 +260,8 @@ fn main(rt: HostRuntime) -> ExitCode {
             "a till gave up: memory or the output failed, or a packet was refused"
         );
     }
+    let read = figures.read();
+    let _ = eprintln!(rt; "{read}");
     print_tills(&rt, &ledger);
     let went_on = went_on(&rt, &ledger);
     ExitCode::from(if went_on && complete { 0 } else { 2 })

@@ -1,94 +1,98 @@
 //! A till: the driver of one submitter.
 
+use crate::payments::{TillAccounts, Told, is_transient, told_by};
 use std::alloc::Global;
 use std::sync::Wait;
+use std::time::{Duration, Instant};
+use std::{io, thread};
 use tb_drive::{Action, Driver};
-use tb_layout::{Account, NoMemory, Transfer};
-use tb_work::{Answer, Outcome, Packet, Refusal, Reply};
+use tb_figures::{Figures, Retries};
+use tb_layout::NoMemory;
+use tb_work::{Packet, Refusal, Reply};
+
+/// A millisecond, in nanoseconds.
+const MILLISECOND: u64 = 1_000_000;
+
+/// How long a till waits between two top-ups of its wallet.
+const TOP_UP_EVERY: u64 = 50 * MILLISECOND;
+
+/// How long a till waits before it looks its balance up again.
+const BALANCE_EVERY: u64 = 100 * MILLISECOND;
+
+/// How long a till waits before it writes figures again.
+const FIGURES_EVERY: u64 = 200 * MILLISECOND;
+
+/// How many payments may be in flight, or wait for their next try.
+const PAYMENTS_MAX: usize = 32;
+
+/// How often a payment is tried.
+const TRIES: u64 = 8;
 
 /// Queues its packets without waiting between them, reads all replies, and prints a line for each as it comes.
 ///
-/// Its packet 0 makes its wallet and its shop, and packet N is its payment N. So a till that is told how many of its packets are stored
-/// goes on behind them, and neither leaves one out nor pays one twice.
+/// Its packet 0 makes its accounts. Each later one is a payment, a top-up or a look-up, and a transfer's id is made of its packet's
+/// number. So a till that knows how many of its packets are stored continues after them, and no transfer is posted twice.
+///
+/// A payment fails if the wallet is empty. It is tried again after a delay that doubles, with a new id, and given up after eight tries.
 #[derive(Drop)]
 pub(crate) struct Till {
     rt: HostRuntime,
+    started: Instant,
     number: u32,
+    accounts: TillAccounts,
     /// The number of its next packet.
     next: u64,
-    /// How many packets it still queues.
-    left: u64,
     /// The number of the packet whose reply it reads next.
     answered: u64,
+    /// How many payments it still begins.
+    left: u64,
+    /// How often each payment was tried that is to be tried again. Moments are nanoseconds since the till started.
+    retries: Retries<u64>,
+    top_up_at: u64,
+    balance_at: u64,
+    figures_at: u64,
+    /// What it writes now and then, if it does.
+    figures: Option<Figures>,
     /// Whether it queues nothing more: it gave up, or the ledger stopped.
     stopped: bool,
     /// Whether it gave up: an allocation failed, a packet was refused, or a line couldn't be written.
     pub(crate) gave_up: bool,
 }
 
-/// Returns the place of a committed packet, and how many of its events failed. None if it isn't committed.
-fn place_and_failures(outcome: Outcome) -> Option<(u64, usize)> {
-    match outcome {
-        Outcome::Committed { place, answer } => match answer {
-            Answer::Failures(failures) => Some((place, failures.as_slice().len())),
-            Answer::Accounts(_) => Some((place, 0)),
-        },
-        Outcome::Shutdown | Outcome::Stopped => None,
-    }
-}
-
 impl Till {
-    /// Returns a till of which `stored` packets are in the ledger, and which is to queue this number of packets more.
-    pub(crate) fn new(rt: HostRuntime, number: u32, stored: u64, packets: u64) -> Till {
-        Till {
+    /// Returns a till of which `stored` packets are in the ledger, and which is to begin this number of payments.
+    pub(crate) fn new(rt: HostRuntime, number: u32, stored: u64, payments: u64) -> Option<Till> {
+        let started = Instant::now(&rt).ok()?;
+        let retries = Retries::with_bound(rt.alloc(), PAYMENTS_MAX).ok()?;
+        Some(Till {
             rt,
+            started,
             number,
+            accounts: TillAccounts::of(number),
             next: stored,
-            left: packets,
             answered: stored,
+            left: payments,
+            retries,
+            top_up_at: 0,
+            balance_at: BALANCE_EVERY,
+            figures_at: FIGURES_EVERY,
+            figures: None,
             stopped: false,
             gave_up: false,
+        })
+    }
+
+    /// Makes it write these figures on standard error now and then.
+    pub(crate) fn write_figures(&mut self, figures: Figures) {
+        self.figures = Some(figures);
+    }
+
+    /// Returns how long it has run, in nanoseconds.
+    fn now(&self) -> u64 {
+        match self.started.elapsed(&self.rt) {
+            Ok(time) => u64::try_from(time.as_nanos()).unwrap_or(u64::MAX),
+            Err(_) => u64::MAX,
         }
-    }
-
-    /// Returns the id of a till's wallet.
-    pub(crate) fn wallet(number: u32) -> u128 {
-        u128::from(number) * 2 + 1
-    }
-
-    /// Returns the id of its shop.
-    fn shop(&self) -> u128 {
-        u128::from(self.number) * 2 + 2
-    }
-
-    /// Returns its wallet and its shop in a packet.
-    fn accounts(&self, alloc: Global) -> Result<Packet, NoMemory> {
-        let wallet = Account {
-            id: Till::wallet(self.number),
-            ledger: 1,
-            code: 1,
-            ..Account::default()
-        };
-        let shop = Account {
-            id: self.shop(),
-            ..wallet
-        };
-        Packet::of_accounts(alloc, &[wallet, shop], 0)
-    }
-
-    /// Returns its next payment, of 1.
-    fn payment(&self, alloc: Global) -> Result<Packet, NoMemory> {
-        let wallet = Till::wallet(self.number);
-        let payment = Transfer {
-            id: wallet << 64 | u128::from(self.next),
-            debit_account_id: wallet,
-            credit_account_id: self.shop(),
-            amount: 1,
-            ledger: 1,
-            code: 1,
-            ..Transfer::default()
-        };
-        Packet::of_transfers(alloc, &[payment], 0)
     }
 
     fn give_up(&mut self) {
@@ -96,62 +100,145 @@ impl Till {
         self.gave_up = true;
     }
 
-    /// Returns `Receive` while replies are unread: after `End` they may never be received, and then no line says what became of them.
-    fn receive_or_end(&self) -> Action {
-        if self.answered < self.next {
-            Action::Receive
-        } else {
-            Action::End
+    /// Returns how many of its packets have no reply yet.
+    fn in_flight(&self) -> u64 {
+        self.next.saturating_sub(self.answered)
+    }
+
+    /// Writes a line of figures if it is time to.
+    fn show(&mut self, now: u64) {
+        if now < self.figures_at {
+            return;
+        }
+        self.figures_at = now.saturating_add(FIGURES_EVERY);
+        if let Some(figures) = &self.figures {
+            let read = figures.read();
+            let _ = eprintln!(self.rt; "{read}");
+        }
+    }
+
+    /// Returns the packet that is to be queued now, if there is one.
+    fn packet(&mut self, now: u64, alloc: Global) -> Option<Result<Packet, NoMemory>> {
+        if self.left == 0 && self.retries.len() == 0 {
+            return None;
+        }
+        if self.next == 0 {
+            return Some(self.accounts.made(alloc));
+        }
+        if now >= self.top_up_at {
+            self.top_up_at = now.saturating_add(TOP_UP_EVERY);
+            return Some(self.accounts.top_up(alloc, self.next));
+        }
+        if now >= self.balance_at {
+            self.balance_at = now.saturating_add(BALANCE_EVERY);
+            return Some(self.accounts.look_up(alloc));
+        }
+        let tries = self.tries(now)?;
+        Some(self.accounts.payment(alloc, self.next, tries))
+    }
+
+    /// Returns how often the next payment will have been tried: one that is due again, or a new one if not too many are on their way.
+    fn tries(&mut self, now: u64) -> Option<u64> {
+        if let Some(tries) = self.retries.pop_due(now) {
+            return Some(tries.saturating_add(1));
+        }
+        let on_their_way = self.in_flight().saturating_add(self.retries.len() as u64);
+        if self.left == 0 || on_their_way >= PAYMENTS_MAX as u64 {
+            return None;
+        }
+        self.left -= 1;
+        Some(1)
+    }
+
+    /// Waits for a reply, or for the moment of the next try, in steps of a millisecond. Ends if there is neither. After `End` replies may
+    /// never be received, and then no line says what became of their packets.
+    fn wait(&self, now: u64) -> Action {
+        if self.in_flight() > 0 {
+            return Action::Receive;
+        }
+        match self.retries.next_moment() {
+            Some(moment) if !self.stopped => {
+                let rest = moment.saturating_sub(now).min(MILLISECOND);
+                thread::sleep(&self.rt, Duration::from_nanos(rest));
+                Action::Receive
+            }
+            _ => Action::End,
+        }
+    }
+
+    /// Lets a payment that was tried this often be tried again after a delay, 2 milliseconds after the first try.
+    fn retry(&mut self, tries: u64) {
+        if tries == 0 || tries >= TRIES {
+            return;
+        }
+        let delay = MILLISECOND << tries;
+        let moment = self.now().saturating_add(delay);
+        if self.retries.add(moment, tries).is_err() {
+            self.give_up();
+        }
+    }
+
+    /// Prints what a reply says.
+    fn print(&self, packet: u64, told: Told) -> io::Result<()> {
+        let till = self.number;
+        match told {
+            Told::Committed(place) => {
+                println!(self.rt; "till {till}: packet {packet} is committed at place {place}")
+            }
+            Told::Failed(place, code) => {
+                println!(self.rt;
+                    "till {till}: packet {packet} failed at place {place} with {code}"
+                )
+            }
+            Told::Balance(place, balance) => {
+                println!(self.rt; "till {till}: packet {packet} found {balance} at place {place}")
+            }
+            Told::Stopped => println!(self.rt; "till {till}: packet {packet} is stopped"),
         }
     }
 }
 
 impl Driver for Till {
     fn next<R: Wait>(&mut self, _rt: &R, alloc: Global) -> Action {
-        if self.stopped || self.left == 0 {
-            return self.receive_or_end();
+        let now = self.now();
+        self.show(now);
+        if self.stopped {
+            return self.wait(now);
         }
-        let packet = if self.next == 0 {
-            self.accounts(alloc)
-        } else {
-            self.payment(alloc)
-        };
-        match packet {
-            Ok(packet) => Action::Submit(packet),
-            Err(_) => {
+        match self.packet(now, alloc) {
+            Some(Ok(packet)) => Action::Submit(packet),
+            Some(Err(_)) => {
                 self.give_up();
-                self.receive_or_end()
+                self.wait(now)
             }
+            None => self.wait(now),
         }
     }
 
     fn submitted(&mut self, told: Result<u64, Refusal>) {
         match told {
-            Ok(_) => {
-                self.next = self.next.saturating_add(1);
-                self.left = self.left.saturating_sub(1);
-            }
+            Ok(_) => self.next = self.next.saturating_add(1),
             Err(_) => self.give_up(),
         }
     }
 
     fn receive(&mut self, reply: Reply) {
-        let Reply { outcome, .. } = reply;
-        let (till, packet) = (self.number, self.answered);
-        self.answered = packet.saturating_add(1);
-        let printed = match place_and_failures(outcome) {
-            Some((place, 0)) => {
-                println!(self.rt; "till {till}: packet {packet} is committed at place {place}")
-            }
-            Some((place, _)) => println!(self.rt;
-                "till {till}: packet {packet} failed at place {place}"
-            ),
-            None => {
-                self.stopped = true;
-                println!(self.rt; "till {till}: packet {packet} is stopped")
-            }
-        };
-        if printed.is_err() {
+        let Reply {
+            packet,
+            outcome,
+            ..
+        } = reply;
+        let tries = packet.user;
+        drop(packet);
+        let told = told_by(outcome);
+        let number = self.answered;
+        self.answered = number.saturating_add(1);
+        match told {
+            Told::Failed(_, code) if is_transient(code) => self.retry(tries),
+            Told::Stopped => self.stopped = true,
+            _ => {}
+        }
+        if self.print(number, told).is_err() {
             self.give_up();
         }
     }

@@ -372,6 +372,7 @@ impl BareLedger {
         drop(entry);
         Ok(outcomes)
     }
+
     /// Establishes that it never has more than `PLACES_MAX` places.
     pub fn has_few_places(&self)
         ensures { self.now.places ≤ places_max }

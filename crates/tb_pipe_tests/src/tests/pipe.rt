@@ -24,12 +24,14 @@ mod clients;
 mod controls;
 mod days;
 mod driven;
+mod figures;
 mod gates;
 mod memory;
 mod narrow;
 mod openings;
 mod queued;
 mod reply;
+mod retries;
 mod stops;
 
 /// How often a test gives way before it gives up.

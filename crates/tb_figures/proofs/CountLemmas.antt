@@ -1,0 +1,246 @@
+-- What one more stub, batch or pulse adds to counts.
+use Rattle.std.proofs.Common.{refl, sym, ap, subst, ◌∙◌, arith, ◌≡◌, ◌<◌, ◌≤◌, ℕ, zero, suc, ◌+◌, Bool, true, false, List, [], ◌∷◌, ◌++◌, map, drop, take, set, get_or, length, length-append, cond, append-nil}
+use Rattle.std.specs.Prelude.{◌==◌, IsOk, Some, None, if◌then◌else◌, slice_index, nat_lt}
+use Rattle.std.specs.List.{count_by, sum_by}
+use Rattle.std.specs.Simd.{first_chunks}
+use Rattle.std.proofs.lemmas.List.{length-map, get_or-set_same, get_or-set_other}
+use Rattle.std.proofs.lemmas.List.Sums.{count_by_more_yes, count_by_more_no, count_by-le-length, sum_by_more, sum_by-cons, length-filter}
+use Rattle.std.proofs.lemmas.List.Elements.{filter-append}
+use Rattle.std.proofs.lemmas.Grind.{flat_map-append}
+use Rattle.std.proofs.lemmas.Bool.{eqb-true}
+use Rattle.tb_layout.specs.Account.{account_of}
+use Rattle.tb_layout.specs.Transfer.{transfer_of}
+use Rattle.tb_layout.specs.Bytes.{little_endian}
+use Rattle.tb_layout.specs.Events.{Input, Packet, Pulse, chunks, events_of}
+use Rattle.tb_layout.specs.inside.Events.{count_of as count_of_events}
+use Rattle.tb_work.specs.Admission.{admission_of_size, count_of_size, event_size}
+use Rattle.tb_work.specs.Job.{stub_of}
+use Rattle.tb_work.specs.Packet.{Numbered, input_of}
+use Rattle.tb_work.specs.declared.stub.Stub.{Stub}
+use Rattle.tb_batch.specs.Batch.{AreAdmitted}
+use Rattle.tb_core.specs.EachSubmitter.{is_packet_of, moments_in, packets_of}
+use Rattle.tb_core.specs.Grouping.{events_together}
+use Rattle.tb_figures.specs.Counts.{AreCounts, AreFull, capped, inputs_of}
+use Rattle.tb_figures.specs.Tally.{IsSplit, IsTally, is_of}
+use Rattle.tb_figures.specs.declared.counts.Counts.{Counts}
+
+-- ---- numbers
+
+capped_more : (a n m : ℕ) → capped (capped (a + n) + m) ≡ capped (a + (n + m))
+capped_more a n m = omega arith
+
+capped_is : (n : ℕ) → n ≤ 9223372036854775808 → capped n ≡ n
+capped_is n few = omega (arith, few)
+
+-- ---- one stub
+
+pub split_more : (stubs : List Stub) (i : ℕ) (d : Stub) (a b c : Counts) → i < length stubs → IsSplit (take i stubs) a b
+    → length b.submitters ≡ 16
+    → (c.batches ≡ b.batches) × (c.pulses ≡ b.pulses) × (c.packets ≡ b.packets)
+    → c.events ≡ capped (b.events + (get_or stubs i d).count)
+    → ((get_or stubs i d).submitter < 16 → c.submitters ≡ set b.submitters (get_or stubs i d).submitter
+    (capped (slice_index b.submitters (get_or stubs i d).submitter + 1)))
+    → (16 ≤ (get_or stubs i d).submitter → c.submitters ≡ b.submitters) → IsSplit (take (i + 1) stubs) a c
+split_more stubs i d a b c below is long others events own unknown = record {
+  batches = others.0 ∙ is.batches;
+  pulses = others.1 ∙ is.pulses;
+  packets = others.2 ∙ is.packets;
+  events = omega (arith, events, is.events, sum_by_more (λ (stub : Stub). stub.count) stubs i d below);
+  submitters = λ k few. by k few ((get_or stubs i d).submitter == k) refl;
+}
+  where
+    same : (k : ℕ) → k < 16 → slice_index c.submitters k ≡ slice_index b.submitters k → is_of k (get_or stubs i d) ≡ false
+        → slice_index c.submitters k ≡ capped (slice_index a.submitters k + count_by (is_of k) (take (i + 1) stubs))
+    same k few kept not = kept ∙ is.submitters k few
+        ∙ ap (λ n. capped (slice_index a.submitters k + n)) (sym (count_by_more_no (is_of k) stubs i d below not))
+
+    by : (k : ℕ) → k < 16 → (hit : Bool) → ((get_or stubs i d).submitter == k) ≡ hit
+        → slice_index c.submitters k ≡ capped (slice_index a.submitters k + count_by (is_of k) (take (i + 1) stubs))
+    by k few true e =
+        let at : (get_or stubs i d).submitter ≡ k = eqb-true (get_or stubs i d).submitter k e in
+        let inside : k < length b.submitters = omega (arith, few, long) in
+        let new : c.submitters ≡ set b.submitters k (capped (slice_index b.submitters k + 1)) =
+        subst (λ j. c.submitters ≡ set b.submitters j (capped (slice_index b.submitters j + 1))) at
+        (own (omega (arith, few, at))) in
+        let here : slice_index c.submitters k ≡ capped (slice_index b.submitters k + 1) =
+        ap (λ xs. slice_index xs k) new ∙ get_or-set_same b.submitters k _ 0 inside in
+        let more = count_by_more_yes (is_of k) stubs i d below e in
+        omega (arith, here, is.submitters k few, more)
+    by k few false e = elsewhere k few e (nat_lt (get_or stubs i d).submitter 16) refl
+      where
+        elsewhere : (k : ℕ) → k < 16 → ((get_or stubs i d).submitter == k) ≡ false → (known : Bool)
+            → nat_lt (get_or stubs i d).submitter 16 ≡ known → slice_index c.submitters k
+            ≡ capped (slice_index a.submitters k + count_by (is_of k) (take (i + 1) stubs))
+        elsewhere k few not true is_known = same k few (ap (λ xs. slice_index xs k) (own (grind (arith, is_known)))
+            ∙ get_or-set_other b.submitters _ k _ 0 (λ at. grind (arith, not, at))) not
+        elsewhere k few not false is_known = same k few (ap (λ xs. slice_index xs k) (unknown (grind (arith, is_known)))) not
+
+-- ---- the events of a packet
+
+length-chunks : {X : Type 0} (size k : ℕ) (xs : List X) → length (first_chunks size k xs) ≡ k
+length-chunks size zero xs = refl
+length-chunks size (suc k) xs = ap suc (length-chunks size k (drop size xs))
+
+abbrev HasCount : ℕ → List ℕ → Type 0
+HasCount operation bytes = count_of_events (events_of operation bytes) ≡ count_of_size bytes (event_size operation)
+
+has_count : (operation : ℕ) (bytes : List ℕ) → IsOk (admission_of_size 8190 bytes (event_size operation))
+    → HasCount operation bytes
+has_count operation bytes ok = by (operation == 129) (operation == 130) (operation == 131) refl refl refl ok
+  where
+    at : (number : ℕ) → HasCount number bytes → (operation == number) ≡ true → HasCount operation bytes
+    at number has is = subst (λ op. HasCount op bytes) (sym (eqb-true operation number is)) has
+
+    by : (a b c : Bool) → (operation == 129) ≡ a → (operation == 130) ≡ b → (operation == 131) ≡ c →
+        IsOk (admission_of_size 8190 bytes (if a then Some 128 else if b then Some 128 else if c then Some 16
+        else None)) → HasCount operation bytes
+    by true b c is_a is_b is_c ok =
+        at 129 (length-map (chunks 128 bytes) account_of ∙ length-chunks 128 _ bytes) is_a
+    by false true c is_a is_b is_c ok =
+        at 130 (length-map (chunks 128 bytes) transfer_of ∙ length-chunks 128 _ bytes) is_b
+    by false false true is_a is_b is_c ok =
+        at 131 (length-map (chunks 16 bytes) little_endian ∙ length-chunks 16 _ bytes) is_c
+    by false false false is_a is_b is_c ok = cc
+
+-- ---- the packets of a batch
+
+events_of_batch : (jobs : List Numbered) → AreAdmitted jobs
+    → events_together (map input_of jobs) ≡ sum_by (λ (stub : Stub). stub.count) (map stub_of jobs)
+events_of_batch [] all = refl
+events_of_batch (job ∷ jobs) all =
+    omega (
+      arith,
+      has_count job.packet.operation job.packet.bytes all.0,
+      events_of_batch jobs all.1,
+      sum_by-cons (λ (stub : Stub). stub.count) (stub_of job) (map stub_of jobs),
+    )
+
+moments_of_batch : (jobs : List Numbered) → moments_in (map input_of jobs) ≡ []
+moments_of_batch [] = refl
+moments_of_batch (job ∷ jobs) = moments_of_batch jobs
+
+count_by-cons : {X : Type 0} (p : X → Bool) (x : X) (xs : List X) → count_by p (x ∷ xs) ≡ cond (p x) 1 0 + count_by p xs
+count_by-cons p x xs = sum_by-cons (λ y. cond (p y) 1 0) x xs
+
+count_of_batch : (k : ℕ) (jobs : List Numbered)
+    → count_by (is_packet_of k) (map input_of jobs) ≡ count_by (is_of k) (map stub_of jobs)
+count_of_batch k [] = refl
+count_of_batch k (job ∷ jobs) =
+    count_by-cons (is_packet_of k) (input_of job) (map input_of jobs)
+    ∙ ap (λ n. cond (job.submitter == k) 1 0 + n) (count_of_batch k jobs)
+    ∙ sym (count_by-cons (is_of k) (stub_of job) (map stub_of jobs))
+
+-- ---- more inputs
+
+moments-append : (xs ys : List Input) → moments_in (xs ++ ys) ≡ moments_in xs ++ moments_in ys
+moments-append [] ys = refl
+moments-append (Packet submitter number events ∷ xs) ys = moments-append xs ys
+moments-append (Pulse moment ∷ xs) ys = ap (λ ms. moment ∷ ms) (moments-append xs ys)
+
+events-append : (xs ys : List Input) → events_together (xs ++ ys) ≡ events_together xs + events_together ys
+events-append [] ys = omega arith
+events-append (Packet submitter number events ∷ xs) ys = omega (arith, events-append xs ys)
+events-append (Pulse moment ∷ xs) ys = events-append xs ys
+
+pub inputs-more : (groups : List (List Input)) (group : List Input)
+    → inputs_of (groups ++ group ∷ []) ≡ inputs_of groups ++ group
+inputs-more groups group = flat_map-append (λ (g : List Input). g) groups (group ∷ [])
+    ∙ ap (λ g. inputs_of groups ++ g) (append-nil group)
+
+packets-append : (k : ℕ) (xs ys : List Input)
+    → length (packets_of k (xs ++ ys)) ≡ length (packets_of k xs) + length (packets_of k ys)
+packets-append k xs ys = ap length (filter-append (is_packet_of k) xs ys)
+    ∙ length-append (packets_of k xs) (packets_of k ys)
+
+packets-few : (k : ℕ) (xs : List Input) → length (packets_of k xs) ≤ length xs
+packets-few k xs = omega (arith, length-filter (is_packet_of k) xs, count_by-le-length (is_packet_of k) xs)
+
+full-push : (groups : List (List Input)) (group : List Input) → AreFull groups → 0 < length group
+    → AreFull (groups ++ group ∷ [])
+full-push [] group full some = (some, tt)
+full-push (first ∷ groups) group full some = (full.0, full-push groups group full.1 some)
+
+-- ---- one batch, one pulse
+
+pub counts_batch : (groups : List (List Input)) (jobs : List Numbered) (old new : Counts) → AreCounts groups old
+    → length (inputs_of groups) + length jobs ≤ 9223372036854775808 → (0 < length jobs) × AreAdmitted jobs
+    → IsTally (map stub_of jobs) old new → AreCounts (groups ++ map input_of jobs ∷ []) new
+counts_batch groups jobs old new are few some tally =
+    let before = inputs_of groups in
+    let group = map input_of jobs in
+    let all = inputs-more groups group in
+    let stubs : length (map stub_of jobs) ≡ length jobs = length-map jobs stub_of in
+    let packets : length group ≡ length jobs = length-map jobs input_of in
+    let long : length (before ++ group) ≡ length before + length jobs =
+    length-append before group ∙ ap (λ n. length before + n) packets in
+    let moments : moments_in (before ++ group) ≡ moments_in before =
+    moments-append before group ∙ ap (λ ms. moments_in before ++ ms) (moments_of_batch jobs)
+    ∙ append-nil (moments_in before) in
+    record {
+      full = full-push groups group are.full (omega (arith, some.0, packets));
+      entries = omega (
+        arith,
+        tally.batches,
+        tally.pulses,
+        are.entries,
+        are.some,
+        are.places,
+        few,
+        some.0,
+        length-append groups (group ∷ []),
+      );
+      some = omega (arith, tally.batches, tally.packets, are.some, are.places, stubs, few, some.0);
+      places = omega (arith, tally.packets, tally.pulses, are.places, few, stubs, long, ap length all);
+      pulses = tally.pulses ∙ are.pulses ∙ sym (ap (λ xs. length (moments_in xs)) all ∙ ap length moments);
+      events = omega (
+        arith,
+        tally.events,
+        are.events,
+        events_of_batch jobs some.1,
+        events-append before group,
+        ap events_together all,
+      );
+      submitters = λ k below. omega (
+        arith,
+        tally.submitters k below,
+        are.submitters k below,
+        ap (λ xs. length (packets_of k xs)) all,
+        packets-append k before group,
+        length-filter (is_packet_of k) group,
+        count_of_batch k jobs,
+        packets-few k (before ++ group),
+        long,
+        few,
+      );
+    }
+
+pub counts_pulse : (groups : List (List Input)) (moment : ℕ) (old new : Counts) → AreCounts groups old
+    → length (inputs_of groups) + 1 ≤ 9223372036854775808
+    → new.batches ≡ old.batches → new.pulses ≡ capped (old.pulses + 1) → new.packets ≡ old.packets
+    → new.events ≡ old.events → new.submitters ≡ old.submitters
+    → AreCounts (groups ++ (Pulse moment ∷ []) ∷ []) new
+counts_pulse groups moment old new are few batches pulses packets events submitters =
+    let before = inputs_of groups in
+    let group = Pulse moment ∷ [] in
+    let all = inputs-more groups group in
+    let long = length-append before group in
+    record {
+      full = full-push groups group are.full (omega arith);
+      entries = omega (arith, batches, pulses, are.entries, are.places, few, length-append groups (group ∷ []));
+      some = omega (arith, batches, packets, are.some);
+      places = omega (arith, packets, pulses, are.places, few, long, ap length all);
+      pulses = omega (
+        arith,
+        pulses,
+        are.pulses,
+        are.places,
+        few,
+        ap (λ xs. length (moments_in xs)) all,
+        ap length (moments-append before group),
+        length-append (moments_in before) (moment ∷ []),
+      );
+      events = events ∙ are.events
+          ∙ sym (ap (λ xs. capped (events_together xs)) all ∙ ap capped (omega (arith, events-append before group)));
+      submitters = λ k below. ap (λ xs. slice_index xs k) submitters ∙ are.submitters k below
+          ∙ sym (ap (λ xs. length (packets_of k xs)) all ∙ packets-append k before group ∙ omega arith);
+    }

@@ -1,0 +1,26 @@
+use Rattle.std.proofs.Common.{refl, subst, sym, ◌++◌, List}
+use Rattle.tb_layout.specs.Events.{Input}
+use Rattle.tb_core.specs.declared.parcel.Parcel.{Parcel}
+use Rattle.tb_figures.specs.Counts.{AreCounts, HasPlaces, groups_of, inputs_of}
+use Rattle.tb_figures.specs.Tally.{IsTally}
+use Rattle.tb_figures.specs.declared.counts.Counts.{Counts}
+use Rattle.tb_figures.proofs.CountLemmas.{counts_batch, counts_pulse}
+use Rattle.tb_figures.proofs.counts.Counts.with_parcel.Goals as goal
+
+abbrev Counted : Counts → Counts → Parcel → Type 0
+Counted old new handed =
+    (groups : List (List Input)) → AreCounts groups old → HasPlaces (inputs_of groups) handed
+    → AreCounts (groups ++ groups_of handed) new
+
+pub returns-in-Batch : goal.returns-in-Batch
+returns-in-Batch c =
+    subst (Counted c.args.self.now c.add_batch.new.self) (sym c.in-Batch.is)
+    (λ groups are few. counts_batch groups c.in-Batch.batch c.args.self.now c.add_batch.new.self are few
+    c.stubs_of.ensures.some
+    (subst (λ stubs. IsTally stubs c.args.self.now c.add_batch.new.self) c.stubs_of.ensures.stubs c.add_batch.ensures))
+
+pub returns-in-Pulse : goal.returns-in-Pulse
+returns-in-Pulse c =
+    subst (Counted c.args.self.now _) (sym c.in-Pulse.is)
+    (λ groups are few. counts_pulse groups c.in-Pulse.field-0 c.args.self.now _ are few refl c.saturating_add.ensures
+    refl refl refl)

@@ -1,0 +1,5 @@
+use Rattle.tb_figures.specs.Retries.{AreUpTo}
+use Rattle.tb_figures.proofs.retries.index_for.Given as goal
+
+abbrev pub invariant-loop-index : goal.invariant-loop-index
+invariant-loop-index g l = AreUpTo l.waiting l.moment l.index

@@ -1,0 +1,4 @@
+pub mod Counts
+pub mod Tally
+pub mod Counted
+pub mod Retries
