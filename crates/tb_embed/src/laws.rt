@@ -22,9 +22,9 @@ pub fn replies_come()
     serving_is_lawful();
 }
 
-/// Establishes that engines which began with one ledger, and in which the same was queued, are in one state and have the same replies
-/// once nothing is held, while there are places. When they were flushed doesn't matter, nor where memory ran out. So a host that
-/// stores each call before it makes it, and makes the stored ones again after a crash, has the ledger again.
+/// Establishes that what is queued decides: two engines that began with one ledger, and in which the same was queued, have the same state
+/// and replies. It holds once neither holds a packet, while there are places. When they were flushed doesn't matter, nor where memory
+/// ran out. So a host can store each call before it makes it: the stored calls, made again after a crash, give the ledger again.
 pub fn queue_decides()
     ensures { QueueDecides }
 {

@@ -3,8 +3,8 @@
 //! `list` takes the script through the stages in one thread, `run` through the pipeline with a thread for each sender. With `--journal FILE`
 //! both commit to a ledger that is kept in a file, and continue what it has; `replay FILE` prints the clock and the accounts of one.
 //!
-//! What the arguments ask for, the exit status of each outcome and the lines that the program prints itself are functions of
-//! `tb_program_text`; the rest is `tb_program`, and for files `journal`. What is printed as committed to a file is on the disk.
+//! What the arguments ask for, the exit statuses and the lines that the program prints itself are functions of `tb_program_text`. The rest
+//! is `tb_program`, and for files `journal`. What is printed as committed to a file is on the disk.
 #![tactic(auto)]
 
 mod journal;
