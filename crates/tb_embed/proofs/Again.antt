@@ -24,7 +24,7 @@ queue_decides lawful start queue read other_read engine other serves other_serve
     let one = lawful start queue read engine serves in
     let two = lawful start queue other_read other other_serves in
     let same : inputs one.ledger ≡ inputs two.ledger = all_committed start queue read engine one places none
-        ∙ sym (all_committed start queue other_read other two places other_none) in
+    ∙ sym (all_committed start queue other_read other two places other_none) in
     record {
       state = one.replayed ∙ (ap (replay start.opening) same ∙ sym two.replayed);
       places = one.counted ∙ (ap length same ∙ sym two.counted);

@@ -113,7 +113,7 @@ ticket_goes start items replies front ledger ticket is among has on goes places 
     goes_with ledger (places_of front ticket) goes (omega (
       arith,
       ap length (all_ahead (items ++ ticket.item ∷ []) step.front.closed step.front.stopped (sent ++ held_by step.front)
-      (taken.passes items has.sent has.passed) (taken.goes_on refl on)),
+          (taken.passes items has.sent has.passed) (taken.goes_on refl on)),
       inputs-append sent (held_by step.front),
       inputs-append has.sent (all_decisions_in step.parcels),
       inputs_sent step.parcels,

@@ -150,7 +150,11 @@ fn seal(front: &mut Front) -> Option<Parcel>
 }
 
 /// Commits the group held, for whose outcome there is capacity. If its allocation fails, nothing has changed.
-fn commit_held(front: &mut Front, ledger: &mut BareLedger, unread: &mut Unread) -> Result<(), Refusal>
+fn commit_held(
+    front: &mut Front,
+    ledger: &mut BareLedger,
+    unread: &mut Unread,
+) -> Result<(), Refusal>
     requires room { 0 < unread.old.room }
     ensures sealed { OnOk result (front.new ≡ with_group front.old []) }
     ensures taken { OnOk result ((start : LedgerState) (items : List ItemValue) (read : List ReplyValue)

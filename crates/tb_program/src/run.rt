@@ -21,13 +21,12 @@ mod over;
 mod report;
 mod share;
 
-pub use over::{RunOver, run_over};
-
 use crate::operations::operations_shared;
 use crate::run::driver::ScriptDriver;
 use crate::run::fault::program_fault_of;
 use crate::run::report::text_of;
 use crate::run::share::{Shares, share_out};
+pub use over::{RunOver, run_over};
 use std::alloc::Global;
 use std::io::{Read, Write};
 use std::sync::Wait;

@@ -22,7 +22,7 @@ with_word reading word =
     else if bytes_eq word (codes "--names") then with_options (record reading.options { names = true })
     else if bytes_eq word (codes "--strict") then with_options (record reading.options { strict = true })
     else if bytes_eq word (codes "--journal")
-        then if is_some reading.options.journal then None else Some (record reading { awaits_path = true })
+    then if is_some reading.options.journal then None else Some (record reading { awaits_path = true })
     else None
 
 -- one step after another, if the first gives options

@@ -12,10 +12,9 @@ mod fault;
 mod noting;
 mod running;
 
-pub(crate) use fault::JournalFault;
-
 use crate::journal::committing::{Committing, put_state};
 use crate::journal::running::run_script;
+pub(crate) use fault::JournalFault;
 use sqlite_trees::store::Store;
 use std::alloc::Global;
 use std::fs;

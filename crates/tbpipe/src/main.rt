@@ -129,10 +129,7 @@ fn print_ledger(rt: &HostRuntime, path: &FilePath) -> Result<Ending, JournalFaul
 }
 
 /// Does what the arguments ask for. Returns how the program ends. Only `main` has a runtime with threads, so they come apart.
-fn answer<T: Threads + Wait + Sync>(
-    rt: &HostRuntime,
-    threads: &T,
-) -> Result<Ending, JournalFault> {
+fn answer<T: Threads + Wait + Sync>(rt: &HostRuntime, threads: &T) -> Result<Ending, JournalFault> {
     match read_arguments(rt) {
         Ok(Request::List(options)) => list(rt, &options),
         Ok(Request::Run(options)) => run(rt, threads, &options),

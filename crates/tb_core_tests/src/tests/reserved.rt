@@ -145,7 +145,12 @@ fn commits_of_an_engine_after_reserve_refused_memory(rt: HostRuntime) {
 
 /// Applies a batch, and if it is refused once more: then nothing has changed, and the memory is there. Returns whether it was
 /// refused.
-fn is_refused_at_first(rt: &impl Abort, ledger: &mut BareLedger, batch: Batch, places: u64) -> bool {
+fn is_refused_at_first(
+    rt: &impl Abort,
+    ledger: &mut BareLedger,
+    batch: Batch,
+    places: u64,
+) -> bool {
     let parcel = match ledger.try_apply(Parcel::Batch(batch)) {
         Ok(outcomes) => {
             drop(outcomes);

@@ -44,11 +44,7 @@ pub struct RunOver<L: AnyLedger> {
 }
 
 /// Returns the lines of all packets.
-fn lines_of(
-    alloc: Global,
-    drivers: Vec<ScriptDriver>,
-    ends: Vec<Ended>,
-) -> Result<String, NoMemory>
+fn lines_of(alloc: Global, drivers: Vec<ScriptDriver>, ends: Vec<Ended>) -> Result<String, NoMemory>
     requires few { length drivers.items ≤ submitters_max }
     requires number { length ends.items ≡ length drivers.items }
     requires answered { AreAllAnswered drivers.items ends.items }

@@ -7,8 +7,8 @@ by_size : (c : goal.After-row_known-1) → length c.as_slice.result.now / c.if-l
     ≡ length c.args.self.now.body.items / event_bytes c.args.self.now.operation
 by_size c =
     let looks : c.if-looks_up.size ≡ event_bytes c.args.self.now.operation = elim c.if-looks_up.branch [
-      then-looks_up w ↦ w.size-is ∙ ap (λ b. if b then 16 else 128) (sym w.if-looks_up.true ∙ c.looks_up.ensures)
-    | else-looks_up w ↦ w.size-is ∙ ap (λ b. if b then 16 else 128) (sym w.if-looks_up.false ∙ c.looks_up.ensures)
+      | then-looks_up w ↦ w.size-is ∙ ap (λ b. if b then 16 else 128) (sym w.if-looks_up.true ∙ c.looks_up.ensures)
+      | else-looks_up w ↦ w.size-is ∙ ap (λ b. if b then 16 else 128) (sym w.if-looks_up.false ∙ c.looks_up.ensures)
     ] in
     rw looks (ap (λ body. length body / event_bytes c.args.self.now.operation) c.as_slice.ensures.value)
 

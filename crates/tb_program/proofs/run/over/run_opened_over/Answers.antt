@@ -49,20 +49,23 @@ returns-in-Ok-lines_of-clause-ran g c = λ start is.
     ap (λ before. before ++ items) c.requires.silent ∙ all_lines in
     let replies = replies_of finished.report.ends.items in
     let shares : map share_of drivers ≡ map share_of c.args.drivers.items = c.in-Ok.ensures.shares in
-    let long = length-map c.args.drivers.items share_of ∙ c.requires.number ∙ c.requires.together.2 in
-    (went.0, went.1, record {
-      run = run_in opened.pipeline.intake (with_items opened.control items) start went.0 finished;
-      told = told;
-      before = reported.began;
-      ledger_is = refl;
-      submitters_are = sym long;
-      report = reported.report;
-      grouping = reported.grouping;
-      control = reported.controlled ∙ all;
-      pulses = subst (λ controlled. IsPrefix (moments_in (inputs_since start went.0)) (moments_queued controlled)) all
-          reported.pulses;
-      number = length-map drivers told_of ∙ sym (length-map drivers share_of) ∙ ap length shares;
-      handed = subst (λ all. AreHandedIn opened.pipeline.intake.limit replies all told queued) shares
-          (all_handed_in refl reported c.in-Ok-lines_of.ensures.done);
-      printed = c.in-Ok-lines_of.ensures.text;
-    })
+    let long = length-map c.args.drivers.items share_of ∙ c.requires.number ∙ c.requires.together.2 in (
+      went.0,
+      went.1,
+      record {
+        run = run_in opened.pipeline.intake (with_items opened.control items) start went.0 finished;
+        told = told;
+        before = reported.began;
+        ledger_is = refl;
+        submitters_are = sym long;
+        report = reported.report;
+        grouping = reported.grouping;
+        control = reported.controlled ∙ all;
+        pulses = subst (λ controlled. IsPrefix (moments_in (inputs_since start went.0)) (moments_queued controlled)) all
+            reported.pulses;
+        number = length-map drivers told_of ∙ sym (length-map drivers share_of) ∙ ap length shares;
+        handed = subst (λ all. AreHandedIn opened.pipeline.intake.limit replies all told queued) shares
+            (all_handed_in refl reported c.in-Ok-lines_of.ensures.done);
+        printed = c.in-Ok-lines_of.ensures.text;
+      },
+    )
