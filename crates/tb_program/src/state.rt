@@ -21,7 +21,7 @@ fn put_accounts(out: &mut String, machine: &Machine) -> Result<(), AllocError>
 }
 
 /// Adds the line of the clock, and those of the accounts in the order of their making.
-pub(crate) fn put_state(out: &mut String, machine: &Machine) -> Result<(), AllocError>
+pub fn put_state(out: &mut String, machine: &Machine) -> Result<(), AllocError>
     ensures { OnOk result (string_bytes out.new ≡ string_bytes out.old ++ state_text machine.now) }
 {
     put_clock(out, machine.clock())?;

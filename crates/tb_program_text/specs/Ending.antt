@@ -43,7 +43,7 @@ remark_of NotAllSucceeded = []
 remark_of Help = []
 remark_of Version = []
 remark_of Usage = codes
-    "give list or run, options after it, and the script on standard input, as in `tbpipe list < SCRIPT`; --help says more"
+    "give list or run, options after it, and the script on standard input, as in `tbpipe list < SCRIPT`, or replay and a file; --help says more"
 remark_of (Failed Read) = codes "standard input can't be read to its end"
 remark_of (Failed Write) = codes
     "standard output can't be written, so a part of the output is missing: is the disk full, or the pipe closed?"

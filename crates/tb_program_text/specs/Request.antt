@@ -1,5 +1,6 @@
 -- What the arguments ask for.
-use Rattle.std.specs.Prelude.{ℕ, true, false, List, [], ◌∷◌, Option, Some, None, is_some, bytes_eq, codes, if◌then◌else◌}
+use Rattle.std.specs.Prelude.{ℕ, true, false, List, [], ◌∷◌, Option, Some, None, is_some, bytes_eq, codes, nat_eq, if◌then◌else◌}
+use Rattle.std.specs.List.{starts_with}
 use Rattle.tb_program_text.specs.declared.request.Options.{Options}
 use Rattle.tb_program_text.specs.declared.request.Reading.{Reading}
 use Rattle.tb_program_text.specs.declared.request.Request.{Request}
@@ -15,10 +16,15 @@ nothing_read = record { options = no_options; awaits_path = false }
 abbrev pub with_options : Options → Option Reading
 with_options options = Some (record { options = options; awaits_path = false })
 
+-- no path begins like an option
+abbrev pub with_path : Options → List ℕ → Option Reading
+with_path options path =
+    if starts_with nat_eq path (codes "--") then None else with_options (record options { journal = Some path })
+
 -- the options with the one that a word gives; the word after --journal, which is given once, is a path
 abbrev pub with_word : Reading → List ℕ → Option Reading
 with_word reading word =
-    if reading.awaits_path then with_options (record reading.options { journal = Some word })
+    if reading.awaits_path then with_path reading.options word
     else if bytes_eq word (codes "--names") then with_options (record reading.options { names = true })
     else if bytes_eq word (codes "--strict") then with_options (record reading.options { strict = true })
     else if bytes_eq word (codes "--journal")

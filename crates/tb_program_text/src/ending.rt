@@ -58,7 +58,7 @@ impl Ending {
             | Ending::Help
             | Ending::Version => "",
             Ending::Usage => {
-                "give list or run, options after it, and the script on standard input, as in `tbpipe list < SCRIPT`; --help says more"
+                "give list or run, options after it, and the script on standard input, as in `tbpipe list < SCRIPT`, or replay and a file; --help says more"
             }
             Ending::Failed(ProgramFault::Read) => "standard input can't be read to its end",
             Ending::Failed(ProgramFault::Write) => {

@@ -60,7 +60,7 @@ struct Reading {
     awaits_path: bool,
 }
 
-/// Returns what is read once a word is read too. Returns None if it gives no option.
+/// Returns what is read once a word is read too. Returns None if it gives no option, or if it begins like one and is to be a path.
 fn with_word(reading: Reading, word: String) -> Option<Reading>
     ensures { result ≡ with_word reading (string_bytes word) }
 {
@@ -70,6 +70,9 @@ fn with_word(reading: Reading, word: String) -> Option<Reading>
     } = reading;
     let mut awaits_next = false;
     if awaits_path {
+        if word.as_str().starts_with("--") {
+            return None;
+        }
         options.journal = Some(FilePath { text: word });
     } else if word.as_str() == "--names" {
         options.names = true;

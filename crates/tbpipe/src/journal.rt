@@ -12,7 +12,7 @@ mod fault;
 mod noting;
 mod running;
 
-use crate::journal::committing::{Committing, put_state};
+use crate::journal::committing::Committing;
 use crate::journal::running::run_script;
 pub(crate) use fault::JournalFault;
 use sqlite_trees::store::Store;
@@ -23,7 +23,7 @@ use std::thread::Threads;
 use tb_core::Seed;
 use tb_durable::{DurableLedger, Settings, open_file};
 use tb_layout::BATCH_MAX;
-use tb_program::Output;
+use tb_program::{Output, put_state};
 use tb_program_text::{FaultyScript, ScriptParts, Settings as ScriptSettings, Source, read_source};
 
 /// The settings that a file without a table gets.
@@ -128,10 +128,13 @@ pub(crate) fn run_into<T: Threads + Wait + Sync>(
     }
 }
 
-/// Returns the clock and the accounts of the ledger at a path, as lines.
+/// Returns the clock and the accounts of the ledger at a path, as lines. Only a file that isn't empty is opened, so that none is made.
 pub(crate) fn replay(rt: &HostRuntime, path: &str) -> Result<String, JournalFault> {
-    if !matches!(fs::exists(rt, path), Ok(true)) {
+    if matches!(fs::exists(rt, path), Ok(false)) {
         return Err(JournalFault::NoFile);
+    }
+    if matches!(fs::metadata(rt, path), Ok(file) if file.len() == 0) {
+        return Err(JournalFault::EmptyFile);
     }
     let ledger = open(rt.alloc(), open_file(rt, path)?, NEW)?;
     let mut out = String::new(rt.alloc());

@@ -11,11 +11,9 @@ use tb_core::{Outcomes, Parcel};
 use tb_demux::Cutter;
 use tb_durable::{DurableLedger, OpenFault, Settings};
 use tb_layout::{BATCH_MAX, MOMENT_MAX};
-use tb_machine::Machine;
-use tb_program::Output;
+use tb_program::{Output, put_state};
 use tb_program_text::{
-    ScriptItem, put_account, put_clock, put_close, put_pulse, put_refused, put_refused_pulse,
-    put_reply,
+    ScriptItem, put_close, put_pulse, put_refused, put_refused_pulse, put_reply,
 };
 use tb_work::{Item, Job, Moment, Outcome, Packet, Refusal, Reply};
 
@@ -60,17 +58,6 @@ impl<S: Store + Drop> Drop for Committing<S> {
         drop(lines);
         drop(replies);
     }
-}
-
-/// Adds the clock and the accounts.
-pub(crate) fn put_state(out: &mut String, machine: &Machine) -> Result<(), AllocError> {
-    put_clock(out, machine.clock())?;
-    for index in 0..machine.accounts() {
-        if let Some(account) = machine.account_at(index) {
-            put_account(out, &account)?;
-        }
-    }
-    Ok(())
 }
 
 /// Puts all replies that a cutter gives after the others.

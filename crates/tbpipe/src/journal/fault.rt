@@ -14,6 +14,8 @@ use tb_program_text::ProgramFault;
 pub(crate) enum JournalFault {
     /// There is no file to replay.
     NoFile,
+    /// The file is empty, so there is no ledger in it to replay.
+    EmptyFile,
     /// The file isn't opened as a ledger.
     Open(OpenFault),
     /// The script gives settings, and the file's ledger has these.
@@ -24,13 +26,16 @@ pub(crate) enum JournalFault {
     NoThread,
     /// The output can't be written.
     Write,
-    /// The output can't be written, and all of the script is committed.
+    /// The output can't be written, after the whole script.
     WriteCommitted,
     /// Memory ran out. A part of the script may be committed.
     NoMemory,
-    /// The ledger stopped: a write or an allocation failed, or there are no places left. Whether the last batch is in the
-    /// file isn't known if this is true.
-    Stopped(Option<StoreError>, bool),
+    /// The ledger stopped: a write or an allocation failed, or there are no places left. If it is in doubt, the batch or pulse at
+    /// which it stopped may be in the file.
+    Stopped {
+        fault: Option<StoreError>,
+        in_doubt: bool,
+    },
 }
 
 impl JournalFault {
@@ -47,6 +52,7 @@ impl fmt::Display for JournalFault {
     fn fmt<W: fmt::Write>(&self, f: &mut fmt::Formatter<W>) -> fmt::Result {
         match self {
             JournalFault::NoFile => f.write_str("there is no such file"),
+            JournalFault::EmptyFile => f.write_str("the file is empty, and has no ledger"),
             JournalFault::Open(fault) => write!(f, "the file isn't opened: {fault}"),
             JournalFault::OtherSettings(kept) => {
                 let Settings {
@@ -56,19 +62,19 @@ impl fmt::Display for JournalFault {
                 } = kept;
                 write!(
                     f,
-                    "the file's ledger was opened with clock {clock}, limit {limit} and submitters {submitters}, and the script asks for others"
+                    "the file's ledger was opened with clock {clock}, limit {limit} and submitters {submitters}, which the script's settings, or without `submitters` two, don't fit"
                 )
             }
             JournalFault::Read => f.write_str("standard input can't be read to its end"),
             JournalFault::NoThread => f.write_str("a thread couldn't be started"),
             JournalFault::Write => f.write_str("standard output can't be written"),
             JournalFault::WriteCommitted => f.write_str(
-                "standard output can't be written; the packets are in the file, and `replay` shows what they made",
+                "standard output can't be written; what the script committed is in the file, and `replay` shows its accounts",
             ),
             JournalFault::NoMemory => f.write_str(
-                "memory ran out; packets before this may be in the file, and `replay` shows what they made",
+                "memory ran out; a part of the script may be in the file, and `replay` shows its accounts",
             ),
-            JournalFault::Stopped(fault, in_doubt) => put_stop(f, fault, *in_doubt),
+            JournalFault::Stopped { fault, in_doubt } => put_stop(f, fault, *in_doubt),
         }
     }
 }
@@ -76,7 +82,10 @@ impl fmt::Display for JournalFault {
 /// Returns why a ledger stopped. Returns None if it hasn't.
 pub(crate) fn stop_of<S: Store + Drop>(ledger: &DurableLedger<S>) -> Option<JournalFault> {
     if ledger.stopped() {
-        Some(JournalFault::Stopped(ledger.fault(), ledger.in_doubt()))
+        Some(JournalFault::Stopped {
+            fault: ledger.fault(),
+            in_doubt: ledger.in_doubt(),
+        })
     } else {
         None
     }
@@ -88,10 +97,11 @@ fn put_stop<W: fmt::Write>(
     fault: &Option<StoreError>,
     in_doubt: bool,
 ) -> fmt::Result {
-    f.write_str("the ledger stopped, and no packet that is printed as stopped is committed")?;
-    if in_doubt {
-        f.write_str(", but the last batch or pulse may be, whole: the next opening tells")?;
-    }
+    f.write_str(if in_doubt {
+        "the ledger stopped; the first batch or pulse that isn't printed as committed may be in the file, whole, as `replay` shows, and nothing after it is committed"
+    } else {
+        "the ledger stopped, and nothing that is printed as stopped is committed"
+    })?;
     match fault {
         Some(fault) => write!(f, ": {fault}"),
         None => Ok(()),

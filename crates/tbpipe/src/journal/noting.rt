@@ -8,8 +8,8 @@ use tb_durable::DurableLedger;
 pub(crate) struct Noting<S: Store> {
     pub(crate) ledger: DurableLedger<S>,
     pub(crate) pulses: Vec<u64>,
-    /// Whether a place found no room.
-    pub(crate) is_full: bool,
+    /// Whether memory ran out for a place.
+    pub(crate) lacks_memory: bool,
 }
 
 impl<S: Store + Drop> Drop for Noting<S> {
@@ -18,7 +18,7 @@ impl<S: Store + Drop> Drop for Noting<S> {
         let Noting {
             ledger,
             pulses,
-            is_full: _,
+            lacks_memory: _,
         } = self;
         drop(ledger);
         drop(pulses);
@@ -39,7 +39,7 @@ impl<S: Store + Drop> AnyLedger for Noting<S> {
         let is_pulse = matches!(parcel, Parcel::Pulse(_));
         let outcomes = AnyLedger::apply(&mut self.ledger, parcel);
         if is_pulse && self.ledger.places() > place {
-            self.is_full |= self.pulses.push(place).is_err();
+            self.lacks_memory |= self.pulses.push(place).is_err();
         }
         outcomes
     }

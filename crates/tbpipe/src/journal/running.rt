@@ -5,7 +5,6 @@ ghost use Rattle.tb_core.specs.Journal.{LedgerState};
 ghost use Rattle.tb_durable.specs.Durable.{IsKept};
 ghost use Rattle.tb_program_text.specs.Script.{InBounds};
 
-use crate::journal::committing::put_state;
 use crate::journal::fault::{JournalFault, stop_of};
 use crate::journal::noting::Noting;
 use crate::journal::{Journaled, open_for};
@@ -15,7 +14,7 @@ use std::sync::Wait;
 use std::thread::Threads;
 use tb_durable::DurableLedger;
 use tb_layout::BATCH_MAX;
-use tb_program::{Output, RunOver, run_over};
+use tb_program::{Output, RunOver, put_state, run_over};
 use tb_program_text::{ProgramFault, ScriptParts, put_pulse, put_refused_pulse};
 
 /// Adds the lines of the pulses, and of those that were refused.
@@ -29,6 +28,14 @@ fn put_pulses(out: &mut String, places: &[u64], refused: u64) -> Result<(), Allo
     Ok(())
 }
 
+/// Returns whether memory ran out for a packet, or in the front, which passes nothing on from then on: a line of a packet says so.
+fn lacks_memory(packets: &str) -> bool {
+    packets
+        .as_bytes()
+        .split(|byte| *byte == b'\n')
+        .any(|line| line.ends_with(b" stopped") || line.ends_with(b" refused 6 NoMemory"))
+}
+
 /// Returns what is written of a run.
 fn journaled<S: Store + Drop>(
     alloc: Global,
@@ -40,6 +47,7 @@ fn journaled<S: Store + Drop>(
         operations,
         refused_pulses,
     } = ran;
+    let lacks_memory = ledger.lacks_memory || lacks_memory(text.as_str());
     put_pulses(&mut text, &ledger.pulses, refused_pulses)?;
     put_state(&mut text, ledger.ledger.machine())?;
     Ok(Journaled {
@@ -49,7 +57,10 @@ fn journaled<S: Store + Drop>(
             remark: String::new(alloc),
             operations,
         },
-        stop: stop_of(&ledger.ledger),
+        stop: match stop_of(&ledger.ledger) {
+            None if lacks_memory => Some(JournalFault::NoMemory),
+            stop => stop,
+        },
     })
 }
 
@@ -67,7 +78,7 @@ fn run_noting<R: Threads + Wait + Sync, S: Store + Drop + Send>(
     let noting = Noting {
         ledger,
         pulses: Vec::new(alloc),
-        is_full: false,
+        lacks_memory: false,
     };
     run_over(rt, alloc, noting, script)
 }
@@ -91,11 +102,5 @@ pub(crate) fn run_script<R: Threads + Wait + Sync, S: Store + Drop + Send>(
     let mut script = script;
     script.settings.limit = Some(kept.limit);
     let ran = run_noting(rt, alloc, ledger, script)?;
-    let is_full = ran.ledger.is_full;
-    let journaled = journaled(alloc, ran)?;
-    if is_full {
-        drop(journaled);
-        return Err(JournalFault::NoMemory);
-    }
-    Ok(journaled)
+    Ok(journaled(alloc, ran)?)
 }
