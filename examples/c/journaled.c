@@ -1,5 +1,5 @@
 /* A ledger that survives the process: each call is stored in SQLite before it is made, and the stored calls are made again at the start.
- * What was queued decides all else, so the ledger is then as it was.
+ * What was queued decides the state and the replies, so the ledger is then as it was.
  *
  *   journaled FILE CALLS
  *

@@ -1,8 +1,10 @@
 """A ledger that survives the process: python3 examples/python/journaled.py FILE CALLS
 
-Each call is stored in SQLite before it is made, and the stored calls are made again when the file is opened. What was queued decides all
-else, so the ledger is then as it was. Makes the calls of a little bank up to number CALLS, and prints `committed PLACE` for each.
+Each call is stored in SQLite before it is made, and the stored calls are made again when the file is opened. What was queued decides the
+state and the replies, so the ledger is then as it was. Makes the calls of a little bank up to number CALLS, and prints
+`committed PLACE` for each.
 """
+import functools
 import pathlib
 import sqlite3
 import sys
@@ -14,50 +16,92 @@ except ImportError:  # not installed: the package of this checkout
     sys.path.insert(0, str(pathlib.Path(__file__).resolve().parents[2] / "bindings/python"))
     import kip as tb
 
-PULSE = 0
+# What stands for a packet's operation.
+PULSE, SHUT = 0, 1
 
 
 class JournaledClient(tb.ClientSync):
-    """A client whose calls are in a file before their replies can be read. It is used by one thread."""
+    """A client whose calls are in a file before their replies can be read. It is used by one thread.
 
-    def __init__(self, path, **settings):
-        super().__init__(cluster_id=0, replica_addresses="3000", **settings)
+    Look-ups show what is made, and the file may not have it yet. Open a file with the same settings each time; it keeps them.
+    """
+
+    def __init__(self, path, clock=0, limit=8190, submitters=1, **more):
         self._file = sqlite3.connect(path, isolation_level=None)
+        super().__init__(cluster_id=0, replica_addresses="3000", clock=clock, limit=limit, submitters=submitters, **more)
         self._file.execute("pragma journal_mode=wal")
         self._file.execute("pragma synchronous=full")
-        self._file.execute("create table if not exists call (number integer primary key, operation integer, moment integer, data blob)")
+        self._file.execute("create table if not exists setting (clock integer, event_limit integer, submitters integer)")
+        self._file.execute("create table if not exists call (number integer primary key, operation integer, moment integer,"
+                           " submitter integer, user_data blob, data blob)")
+        self._keep_settings((clock, limit, submitters))
         self.recovered = 0
-        for operation, moment, data in self._file.execute("select operation, moment, data from call order by number"):
-            if operation == PULSE:
-                super().pulse(moment)
-            else:
-                super().submit(operation, data)
+        for operation, moment, submitter, user_data, data in self._file.execute(
+                "select operation, moment, submitter, user_data, data from call order by number"):
+            self._make_again(operation, moment, submitter, int.from_bytes(user_data, "little"), data)
             self.recovered += 1
         super().flush()
         while super().reply() is not None:
             pass
 
-    def _stored(self, call, operation, moment, data):
+    def _keep_settings(self, settings):
+        kept = self._file.execute("select * from setting").fetchone()
+        if kept is None:
+            self._file.execute("insert into setting values (?, ?, ?)", settings)
+        elif kept != settings:
+            raise ValueError(f"the file has clock, limit and submitters {kept}, not {settings}")
+
+    def _make_again(self, operation, moment, submitter, user_data, data):
+        if operation == PULSE:
+            super().pulse(moment)
+        elif operation == SHUT:
+            super().shut()
+        else:
+            super().submit(operation, data, submitter, user_data)
+
+    def _write(self, text, values=()):
+        """Runs a statement. If it fails, SQLite may have undone calls that are made: the ledger is closed, to be opened again."""
+        try:
+            return self._file.execute(text, values)
+        except sqlite3.Error:
+            self._file.close()
+            super().close()
+            raise
+
+    def _commit(self):
+        if self._file.in_transaction:
+            self._write("commit")
+
+    def _stored(self, call, operation, moment=0, submitter=0, user_data=0, data=b""):
         """Stores a call and makes it. One that is refused isn't kept."""
         if not self._file.in_transaction:
-            self._file.execute("begin")
-        row = self._file.execute("insert into call (operation, moment, data) values (?, ?, ?)", (operation, moment, bytes(data)))
+            self._write("begin")
+        row = self._write("insert into call (operation, moment, submitter, user_data, data) values (?, ?, ?, ?, ?)",
+                          (operation, moment, submitter, user_data.to_bytes(8, "little"), bytes(data)))
         try:
             return call()
         except tb.KipError:
-            self._file.execute("delete from call where number = ?", (row.lastrowid,))
+            self._write("delete from call where number = ?", (row.lastrowid,))
             raise
 
     def submit(self, operation, data, submitter=0, user_data=0):
-        return self._stored(lambda: super(JournaledClient, self).submit(operation, data, submitter, user_data), operation, 0, data)
+        call = functools.partial(super().submit, operation, data, submitter, user_data)
+        return self._stored(call, operation, submitter=submitter, user_data=user_data, data=data)
 
     def pulse(self, nanoseconds):
-        return self._stored(lambda: super(JournaledClient, self).pulse(nanoseconds), PULSE, nanoseconds, b"")
+        return self._stored(functools.partial(super().pulse, nanoseconds), PULSE, moment=nanoseconds)
+
+    def shut(self):
+        return self._stored(super().shut, SHUT)
 
     def reply(self, number=None, submitter=0):
-        if self._file.in_transaction:
-            self._file.execute("commit")  # now the calls are on the disk, and their replies may be read
+        self._commit()  # now the calls are on the disk, and their replies may be read
         return super().reply(number, submitter)
+
+    def close(self):
+        self._commit()
+        self._file.close()
+        super().close()
 
 
 def go_on(bank, number):

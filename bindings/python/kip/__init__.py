@@ -39,11 +39,16 @@ amount_max = 2**128 - 1
 
 
 class KipError(Exception):
-    """A refused call. The ledger is as it was. `name` is the status's name as in kip.h."""
+    """A refused call. The ledger is as it was. `name` is the status's name as in kip.h.
+
+    `queued` is None, unless memory ran out as a packet was committed that `create_accounts` or `create_transfers` had queued.
+    Then it is the packet's number: `flush` commits it once memory is there, and `reply(number)` has its results.
+    """
 
     def __init__(self, status):
         self.status = status
         self.name = STATUSES.get(status, "unknown")
+        self.queued = None
         super().__init__(self.name)
 
 
@@ -403,21 +408,25 @@ class Ledger:
     def _committed(self, operation, data):
         """Commits one packet of submitter 0, and returns its results."""
         number = self.submit(operation, data)
-        self.flush()
+        try:
+            self.flush()
+        except KipError as why:
+            why.queued = number
+            raise
         return self.reply(number).results
 
     @_locked
     def create_accounts(self, accounts):
         """Commits one packet, and returns a result for each event that failed.
 
-        If memory runs out as it is committed it stays queued: then `flush` commits it, and `reply` has its results.
+        If memory runs out as it is committed, it stays queued, and `queued` of the error has its number.
         """
         results = self._committed(CREATE_ACCOUNTS, _pack(accounts, _put_account))
         return [CreateAccountsResult(index, CreateAccountResult(code)) for index, code in struct.iter_unpack("<II", results)]
 
     @_locked
     def create_transfers(self, transfers):
-        """Commits one packet, and returns a result for each event that failed."""
+        """Commits one packet, and returns a result for each event that failed, as `create_accounts` does."""
         results = self._committed(CREATE_TRANSFERS, _pack(transfers, _put_transfer))
         return [CreateTransfersResult(index, CreateTransferResult(code)) for index, code in struct.iter_unpack("<II", results)]
 

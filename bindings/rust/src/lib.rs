@@ -82,7 +82,11 @@ pub enum NotCommitted {
 /// Why events weren't committed.
 #[derive(Clone, Copy, Debug, PartialEq, Eq)]
 pub enum Error {
+    /// The packet wasn't queued, and nothing has changed.
     Refused(Refusal),
+    /// Memory ran out as the packet was committed. It stays queued, with this number: `flush` commits it once memory is there, and
+    /// `reply` has its results.
+    Queued { number: u64 },
     NotCommitted(NotCommitted),
 }
 
@@ -316,7 +320,7 @@ impl Ledger {
     /// Commits one packet of submitter 0, and returns its results. Replies to other packets are kept for `reply`.
     fn committed(&mut self, operation: u8, data: &[u8]) -> Result<Vec<u8>, Error> {
         let number = self.submit(0, operation, data, 0)?;
-        self.flush()?;
+        self.flush().map_err(|_| Error::Queued { number })?;
         loop {
             let mut results = Vec::new();
             let Some(head) = self.read(&mut results) else {
@@ -335,7 +339,7 @@ impl Ledger {
     }
 
     /// Commits one packet of submitter 0, and returns a result for each account that failed. If memory runs out as it is
-    /// committed it stays queued: then `flush` commits it, and `reply` has its results.
+    /// committed, the error is `Queued`.
     pub fn create_accounts(&mut self, accounts: &[Account]) -> Result<Vec<CreateAccountsResult>, Error> {
         let data: Vec<u8> = accounts.iter().flat_map(Account::to_bytes).collect();
         let results = self.committed(CREATE_ACCOUNTS, &data)?;
@@ -347,7 +351,7 @@ impl Ledger {
     }
 
     /// Commits one packet of submitter 0, and returns a result for each transfer that failed. If memory runs out as it is
-    /// committed it stays queued, as for `create_accounts`.
+    /// committed, the error is `Queued`.
     pub fn create_transfers(&mut self, transfers: &[Transfer]) -> Result<Vec<CreateTransfersResult>, Error> {
         let data: Vec<u8> = transfers.iter().flat_map(Transfer::to_bytes).collect();
         let results = self.committed(CREATE_TRANSFERS, &data)?;

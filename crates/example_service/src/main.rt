@@ -14,8 +14,9 @@
 //!
 //! The journal is only in the file. So the memory of a run grows by the accounts and transfers that are stored, however long it runs.
 //!
-//! The status is 0 if all was committed, 1 for other arguments, and 2 if the ledger can't be opened, it stopped, or memory, a thread or
-//! the output failed. Then standard error has a line that says why. If a ledger stops, its last batch may be in the file though its
+//! The status is 0 if each packet was committed; a payment may have failed all the same, or been given up after eight tries, and the lines
+//! say with which code. It is 1 for other arguments, and 2 if the ledger can't be opened, it stopped, or memory, a thread, the clock or
+//! the output failed. Then standard error has a line that says why. The batch at which a ledger stops may be in the file though its
 //! replies say stopped; the next run tells.
 #![tactic(auto)]
 
@@ -215,7 +216,9 @@ fn went_on(rt: &HostRuntime, ledger: &FileLedger) -> bool {
         ),
     };
     if ledger.in_doubt() {
-        let _ = eprintln!(rt; "its last batch may be committed: the next run tells");
+        let _ = eprintln!(rt;
+            "the first batch that isn't printed as committed may be in the file: the next run tells"
+        );
     }
     false
 }
@@ -242,6 +245,7 @@ fn main(rt: HostRuntime) -> ExitCode {
     let _ = println!(rt; "the ledger has {places} places");
     let Ok(figures) = Figures::new(rt.alloc(), TILLS, CREDIT) else {
         drop(ledger);
+        let _ = eprintln!(rt; "memory or a thread failed");
         return ExitCode::from(2);
     };
     let ran = match figures_and_tills(&rt, &figures, ledger.packets(), payments) {
@@ -257,7 +261,7 @@ fn main(rt: HostRuntime) -> ExitCode {
     };
     if !complete {
         let _ = eprintln!(rt;
-            "a till gave up: memory or the output failed, or a packet was refused"
+            "a till gave up: memory, the clock or the output failed, or a packet was refused"
         );
     }
     let read = figures.read();

@@ -4,9 +4,6 @@ use std::alloc::Global;
 use tb_layout::{Account, NoMemory, Transfer};
 use tb_work::{Answer, Outcome, Packet};
 
-/// The flag of an account whose debits must not exceed its credits.
-const LIMITED: u16 = 2;
-
 /// How much one top-up moves.
 const TOP_UP: u128 = 20;
 
@@ -46,7 +43,7 @@ impl TillAccounts {
         };
         let wallet = Account {
             id: self.wallet,
-            flags: LIMITED,
+            flags: Account::DEBITS_MUST_NOT_EXCEED_CREDITS,
             ..shop
         };
         let bank = Account {

@@ -87,12 +87,10 @@ impl Till {
         self.figures = Some(figures);
     }
 
-    /// Returns how long it has run, in nanoseconds.
-    fn now(&self) -> u64 {
-        match self.started.elapsed(&self.rt) {
-            Ok(time) => u64::try_from(time.as_nanos()).unwrap_or(u64::MAX),
-            Err(_) => u64::MAX,
-        }
+    /// Returns how long it has run, in nanoseconds. Returns None if the clock fails.
+    fn now(&self) -> Option<u64> {
+        let time = self.started.elapsed(&self.rt).ok()?;
+        u64::try_from(time.as_nanos()).ok()
     }
 
     fn give_up(&mut self) {
@@ -172,8 +170,11 @@ impl Till {
             return;
         }
         let delay = MILLISECOND << tries;
-        let moment = self.now().saturating_add(delay);
-        if self.retries.add(moment, tries).is_err() {
+        let is_kept = match self.now() {
+            Some(now) => self.retries.add(now.saturating_add(delay), tries).is_ok(),
+            None => false,
+        };
+        if !is_kept {
             self.give_up();
         }
     }
@@ -200,7 +201,10 @@ impl Till {
 
 impl Driver for Till {
     fn next<R: Wait>(&mut self, _rt: &R, alloc: Global) -> Action {
-        let now = self.now();
+        let Some(now) = self.now() else {
+            self.give_up();
+            return self.wait(0);
+        };
         self.show(now);
         if self.stopped {
             return self.wait(now);

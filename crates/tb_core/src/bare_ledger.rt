@@ -351,9 +351,9 @@ impl BareLedger {
         }
     }
 
-    /// Applies one parcel unless an allocation fails. If one does, the parcel is returned, which is a batch, and nothing has
-    /// changed; what isn't committed, however much memory there is, is never returned. So the ledger stops only if it has no
-    /// places left. It takes memory for the facts.
+    /// Applies one parcel unless an allocation fails. If one does, the parcel is returned, and nothing has changed. Only a batch that
+    /// has places is ever returned. So the ledger stops only at a batch or pulse for which there aren't enough places. It takes
+    /// memory for the facts.
     pub fn try_apply(&mut self, parcel: Parcel) -> Result<Outcomes, Parcel>
         ensures ok { IfOk result (λ outcomes. (entry : Option EntryValue) × Records false parcel self.old outcomes entry self.new) }
         ensures applying { IfOk result (λ outcomes.

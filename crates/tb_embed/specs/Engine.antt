@@ -267,7 +267,7 @@ pub record AreAlike (read other_read : List ReplyValue) (engine other : EngineSt
   pub replies : read ++ engine.unread ≡ other_read ++ other.unread
 
 -- What was queued decides, if nothing is held: not when an engine was flushed, how packets joined, or where memory ran out. So a host
--- that stores each call before it makes it, and makes those stored again, has the ledger again.
+-- that stores its calls, without those that are refused, and makes them again has the ledger again.
 abbrev pub QueueDecides : Type 0
 QueueDecides =
     (start : LedgerState) (queue : List Ticket) (read other_read : List ReplyValue) (engine other : EngineState)

@@ -24,7 +24,8 @@ pub fn replies_come()
 
 /// Establishes that what is queued decides: two engines that began with one ledger, and in which the same was queued, have the same state
 /// and replies. It holds once neither holds a packet, while there are places. When they were flushed doesn't matter, nor where memory
-/// ran out. So a host can store each call before it makes it: the stored calls, made again after a crash, give the ledger again.
+/// ran out. So a host can store each call before it makes it, and take out again what is refused: the stored calls, made again after a
+/// crash, give the ledger again.
 pub fn queue_decides()
     ensures { QueueDecides }
 {

@@ -72,7 +72,8 @@ pub struct SubmitterFigures {
 }
 
 impl SubmitterFigures {
-    /// Returns how many queued packets have no reply yet.
+    /// Returns how many queued packets have a reply that the driver hasn't received. One that stays in its submitter's end counts for
+    /// good.
     pub fn in_flight(&self) -> u64
         ensures { result ≡ self.now.queued - self.now.replied }
     {
