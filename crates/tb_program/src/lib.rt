@@ -12,6 +12,6 @@ mod run;
 mod state;
 
 pub use list::{list_output, run_script};
-pub use state::put_state;
 pub use run::{RunOver, run_output, run_over, run_threads};
+pub use state::put_state;
 pub use tb_program_text::{Output, ProgramFault};

@@ -30,10 +30,8 @@ fn put_pulses(out: &mut String, places: &[u64], refused: u64) -> Result<(), Allo
 
 /// Returns whether memory ran out for a packet, or in the front, which passes nothing on from then on: a line of a packet says so.
 fn lacks_memory(packets: &str) -> bool {
-    packets
-        .as_bytes()
-        .split(|byte| *byte == b'\n')
-        .any(|line| line.ends_with(b" stopped") || line.ends_with(b" refused 6 NoMemory"))
+    packets.as_bytes().split(|byte| *byte == b'\n').any(|line| line.ends_with(b" stopped")
+        || line.ends_with(b" refused 6 NoMemory"))
 }
 
 /// Returns what is written of a run.
