@@ -14,8 +14,8 @@
 //!
 //! The journal is only in the file. So the memory of a run grows by the accounts and transfers that are stored, however long it runs.
 //!
-//! The status is 0 if each packet was committed; a payment may have failed all the same, or been given up after eight tries, and the lines
-//! say with which code. It is 1 for other arguments, and 2 if the ledger can't be opened, it stopped, or memory, a thread, the clock or
+//! The status is 0 if each packet was committed. A payment may have failed all the same, or been given up after eight tries: the lines say
+//! with which code. It is 1 for other arguments, and 2 if the ledger can't be opened, it stopped, or memory, a thread, the clock or
 //! the output failed. Then standard error has a line that says why. The batch at which a ledger stops may be in the file though its
 //! replies say stopped; the next run tells.
 #![tactic(auto)]
