@@ -5,10 +5,13 @@
  *
  * Makes the calls of a little bank up to number CALLS: two accounts, then transfers, and now and then a pulse. Calls are committed to the
  * file by fours, and only then are their replies read. Each is printed as `committed PLACE`. */
+#define _DEFAULT_SOURCE /* flock */
+#include <fcntl.h>
 #include <kip.h>
 #include <sqlite3.h>
 #include <stdio.h>
 #include <stdlib.h>
+#include <sys/file.h>
 
 enum { PULSE = 0, GROUP = 4 };
 
@@ -40,16 +43,26 @@ static void make(const call_t *call) {
     must(status == KIP_OK, kip_status_name(status)); /* a call that is refused isn't committed to the file */
 }
 
-/* Commits what is held, and reads all replies. */
+/* Commits what is held, and reads all replies. A packet of this bank has at most two events that fail. */
 static void read_replies(int shown) {
-    kip_failure failures[1];
+    kip_failure failures[2];
     kip_reply_t reply;
+    uint32_t status;
     must(kip_flush(&kip) == KIP_OK, "flush");
-    while (kip_reply(&kip, &reply, failures, sizeof failures) == KIP_OK) {
+    while ((status = kip_reply(&kip, &reply, failures, sizeof failures)) == KIP_OK) {
         must(kip_committed(&reply), "a reply");
         if (shown)
             printf("committed %llu\n", (unsigned long long)reply.place);
     }
+    must(status == KIP_NO_REPLY, kip_status_name(status));
+}
+
+/* Locks the file FILE.lock until the process ends. Two processes with one file would each miss the other's calls. */
+static int is_locked(const char *path) {
+    char name[4096];
+    snprintf(name, sizeof name, "%s.lock", path);
+    int lock = open(name, O_RDWR | O_CREAT, 0600);
+    return lock >= 0 && flock(lock, LOCK_EX | LOCK_NB) == 0;
 }
 
 /* Makes the stored calls again. Returns how many there are. */
@@ -92,6 +105,7 @@ static void go_on(long number) {
 int main(int count, char **words) {
     must(count == 3, "usage: journaled FILE CALLS");
     setvbuf(stdout, NULL, _IOLBF, 0); /* each line at once, also into a pipe */
+    must(is_locked(words[1]), "another process has the file open");
     must(sqlite3_open(words[1], &file) == SQLITE_OK, "open");
     sql("pragma journal_mode=wal; pragma synchronous=full;"
         "create table if not exists call (number integer primary key, operation integer, moment integer, data blob)");

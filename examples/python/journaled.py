@@ -4,6 +4,7 @@ Each call is stored in SQLite before it is made, and the stored calls are made a
 state and the replies, so the ledger is then as it was. Makes the calls of a little bank up to number CALLS, and prints
 `committed PLACE` for each.
 """
+import fcntl
 import functools
 import pathlib
 import sqlite3
@@ -23,10 +24,13 @@ PULSE, SHUT = 0, 1
 class JournaledClient(tb.ClientSync):
     """A client whose calls are in a file before their replies can be read. It is used by one thread.
 
-    Look-ups show what is made, and the file may not have it yet. Open a file with the same settings each time; it keeps them.
+    Look-ups show what is made, and don't wait for the file: call `reply` first. Open a file with the same settings each time; it keeps
+    them. Two clients with one file would each miss the other's calls, so the second one raises BlockingIOError.
     """
 
     def __init__(self, path, clock=0, limit=8190, submitters=1, **more):
+        self._lock_file = open(f"{path}.lock", "w")
+        fcntl.flock(self._lock_file, fcntl.LOCK_EX | fcntl.LOCK_NB)
         self._file = sqlite3.connect(path, isolation_level=None)
         super().__init__(cluster_id=0, replica_addresses="3000", clock=clock, limit=limit, submitters=submitters, **more)
         self._file.execute("pragma journal_mode=wal")
@@ -64,8 +68,7 @@ class JournaledClient(tb.ClientSync):
         try:
             return self._file.execute(text, values)
         except sqlite3.Error:
-            self._file.close()
-            super().close()
+            self._close()
             raise
 
     def _commit(self):
@@ -98,10 +101,14 @@ class JournaledClient(tb.ClientSync):
         self._commit()  # now the calls are on the disk, and their replies may be read
         return super().reply(number, submitter)
 
+    def _close(self):
+        self._file.close()
+        self._lock_file.close()
+        super().close()
+
     def close(self):
         self._commit()
-        self._file.close()
-        super().close()
+        self._close()
 
 
 def go_on(bank, number):
