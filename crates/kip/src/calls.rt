@@ -384,7 +384,6 @@ fn put_found(found: Option<Account>, account: &mut [u8; 128]) -> u32
 /// Writes the account with an id, in 128 bytes; held packets aren't in it.
 #[unsafe(no_mangle)]
 pub extern "C" fn kip_lookup_account(
-    alloc: Global,
     kip: &mut Kip,
     id_low: u64,
     id_high: u64,
@@ -394,33 +393,24 @@ pub extern "C" fn kip_lookup_account(
         result account.old account.new kip.old.held.engine }
     ensures same { kip.new.held.engine ≡ kip.old.held.engine }
 {
-    let Some(engine) = kip.take(alloc) else {
+    let Some(engine) = kip.engine() else {
         return CLOSED;
     };
     let id = u128::from(id_high) * U64_VALUES + u128::from(id_low);
-    let status = put_found(engine.lookup_account(id), account);
-    kip.put(engine);
-    status
+    put_found(engine.lookup_account(id), account)
 }
 
 /// Writes the account at an index in the order of making, counted from 0, in 128 bytes.
 #[unsafe(no_mangle)]
-pub extern "C" fn kip_account_at(
-    alloc: Global,
-    kip: &mut Kip,
-    index: usize,
-    account: &mut [u8; 128],
-) -> u32
+pub extern "C" fn kip_account_at(kip: &mut Kip, index: usize, account: &mut [u8; 128]) -> u32
     ensures lookup { IsAccountIn (λ engine. slice_get (balanced_accounts (state_of engine).facts) index)
         result account.old account.new kip.old.held.engine }
     ensures same { kip.new.held.engine ≡ kip.old.held.engine }
 {
-    let Some(engine) = kip.take(alloc) else {
+    let Some(engine) = kip.engine() else {
         return CLOSED;
     };
-    let status = put_found(engine.account_at(index), account);
-    kip.put(engine);
-    status
+    put_found(engine.account_at(index), account)
 }
 
 /// Returns the number of a pending transfer's status; 0 for a transfer that isn't pending.
@@ -458,7 +448,6 @@ fn put_transfer(
 /// Writes the transfer with an id, in 128 bytes, and the number of its status if it is pending.
 #[unsafe(no_mangle)]
 pub extern "C" fn kip_lookup_transfer(
-    alloc: Global,
     kip: &mut Kip,
     id_low: u64,
     id_high: u64,
@@ -469,21 +458,18 @@ pub extern "C" fn kip_lookup_transfer(
         (transfer.old, pending_status.old) (transfer.new, pending_status.new) kip.old.held.engine }
     ensures same { kip.new.held.engine ≡ kip.old.held.engine }
 {
-    let Some(engine) = kip.take(alloc) else {
+    let Some(engine) = kip.engine() else {
         return CLOSED;
     };
     let id = u128::from(id_high) * U64_VALUES + u128::from(id_low);
     let found = engine.lookup_transfer(id);
-    let status = put_transfer(found, engine.transfer_status(id), transfer, pending_status);
-    kip.put(engine);
-    status
+    put_transfer(found, engine.transfer_status(id), transfer, pending_status)
 }
 
 /// Writes the transfer at an index in the order of making, counted from 0, in 128 bytes, and the number of its status if
 /// it is pending.
 #[unsafe(no_mangle)]
 pub extern "C" fn kip_transfer_at(
-    alloc: Global,
     kip: &mut Kip,
     index: usize,
     transfer: &mut [u8; 128],
@@ -493,31 +479,28 @@ pub extern "C" fn kip_transfer_at(
         (transfer.old, pending_status.old) (transfer.new, pending_status.new) kip.old.held.engine }
     ensures same { kip.new.held.engine ≡ kip.old.held.engine }
 {
-    let Some(engine) = kip.take(alloc) else {
+    let Some(engine) = kip.engine() else {
         return CLOSED;
     };
     let found = engine.transfer_at(index);
-    let status = put_transfer(
+    put_transfer(
         found,
         engine.transfer_status_at(index),
         transfer,
         pending_status,
-    );
-    kip.put(engine);
-    status
+    )
 }
 
 /// Returns whether the engine stopped: 0 if it didn't, 8 if it did.
 #[unsafe(no_mangle)]
-pub extern "C" fn kip_stopped(alloc: Global, kip: &mut Kip) -> u32
+pub extern "C" fn kip_stopped(kip: &mut Kip) -> u32
     ensures status { result ≡ stopped_status kip.old.held.engine }
     ensures same { kip.new.held.engine ≡ kip.old.held.engine }
 {
-    let Some(engine) = kip.take(alloc) else {
+    let Some(engine) = kip.engine() else {
         return CLOSED;
     };
     let has_stopped = engine.stopped();
-    kip.put(engine);
     if has_stopped {
         Refusal::Stopped.number()
     } else {
@@ -527,11 +510,11 @@ pub extern "C" fn kip_stopped(alloc: Global, kip: &mut Kip) -> u32
 
 /// Writes how much is stored.
 #[unsafe(no_mangle)]
-pub extern "C" fn kip_counts(alloc: Global, kip: &mut Kip, counts: &mut KipCounts) -> u32
+pub extern "C" fn kip_counts(kip: &mut Kip, counts: &mut KipCounts) -> u32
     ensures counts { IsCountsOf result counts.old counts.new kip.old.held.engine }
     ensures same { kip.new.held.engine ≡ kip.old.held.engine }
 {
-    let Some(engine) = kip.take(alloc) else {
+    let Some(engine) = kip.engine() else {
         return CLOSED;
     };
     let stored = engine.counts();
@@ -540,20 +523,18 @@ pub extern "C" fn kip_counts(alloc: Global, kip: &mut Kip, counts: &mut KipCount
         transfers: stored.transfers as u64,
         failed_ids: stored.failed_ids as u64,
     };
-    kip.put(engine);
     0
 }
 
 /// Writes the clock in nanoseconds.
 #[unsafe(no_mangle)]
-pub extern "C" fn kip_clock(alloc: Global, kip: &mut Kip, nanoseconds: &mut u64) -> u32
+pub extern "C" fn kip_clock(kip: &mut Kip, nanoseconds: &mut u64) -> u32
     ensures clock { IsClockOf result nanoseconds.old nanoseconds.new kip.old.held.engine }
     ensures same { kip.new.held.engine ≡ kip.old.held.engine }
 {
-    let Some(engine) = kip.take(alloc) else {
+    let Some(engine) = kip.engine() else {
         return CLOSED;
     };
     *nanoseconds = engine.clock();
-    kip.put(engine);
     0
 }
