@@ -1,4 +1,7 @@
 """Tests of kip: python3 -m unittest test_kip. KIP_SO may name the library."""
+import os
+import pathlib
+import resource
 import threading
 import unittest
 
@@ -99,6 +102,27 @@ class Bank(unittest.TestCase):
     def test_results_larger_than_the_buffer(self):
         with Ledger() as ledger:
             self.assertEqual(len(ledger.create_accounts([Account()] * 8190)), 8190)
+
+    def test_a_packet_without_memory_to_commit_it_stays_queued(self):
+        """Ids that fail are stored as a packet is committed, so that is where memory runs out. More memory, and it is committed."""
+        size = os.sysconf("SC_PAGE_SIZE") * int(pathlib.Path("/proc/self/statm").read_text().split()[0])
+        before = resource.getrlimit(resource.RLIMIT_AS)
+        with Ledger() as ledger:
+            ledger.create_accounts(PAIR)
+            packet = lambda first: [Transfer(id=first + it, amount=1, **ROUTE | {"credit_account_id": 9}) for it in range(1, 8191)]
+            resource.setrlimit(resource.RLIMIT_AS, (size + (32 << 20), before[1]))
+            try:
+                with self.assertRaises(KipError) as caught:
+                    for number in range(1, 1000):
+                        self.assertEqual(len(ledger.create_transfers(packet(number * 8190))), 8190)
+            finally:
+                resource.setrlimit(resource.RLIMIT_AS, before)
+            self.assertEqual((caught.exception.name, caught.exception.queued), ("no_memory", number))
+            self.assertIsNone(ledger.reply(number))
+            ledger.flush()
+            self.assertEqual(len(ledger.reply(number).results), 8 * 8190)
+            self.assertEqual(ledger.counts().failed_ids, number * 8190)
+            self.assertEqual(len(ledger.create_transfers(packet((number + 1) * 8190))), 8190)
 
     def test_a_call_returns_its_own_reply(self):
         """A packet queued earlier, whose event fails, leaves its reply to whoever asks for it."""

@@ -72,8 +72,8 @@ pub struct SubmitterFigures {
 }
 
 impl SubmitterFigures {
-    /// Returns how many queued packets have a reply that the driver hasn't received. One that stays in its submitter's end counts for
-    /// good.
+    /// Returns how many packets are queued and their replies not received by the driver. A reply that stays in the submitter's end is
+    /// never received, so its packet counts from then on.
     pub fn in_flight(&self) -> u64
         ensures { result ≡ self.now.queued - self.now.replied }
     {
