@@ -1,10 +1,10 @@
 /* What a team would write first: threads that each make a packet, take a lock, store it in SQLite and commit. And the limit: a file that
  * gets each batch by one write and one fdatasync.
  *
- *   peer_journal sqlite PATH SUBMITTERS PACKETS EVENTS    PACKETS of each submitter
+ *   peer_journal sqlite PATH SUBMITTERS PACKETS EVENTS [each]    PACKETS of each submitter
  *   peer_journal file PATH 1 BATCHES EVENTS
  *
- * No state machine runs. Prints how many packets were stored. */
+ * No state machine runs. Prints how many packets were stored, and with `each` a line before that for each packet, once it is stored. */
 #include <fcntl.h>
 #include <pthread.h>
 #include <sqlite3.h>
@@ -19,6 +19,7 @@ static sqlite3 *database;
 static sqlite3_stmt *begin, *insert, *commit;
 static pthread_mutex_t lock = PTHREAD_MUTEX_INITIALIZER;
 static long packets, events, place;
+static int prints;
 
 static void must(int holds, const char *what) {
     if (!holds) {
@@ -51,6 +52,10 @@ static void *submitter(void *unused) {
         memset(body, (int)packet, events * EVENT_SIZE);
         pthread_mutex_lock(&lock);
         store(body);
+        if (prints) {
+            puts("ack");
+            fflush(stdout);
+        }
         pthread_mutex_unlock(&lock);
     }
     free(body);
@@ -94,7 +99,8 @@ static void run_file(const char *path) {
 }
 
 int main(int count, char **words) {
-    must(count == 6, "usage: peer_journal sqlite|file PATH SUBMITTERS PACKETS EVENTS");
+    prints = count == 7 && strcmp(words[6], "each") == 0;
+    must(count == 6 || prints, "usage: peer_journal sqlite|file PATH SUBMITTERS PACKETS EVENTS [each]");
     long submitters = atol(words[3]);
     packets = atol(words[4]);
     events = atol(words[5]);
