@@ -1,6 +1,6 @@
 //! The front: tickets in, batches out.
 
-ghost use Rattle.std.specs.Prelude.{◌≡◌, ◌<◌, ◌≤◌, ◌==◌, ◌||◌, ◌++◌, ◌∷◌, [], length, true, false, not, Some, None, IfOk, OnOk, OnErr, IfErr, IfSome, IfNone};
+ghost use Rattle.std.specs.Prelude.{◌≡◌, ◌<◌, ◌≤◌, ◌==◌, ◌||◌, ◌++◌, ◌∷◌, [], length, true, false, not, Some, None, IfOk, OnOk, OnErr, IfErr, IfSome, IfNone, option_to_list};
 
 use crate::parcel::{Cause, Parcel};
 use arrayvec::ArrayVec;
@@ -263,6 +263,27 @@ impl Front {
             Item::Pulse(moment) => Ok(self.pulse(parcels, moment)),
             Item::End => Ok(self.end(parcels, sender)),
             Item::Close => Ok(self.close(parcels, sender)),
+        }
+    }
+
+    /// Takes a submitter's packet as `try_take` does, and returns the parcel that it yields: a packet never yields two. If the allocation
+    /// fails, the packet is returned, and nothing has changed. A caller with one packet at a time spares the list of parcels.
+    pub fn try_packet(&mut self, job: Job) -> Result<Option<Parcel>, Job>
+        ensures ok { IfOk result (λ parcel. take_result self.new (option_to_list parcel) ≡ step_of_packet false self.old job) }
+        ensures err { IfErr result (λ back. (back ≡ job) × (self.new ≡ self.old)) }
+        ensures memory { OnErr result (takes_memory self.old (PacketItem job) ≡ true) }
+        ensures front { IsFront self.old }
+    {
+        if self.closed {
+            return Ok(Some(Parcel::Return(job, Cause::Shutdown)));
+        }
+        if self.stopped {
+            return Ok(Some(Parcel::Return(job, Cause::Stopped)));
+        }
+        match self.batcher.offer(job) {
+            Offered::Joined => Ok(None),
+            Offered::Sealed(batch) => Ok(Some(Parcel::Batch(batch))),
+            Offered::Refused(job, _) => Err(job),
         }
     }
 

@@ -1,13 +1,12 @@
-use Rattle.std.proofs.Common.{refl, ◌≡◌, ◌∙◌, ◌++◌, List, [], length, map, string_bytes, ap, sym, subst}
+use Rattle.std.proofs.Common.{refl, ◌≡◌, ◌∙◌, ◌++◌, List, [], length, map, ap, sym, subst}
 use Rattle.std.proofs.lemmas.List.{length-map}
 use Rattle.std.specs.Prelude.{ℕ, Vec}
 use Rattle.std.specs.declared.alloc.Global.{Global}
-use Rattle.tb_core.specs.Grouping.{IsGrouping}
-use Rattle.tb_core.specs.Journal.{groups_since, inputs_since}
+use Rattle.tb_core.specs.Journal.{inputs_since}
 use Rattle.tb_core.specs.EachSubmitter.{moments_in, moments_queued}
 use Rattle.tb_core.specs.EndedRun.{IsPrefix}
 use Rattle.tb_pipe.specs.Reported.{run_in}
-use Rattle.tb_drive.specs.Plan.{planned_items, refused_of, with_items}
+use Rattle.tb_drive.specs.Plan.{planned_items, with_items}
 use Rattle.tb_drive.specs.Seen.{jobs_in}
 use Rattle.tb_submit.specs.Ends.{queued_by, replies_of}
 use Rattle.tb_work.specs.Packet.{ReplyValue}
