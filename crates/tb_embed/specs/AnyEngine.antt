@@ -1,5 +1,5 @@
--- An engine over any ledger: what was queued in it, which replies were read, and what follows. Which ledger it has is known only by
--- `is`: each that it may be.
+-- An engine over any ledger: what was queued in it, which replies were read, and what follows. Its ledger's journal may be in a
+-- file. So definitions speak of each ledger that it may be, by `is`.
 use Rattle.std.specs.Prelude.{◌≡◌, ℕ, Bool, false, List, [], ◌∷◌, ◌++◌}
 use Rattle.tb_machine.specs.Replay.{replay}
 use Rattle.tb_work.specs.Ahead.{ahead, items_in}
@@ -48,7 +48,7 @@ pub record ServesBy {L : Type 0} (is : L → LedgerState → Type 0) (start : Le
 abbrev pub HoldsNothingBy : {L : Type 0} → AnyEngineState L → Type 0
 HoldsNothingBy engine = (engine.front.held ≡ []) × (engine.unread ≡ [])
 
--- An engine that was opened over a ledger, in which nothing was queued. The ledger may have stopped: then nothing is served.
+-- An engine that was opened over a ledger, in which nothing was queued. It serves only if the ledger hasn't stopped.
 pub record IsOpenedBy {L : Type 0} (is : L → LedgerState → Type 0) (ledger : L) (limit submitters : ℕ)
     (engine : AnyEngineState L) : Type 0 where
   pub serves : (start : LedgerState) → is ledger start → start.stopped ≡ false → ServesBy is start [] [] engine
@@ -81,10 +81,10 @@ pub record ContinuesBy {L : Type 0} (is : L → LedgerState → Type 0) (old new
 
 -- ---- what follows
 
--- There is a ledger that the engine's may be, and it goes on from the journal of `start`, in groups lawful under the limit. What it
--- adds is a prefix of what was queued ahead of the Close, and the replies, read and unread, are a prefix of those due by it: all of
--- them if nothing is held. Unless it has stopped, all that is ahead is committed or held. When nothing is held and all replies are
--- read, the report on the run that ends here is lawful.
+-- There is a ledger that the engine's may be. It continues the journal of `start`, in groups lawful under the limit. What it adds is a
+-- prefix of what was queued ahead of the Close. The replies, read and unread, are a prefix of those due by it: all of them if nothing
+-- is held. Unless it has stopped, all that is ahead is committed or held. When nothing is held and all replies are read, the report
+-- on the run that ends here is lawful.
 pub record IsServedBy {L : Type 0} (is : L → LedgerState → Type 0) (start : LedgerState) (queue : List Ticket)
     (read : List ReplyValue) (engine : AnyEngineState L) : Type 0 where
   pub ledger : LedgerState

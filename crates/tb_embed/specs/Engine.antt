@@ -54,7 +54,7 @@ has_stopped engine = engine.ledger.stopped
 
 -- ---- what a call adds to the run so far
 
--- a front took these items, and passed on what isn't held, of which this holds
+-- A front took these items: it passed on decisions that `are` allows, and holds the rest.
 pub record HasPassed (are : List Decision → Type 0) (items : List Item) (front : FrontState) : Type 0 where
   pub sent : List Decision
   pub passed : AreDecisions items front.closed front.stopped (sent ++ held_by front)

@@ -96,7 +96,7 @@ fn commit_held<L: AnyLedger>(front: &mut Front, ledger: &mut L, unread: &mut Unr
     apply(ledger, unread, seal(front));
 }
 
-/// Passes a ticket, of which at most one parcel comes, through a front and a ledger. There is capacity for an outcome. If the
+/// Passes a ticket through a front and a ledger. At most one parcel comes of it, and there is capacity for an outcome. If the
 /// front's allocation fails, the ticket is returned and nothing has changed.
 fn pass<L: AnyLedger>(
     front: &mut Front,
@@ -122,7 +122,7 @@ fn pass<L: AnyLedger>(
 }
 
 impl<L: AnyLedger> AnyEngine<L> {
-    ghost use Rattle.std.specs.Prelude.{IfNone, IfOk, IfSome, Some, get_or, slice_get};
+    ghost use Rattle.std.specs.Prelude.{◌^◌, ◌-◌, IfNone, IfOk, IfSome, Some, get_or, slice_get};
     ghost use Rattle.std.specs.Option.{option_copied};
     ghost use Rattle.tb_work.specs.declared.item.Item.TheVariants as item;
     ghost use Rattle.tb_work.specs.declared.refusal.Refusal.TheVariants.{NoMemory as NoMemoryRefusal};
@@ -270,7 +270,7 @@ impl<L: AnyLedger> AnyEngine<L> {
         ensures refusal { (ledger : LedgerState) → L.is self.now.ledger ledger
             → result ≡ refusal_of_sender ledger.stopped self.now.front self.now.numbers submitter }
         ensures among { IfNone result (submitter < self.now.front.submitters) }
-        ensures numbered { IfNone result (get_or self.now.numbers submitter 0 < 18446744073709551615) }
+        ensures numbered { IfNone result (get_or self.now.numbers submitter 0 < 2 ^ 64 - 1) }
     {
         if submitter >= self.submitters {
             return Some(Refusal::BadSubmitters);
@@ -290,8 +290,8 @@ impl<L: AnyLedger> AnyEngine<L> {
     ///
     /// Returns the packet with the first refusal that applies, and nothing has changed: `BadSubmitters` if there is no
     /// such submitter, `Stopped` if the ledger stopped, `Full` if the submitter has no number left, the refusal of
-    /// `admit`, `NoMemory` if memory runs out for the packet. If it runs out as the group that the packet seals is committed, the
-    /// ledger stops.
+    /// `admit`, `NoMemory`. If memory runs out only as the group that the packet seals is committed, the packet is queued, and
+    /// the ledger stops.
     pub fn submit(
         &mut self,
         alloc: Global,
