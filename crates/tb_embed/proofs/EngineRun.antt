@@ -1,5 +1,5 @@
 -- What follows of what an engine was handed.
-use Rattle.std.proofs.Common.{◌≡◌, refl, sym, ap, ◌∙◌, subst, ℕ, ◌+◌, Bool, if◌then◌else◌, List, [], ◌∷◌, ◌++◌, append-nil, map, length, get_or, ◌<◌, ◌≤◌, false, None, arith}
+use Rattle.std.proofs.Common.{◌≡◌, refl, sym, ap, ◌∙◌, subst, ℕ, ◌+◌, Bool, List, [], ◌∷◌, ◌++◌, length, get_or, ◌<◌, ◌≤◌, false, None, arith}
 use Rattle.std.specs.Prelude.{slice_set}
 use Rattle.std.proofs.lemmas.List.{map-append}
 use Rattle.tb_work.specs.Ahead.{items_in}
@@ -8,16 +8,18 @@ use Rattle.tb_work.specs.Packet.{ReplyValue}
 use Rattle.tb_work.specs.declared.item.Item.{Item}
 use Rattle.tb_work.specs.declared.item.Ticket.{Ticket}
 use Rattle.tb_work.specs.declared.packet.Packet.{Packet}
-use Rattle.tb_core.specs.Front.{FrontState, IsFront, held_by, take_step, with_group}
+use Rattle.tb_core.specs.Front.{FrontState, IsFront, take_step, with_group}
 use Rattle.tb_core.proofs.TicketDecisions.{has_taken}
-use Rattle.tb_core.specs.inside.Decision.{Admitted, AreDecisions}
-use Rattle.tb_core.specs.BareLedger.{halts, with_journal}
+use Rattle.tb_core.specs.AnyLedger.{IsWithJournal}
+use Rattle.tb_core.specs.BareLedger.{BareLedgerState, halts, with_journal}
 use Rattle.tb_core.specs.Journal.{LedgerState}
-use Rattle.tb_core.specs.Run.{Commits, EachPartIsLawful, RunIsLawful}
-use Rattle.tb_embed.specs.Engine.{EngineState, Continues, HasPlaces, HasTaken, Steps, Queues, has_stopped, places_of, sender_refusal, run_of, ServingIsLawful}
+use Rattle.tb_core.specs.Run.{EachPartIsLawful, RunIsLawful}
+use Rattle.tb_embed.specs.Engine.{EngineState, Continues, HasPlaces, HasTaken, Serves, Steps, Queues, has_stopped, places_of, sender_refusal, ServingIsLawful}
+use Rattle.tb_embed.specs.AnyEngine.{AnyEngineState, ServesBy}
 use Rattle.tb_embed.specs.Queued.{AreQueued, packets_in, ticket_of, packet_ticket}
 use Rattle.tb_embed.proofs.Places.{group_goes, places_before, ticket_goes}
-use Rattle.tb_embed.proofs.Queued.{IsNext, packet_queued, control_queued, passes_ended, queue_ended}
+use Rattle.tb_embed.proofs.Queued.{IsNext, control_queued, packet_queued_as}
+use Rattle.tb_embed.proofs.AnyRun.{any_serving_is_lawful}
 
 -- what the front and the ledger make of one item more
 abbrev pub Takes : EngineState → Item → EngineState → Type 0
@@ -65,14 +67,9 @@ pub packet_serves : (old new : EngineState) (submitter number : ℕ) (packet : P
     Queues old (packet_ticket submitter number packet)
     (record new { numbers = slice_set new.numbers submitter (number + 1) })
 packet_serves old new submitter number packet is takes steps stopped front numbers shut same among long =
-    let ticket = packet_ticket submitter number packet in
-    serves_more old new ticket (slice_set new.numbers submitter (number + 1)) new.shut takes steps stopped front (omega (arith, among)) same (λ queue are.
-    subst (λ ns. AreQueued old.front.submitters (queue ++ ticket ∷ []) (slice_set ns submitter (number + 1)) new.shut)
-    (sym numbers) (subst (AreQueued old.front.submitters (queue ++ ticket ∷ [])
-    (slice_set old.numbers submitter (number + 1))) (sym shut)
-    (subst (λ k. AreQueued old.front.submitters (queue ++ packet_ticket submitter k packet ∷ [])
-    (slice_set old.numbers submitter (k + 1)) old.shut) is
-    (packet_queued old.front.submitters queue old.numbers old.shut are submitter packet among long))))
+    serves_more old new (packet_ticket submitter number packet) (slice_set new.numbers submitter (number + 1)) new.shut takes
+    steps stopped front (omega (arith, among)) same (λ queue are. packet_queued_as old.front.submitters queue new.numbers
+    old.numbers new.shut old.shut submitter packet number are is numbers shut among long)
 
 pub control_serves : (old new : EngineState) (x : Item) → Takes old x new
     → Steps old.front (ticket_of old.front.submitters x) new.front → Stops old (ticket_of old.front.submitters x) new
@@ -109,40 +106,53 @@ pub is_among : (engine : EngineState) (submitter : ℕ) → sender_refusal engin
     → submitter < engine.front.submitters
 is_among engine submitter is = grind arith
 
+-- an engine in memory as one over any ledger, which may be each with a journal that it committed
+abbrev as_any : EngineState → AnyEngineState BareLedgerState
+as_any engine = record {
+  front = engine.front;
+  ledger = engine.ledger;
+  unread = engine.unread;
+  numbers = engine.numbers;
+  shut = engine.shut;
+}
+
+serves_by : (start : LedgerState) (queue : List Ticket) (read : List ReplyValue) (engine : EngineState)
+    → Serves start queue read engine → ServesBy IsWithJournal start queue read (as_any engine)
+serves_by start queue read engine serves =
+    let has = serves.taken.has_sent in
+    record {
+      taken = record {
+        sent = serves.taken.sent;
+        passed = serves.taken.passed;
+        has_sent = record {
+          ledger = with_journal engine.ledger has.groups;
+          now = record { same = refl; committed = has.committed };
+          commits = has.commits;
+          joined = has.joined;
+        };
+      };
+      queued = serves.queued;
+      unstopped = serves.unstopped;
+    }
+
 pub serving_is_lawful : EachPartIsLawful → RunIsLawful → ServingIsLawful
 serving_is_lawful each_part run start queue read engine serves =
-    let front = engine.front in
-    let taken = serves.taken in
-    let commits = taken.has_sent.commits in
-    let ledger = with_journal engine.ledger taken.has_sent.groups in
-    let far = each_part start (items_in queue) front.closed front.stopped taken.sent (held_by front) ledger
-    (read ++ engine.unread) taken.passed commits in
+    let any = any_serving_is_lawful each_part run IsWithJournal start queue read (as_any engine)
+    (serves_by start queue read engine serves) in
     record {
-      ledger = ledger;
-      own = refl;
-      opening = commits.from;
-      continues = commits.continues;
-      replayed = commits.state;
-      counted = taken.has_sent.committed.counted;
-      joined = taken.has_sent.joined;
-      committed = far.committed;
-      due = far.due;
-      replied = λ none. far.replied (ap (map Admitted) none);
-      whole = far.whole;
+      ledger = any.ledger;
+      own = any.own.same;
+      opening = any.opening;
+      continues = any.continues;
+      replayed = sym (ap (λ (ledger : LedgerState). ledger.state) any.own.same) ∙ any.replayed;
+      counted = any.own.committed.counted;
+      joined = any.joined;
+      committed = any.committed;
+      due = any.due;
+      replied = any.replied;
+      whole = λ on. any.whole;
       goes = λ places.
           let goes = serves.goes places in
-          (goes, far.whole serves.unstopped goes);
-      report = λ none done. run (run_of start queue read engine ledger) start read
-          (queue_ended front.submitters queue engine.numbers engine.shut serves.queued) refl
-          (record {
-            closed = front.closed;
-            stopped = front.stopped;
-            decisions = taken.sent;
-            passed = passes_ended (if engine.shut then front.submitters else front.submitters + 1) queue front.closed front.stopped taken.sent
-                (subst (AreDecisions (items_in queue) front.closed front.stopped)
-                (ap (λ jobs. taken.sent ++ map Admitted jobs) none ∙ append-nil taken.sent) taken.passed);
-            commits = subst (Commits start taken.sent ledger)
-                (ap (λ replies. read ++ replies) done ∙ append-nil read) commits;
-          })
-          (λ submitter below. refl);
+          (goes, any.whole (ap (λ (ledger : LedgerState). ledger.stopped) any.own.same ∙ goes));
+      report = any.report;
     }

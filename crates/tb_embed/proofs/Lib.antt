@@ -2,6 +2,7 @@ mod Queued
 mod Opened
 mod Parcels
 mod Places
+mod AnyRun
 mod EngineRun
 mod Replies
 mod Again

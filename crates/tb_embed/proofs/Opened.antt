@@ -26,7 +26,7 @@ all_zero zero k = refl
 all_zero (suc n) zero = refl
 all_zero (suc n) (suc k) = all_zero n k
 
-none_queued : (submitters : ℕ) → AreQueued submitters [] (replicate 16 0) false
+pub none_queued : (submitters : ℕ) → AreQueued submitters [] (replicate 16 0) false
 none_queued submitters =
     record {
       submitted = tt;

@@ -3,7 +3,7 @@ use Rattle.std.proofs.Common.{◌≡◌, ◌≤◌, ◌+◌, ◌||◌, refl, sym
 use Rattle.std.specs.Prelude.{◌==◌, not}
 use Rattle.std.proofs.lemmas.Bool.Decides.{nat_tests}
 use Rattle.tb_layout.specs.inside.Limits.{places_max}
-use Rattle.tb_work.specs.Packet.{Numbered, ReplyValue}
+use Rattle.tb_work.specs.Packet.{Numbered}
 use Rattle.tb_work.specs.declared.item.Item.{Item}
 use Rattle.tb_work.specs.declared.item.Item.TheVariants as item
 use Rattle.tb_work.specs.declared.item.Ticket.{Ticket}
@@ -14,9 +14,8 @@ use Rattle.tb_core.specs.Front.{FrontState, IsFront, all_decisions_in, group_as_
 use Rattle.tb_core.proofs.TicketDecisions.{has_taken}
 use Rattle.tb_core.specs.Grouping.{AreJoinedParcels}
 use Rattle.tb_core.specs.inside.Decision.{Decision, Admitted, AreDecisions}
-use Rattle.tb_core.specs.Journal.{LedgerState}
-use Rattle.tb_core.specs.BareLedger.{BareLedgerState, HasSent, halts, places_with}
-use Rattle.tb_embed.specs.Engine.{HasTaken, IsControl, places_in, places_of}
+use Rattle.tb_core.specs.BareLedger.{BareLedgerState, halts, places_with}
+use Rattle.tb_embed.specs.Engine.{HasPassed, IsControl, places_in, places_of}
 use Rattle.tb_embed.specs.Queued.{ticket_of}
 
 -- ---- the group held
@@ -29,40 +28,36 @@ held_decisions : (held : List Numbered) → all_decisions_in (group_as_batch hel
 held_decisions [] = refl
 held_decisions (job ∷ jobs) = append-nil (map Admitted (job ∷ jobs))
 
--- a ledger took these parcels
-abbrev pub Sends : LedgerState → ℕ → List Parcel → BareLedgerState → List ReplyValue → BareLedgerState → List ReplyValue → Type 0
-Sends start limit parcels old before new after =
-    (sent : List Decision) → AreJoinedParcels limit parcels → HasSent start limit sent old before
-    → HasSent start limit (sent ++ all_decisions_in parcels) new after
+-- whatever was passed on before, these parcels are too, in groups lawful under a limit
+abbrev pub Sends : (was is : ℕ → List Decision → Type 0) → ℕ → List Parcel → Type 0
+Sends was is limit parcels =
+    (sent : List Decision) → AreJoinedParcels limit parcels → was limit sent → is limit (sent ++ all_decisions_in parcels)
 
-pub held_taken : (start : LedgerState) (items : List Item) (front : FrontState) (parcels : List Parcel)
-    (old new : BareLedgerState) (before after : List ReplyValue) → parcels ≡ group_as_batch front.held
-    → IsGroup front.limit front.held → Sends start front.limit parcels old before new after
-    → HasTaken start items before front old → HasTaken start items after (with_group front []) new
-held_taken start items front parcels old new before after is group sends has = record {
+pub held_taken : (was is : ℕ → List Decision → Type 0) (items : List Item) (front : FrontState) (parcels : List Parcel)
+    → parcels ≡ group_as_batch front.held → IsGroup front.limit front.held → Sends was is front.limit parcels
+    → HasPassed (was front.limit) items front → HasPassed (is front.limit) items (with_group front [])
+held_taken was is items front parcels sealed group sends has = record {
   sent = has.sent ++ all_decisions_in parcels;
   passed = subst (AreDecisions items front.closed front.stopped)
-      (sym (append-nil (has.sent ++ all_decisions_in parcels) ∙ ap (λ ds. has.sent ++ ds) (ap all_decisions_in is
+      (sym (append-nil (has.sent ++ all_decisions_in parcels) ∙ ap (λ ds. has.sent ++ ds) (ap all_decisions_in sealed
       ∙ held_decisions front.held))) has.passed;
-  has_sent = sends has.sent (subst (AreJoinedParcels front.limit) (sym is) (held_joined front.limit front.held group))
+  has_sent = sends has.sent (subst (AreJoinedParcels front.limit) (sym sealed) (held_joined front.limit front.held group))
       has.has_sent;
 }
 
 -- ---- a ticket
 
-pub ticket_taken : (start : LedgerState) (items : List Item) (front next : FrontState) (ticket : Ticket) (parcels : List Parcel)
-    (old new : BareLedgerState) (before after : List ReplyValue) → IsFront front → ticket.sender ≤ front.submitters
-    → take_result next parcels ≡ take_step false front ticket.sender ticket.item
-    → Sends start front.limit parcels old before new after
-    → HasTaken start items before front old → HasTaken start (items ++ ticket.item ∷ []) after next new
-ticket_taken start items front next ticket parcels old new before after is among step sends has =
-    let taken = has_taken false front ticket (take_result next parcels) is among step in
+pub ticket_taken : (was is : ℕ → List Decision → Type 0) (items : List Item) (front next : FrontState) (ticket : Ticket)
+    (parcels : List Parcel) → IsFront front → ticket.sender ≤ front.submitters
+    → take_result next parcels ≡ take_step false front ticket.sender ticket.item → Sends was is front.limit parcels
+    → HasPassed (was front.limit) items front → HasPassed (is next.limit) (items ++ ticket.item ∷ []) next
+ticket_taken was is items front next ticket parcels sound among step sends has =
+    let taken = has_taken false front ticket (take_result next parcels) sound among step in
     let sent = has.sent ++ all_decisions_in parcels in
     record {
       sent = sent;
       passed = taken.passes items has.sent has.passed;
-      has_sent = subst (λ limit. HasSent start limit sent new after) (sym taken.same.0)
-          (sends has.sent taken.lawful has.has_sent);
+      has_sent = subst (λ limit. is limit sent) (sym taken.same.0) (sends has.sent taken.lawful has.has_sent);
     }
 
 -- ---- a pulse or the Close

@@ -125,6 +125,14 @@ module _ (submitters : ℕ) (queue : List Ticket) (numbers : List ℕ) (shut : B
         (subst (λ b. HasQueued submitters 0 b (items_from submitters queue)) on are.control)));
   }
 
+-- a packet with its submitter's next number, by what a call left
+pub packet_queued_as : (submitters : ℕ) (queue : List Ticket) (numbers old : List ℕ) (shut was : Bool) (submitter : ℕ)
+    (packet : Packet) (number : ℕ) → AreQueued submitters queue old was → get_or old submitter 0 ≡ number → numbers ≡ old
+    → shut ≡ was → submitter < submitters → submitters ≤ length old →
+    AreQueued submitters (queue ++ packet_ticket submitter number packet ∷ []) (slice_set numbers submitter (number + 1)) shut
+packet_queued_as submitters queue numbers old shut was submitter packet number are is numbers_are shut_is among long =
+    rw (numbers_are, shut_is, sym is) (packet_queued submitters queue old was are submitter packet among long)
+
 -- ---- a run that ends
 
 more_ends : (count : ℕ) (queue : List Ticket)

@@ -54,12 +54,16 @@ has_stopped engine = engine.ledger.stopped
 
 -- ---- what a call adds to the run so far
 
--- a front took these items and a ledger, since it was `start`, all that the front passed on; these are the replies
-pub record HasTaken (start : LedgerState) (items : List Item) (replies : List ReplyValue) (front : FrontState)
-    (ledger : BareLedgerState) : Type 0 where
+-- A front took these items: it passed on decisions that `are` allows, and holds the rest.
+pub record HasPassed (are : List Decision → Type 0) (items : List Item) (front : FrontState) : Type 0 where
   pub sent : List Decision
   pub passed : AreDecisions items front.closed front.stopped (sent ++ held_by front)
-  pub has_sent : HasSent start front.limit sent ledger replies
+  pub has_sent : are sent
+
+-- a front took these items and a ledger, since it was `start`, all that the front passed on; these are the replies
+abbrev pub HasTaken : LedgerState → List Item → List ReplyValue → FrontState → BareLedgerState → Type 0
+HasTaken start items replies front ledger =
+    HasPassed (λ sent. HasSent start front.limit sent ledger replies) items front
 
 -- with those committed before there are at most 2^63 packets and pulses ahead of the Close
 abbrev pub HasPlaces : LedgerState → List Item → Type 0
@@ -152,26 +156,39 @@ abbrev pub packet_with : ℕ → List ℕ → ℕ → Packet
 packet_with operation bytes user = record { operation = operation; bytes = bytes; user = user }
 
 -- why no packet of a submitter is queued: there is no such submitter, the engine stopped, or the submitter has no number left
-abbrev pub sender_refusal : EngineState → ℕ → Option Refusal
-sender_refusal engine submitter =
-    if nat_le engine.front.submitters submitter then Some BadSubmitters
-    else if has_stopped engine then Some Stopped
-    else if get_or engine.numbers submitter 0 == 2 ^ 64 - 1 then Some Full else None
+abbrev pub refusal_of_sender : Bool → FrontState → List ℕ → ℕ → Option Refusal
+refusal_of_sender stopped front numbers submitter =
+    if nat_le front.submitters submitter then Some BadSubmitters
+    else if stopped then Some Stopped
+    else if get_or numbers submitter 0 == 2 ^ 64 - 1 then Some Full else None
 
 -- why a packet isn't queued, if memory is there: its submitter's refusal, or that of its admission
-abbrev pub submit_refusal : EngineState → ℕ → Packet → Option Refusal
-submit_refusal engine submitter packet =
-    either (sender_refusal engine submitter) (refusal_in (admission_of engine.front.limit packet))
+abbrev pub refusal_of_packet : Bool → FrontState → List ℕ → ℕ → Packet → Option Refusal
+refusal_of_packet stopped front numbers submitter packet =
+    either (refusal_of_sender stopped front numbers submitter) (refusal_in (admission_of front.limit packet))
 
 -- why a pulse isn't queued, if memory is there
-abbrev pub pulse_refusal : EngineState → ℕ → Option Refusal
-pulse_refusal engine moment =
-    if nat_lt moment_max moment then Some MomentTooLarge else if engine.shut then Some Shutdown
-    else if has_stopped engine then Some Stopped else None
+abbrev pub refusal_of_pulse : Bool → Bool → ℕ → Option Refusal
+refusal_of_pulse stopped shut moment =
+    if nat_lt moment_max moment then Some MomentTooLarge else if shut then Some Shutdown
+    else if stopped then Some Stopped else None
 
 -- why the Close isn't queued, if memory is there
+abbrev pub refusal_of_close : Bool → Option Refusal
+refusal_of_close shut = if shut then Some Shutdown else None
+
+abbrev pub sender_refusal : EngineState → ℕ → Option Refusal
+sender_refusal engine submitter = refusal_of_sender (has_stopped engine) engine.front engine.numbers submitter
+
+abbrev pub submit_refusal : EngineState → ℕ → Packet → Option Refusal
+submit_refusal engine submitter packet =
+    refusal_of_packet (has_stopped engine) engine.front engine.numbers submitter packet
+
+abbrev pub pulse_refusal : EngineState → ℕ → Option Refusal
+pulse_refusal engine moment = refusal_of_pulse (has_stopped engine) engine.shut moment
+
 abbrev pub shut_refusal : EngineState → Option Refusal
-shut_refusal engine = if engine.shut then Some Shutdown else None
+shut_refusal engine = refusal_of_close engine.shut
 
 -- the first refusal that applies, else that memory ran out
 abbrev pub IsRefusal : Option Refusal → Refusal → Type 0
@@ -181,17 +198,20 @@ IsRefusal first refusal = (first ≡ Some refusal) ⊎ ((first ≡ None) × (ref
 
 -- the run that ends here, if this is the journal of what was committed, which began as that of `start`: each sender's end is
 -- queued after all that it queued
-abbrev pub run_of : LedgerState → List Ticket → List ReplyValue → EngineState → LedgerState → Run
-run_of start queue read engine ledger =
-    let whole = ended_queue engine.front.submitters engine.shut queue in
+abbrev pub ended_run : LedgerState → List Ticket → List ReplyValue → FrontState → Bool → LedgerState → Run
+ended_run start queue read front shut ledger =
+    let whole = ended_queue front.submitters shut queue in
     record {
-      submitters = engine.front.submitters;
+      submitters = front.submitters;
       queue = whole;
       queued = λ sender. items_from sender whole;
       before = inputs start;
       ledger = ledger;
       replies = replies_to read;
     }
+
+abbrev pub run_of : LedgerState → List Ticket → List ReplyValue → EngineState → LedgerState → Run
+run_of start queue read engine ledger = ended_run start queue read engine.front engine.shut ledger
 
 -- the replies due to what was queued, in order, if this is the journal
 abbrev pub due_since : LedgerState → List Ticket → LedgerState → List ReplyValue

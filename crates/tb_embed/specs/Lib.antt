@@ -1,3 +1,4 @@
+pub mod AnyEngine
 pub mod Engine
 pub mod Queued
 pub mod Unread

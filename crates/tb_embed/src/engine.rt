@@ -141,7 +141,7 @@ fn apply(ledger: &mut BareLedger, unread: &mut Unread, parcel: Option<Parcel>) -
 }
 
 /// Returns the group held as a parcel, and it is no longer held; None if nothing was.
-fn seal(front: &mut Front) -> Option<Parcel>
+pub(crate) fn seal(front: &mut Front) -> Option<Parcel>
     ensures parcel { option_to_list result ≡ group_as_batch front.old.held }
     ensures left { front.new ≡ with_group front.old [] }
     ensures front { IsFront front.old }
@@ -179,7 +179,7 @@ fn commit_held(
 
 /// Passes a ticket, of which at most one parcel comes, through a front, and returns the parcel. If its allocation fails, it is
 /// returned and nothing has changed.
-fn offer(front: &mut Front, ticket: Ticket) -> Result<Option<Parcel>, Ticket>
+pub(crate) fn offer(front: &mut Front, ticket: Ticket) -> Result<Option<Parcel>, Ticket>
     requires sender { ticket.sender ≤ front.old.submitters }
     requires one { length (take_step false front.old ticket.sender ticket.item).parcels ≤ 1 }
     ensures ok { IfOk result (λ parcel. take_result front.new (option_to_list parcel)

@@ -1,14 +1,24 @@
 //! What follows from an engine's calls.
 
+ghost use Rattle.tb_embed.specs.AnyEngine.{AnyServingIsLawful};
 ghost use Rattle.tb_embed.specs.Engine.{QueueDecides, RepliesCome, ServingIsLawful};
 
-use tb_core::{each_part_is_lawful, run_is_lawful};
+use tb_core::{AnyLedger, each_part_is_lawful, run_is_lawful};
 
 /// Establishes, for any sequence of calls, that what an engine committed is a prefix of what was queued ahead of the
 /// Close, and its replies a prefix of those due. While there are places the engine hasn't stopped, and all that is ahead of
 /// the Close is committed or held. Once nothing is held or unread, the report is lawful.
 pub fn serving_is_lawful()
     ensures { ServingIsLawful }
+{
+    each_part_is_lawful();
+    run_is_lawful();
+}
+
+/// Establishes the same of an engine over any ledger, for each ledger that it may have begun with: what it committed is a prefix of what
+/// was queued ahead of the Close, and all of that is committed or held unless the ledger has stopped.
+pub fn any_serving_is_lawful<L: AnyLedger>()
+    ensures { AnyServingIsLawful L.is }
 {
     each_part_is_lawful();
     run_is_lawful();

@@ -12,13 +12,17 @@
 //!
 //! An engine that holds nothing yields its ledger (`Engine::into_ledger`), and another goes on with it (`Engine::over`).
 //!
+//! An `AnyEngine` has the same calls over any ledger, such as one in a file (`any_serving_is_lawful`).
+//!
 //! `calls_in_a_row` in tb_core_tests is an example that the gate compiles.
 #![tactic(auto)]
 
+mod any_engine;
 mod engine;
 mod laws;
 mod unread;
 
+pub use any_engine::AnyEngine;
 pub use engine::Engine;
-pub use laws::{queue_decides, replies_come, serving_is_lawful};
+pub use laws::{any_serving_is_lawful, queue_decides, replies_come, serving_is_lawful};
 pub use tb_core::Seed;

@@ -1,11 +1,14 @@
 use Rattle.std.proofs.Common.{◌++◌}
 use Rattle.std.specs.Prelude.{option_to_list}
+use Rattle.tb_core.specs.BareLedger.{HasSent}
 use Rattle.tb_embed.proofs.Parcels.{held_taken}
 use Rattle.tb_embed.proofs.engine.commit_held.Goals as goal
 
 pub returns-in-Ok-clause-taken : goal.returns-in-Ok-clause-taken
 returns-in-Ok-clause-taken c = λ start items read has.
     let front = c.args.front.now in
-    rw c.seal.ensures.left (held_taken start items front (option_to_list c.seal.result) c.args.ledger.now c.apply.new.ledger
-    (read ++ c.args.unread.now.replies) (read ++ c.apply.new.unread.replies) c.seal.ensures.parcel c.seal.ensures.front.group
+    rw c.seal.ensures.left (held_taken
+    (λ limit sent. HasSent start limit sent c.args.ledger.now (read ++ c.args.unread.now.replies))
+    (λ limit sent. HasSent start limit sent c.apply.new.ledger (read ++ c.apply.new.unread.replies))
+    items front (option_to_list c.seal.result) c.seal.ensures.parcel c.seal.ensures.front.group
     (λ sent joined had. c.in-Ok.ensures.sent start front.limit sent read joined had) has)

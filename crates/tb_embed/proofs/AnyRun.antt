@@ -1,0 +1,176 @@
+-- What follows of what an engine over any ledger was handed.
+use Rattle.std.proofs.Common.{◌≡◌, ◌≤◌, ◌<◌, ◌+◌, refl, sym, ap, ◌∙◌, subst, arith, ℕ, Bool, false, if◌then◌else◌, List, [], ◌∷◌, ◌++◌, length, map, append-nil, get_or, replicate}
+use Rattle.std.specs.Prelude.{slice_set}
+use Rattle.std.proofs.lemmas.List.{map-append}
+use Rattle.tb_work.specs.Ahead.{items_in}
+use Rattle.tb_work.specs.Packet.{ReplyValue}
+use Rattle.tb_work.specs.Queue.{is_end, IsSubmitted}
+use Rattle.tb_work.specs.declared.item.Item.{Item}
+use Rattle.tb_work.specs.declared.item.Ticket.{Ticket}
+use Rattle.tb_work.specs.declared.packet.Packet.{Packet}
+use Rattle.tb_core.specs.AnyLedger.{Applying, IsApplied}
+use Rattle.tb_core.specs.declared.outcomes.Outcomes.{Outcomes}
+use Rattle.tb_core.specs.declared.parcel.Parcel.{Parcel}
+use Rattle.tb_core.specs.Front.{FrontState, IsFront, all_decisions_in, decisions_in, held_by, take_step, with_group}
+use Rattle.tb_core.specs.Grouping.{AreJoined, AreJoinedParcels}
+use Rattle.tb_core.specs.inside.Decision.{Decision, Admitted, AreDecisions}
+use Rattle.tb_core.specs.Journal.{LedgerState, groups_since}
+use Rattle.tb_core.specs.Run.{Commits, EachPartIsLawful, RunIsLawful, replies_in}
+use Rattle.tb_core.proofs.TicketDecisions.{has_taken}
+use Rattle.tb_embed.specs.Engine.{Steps, ended_run}
+use Rattle.tb_embed.specs.AnyEngine.{AnyEngineState, AnyServingIsLawful, ContinuesBy, HasSentBy, HasTakenBy, IsOpenedBy, QueuesBy}
+use Rattle.tb_embed.specs.Queued.{AreQueued, packets_in, packet_ticket, ticket_of}
+use Rattle.tb_embed.proofs.Queued.{IsNext, control_queued, packet_queued_as, passes_ended, queue_ended}
+use Rattle.tb_embed.proofs.Opened.{none_queued}
+
+-- one parcel applied
+pub parcel_sent : (was is : LedgerState → Type 0) (handed : Parcel) (given : Outcomes) (start : LedgerState) (limit : ℕ)
+    (sent : List Decision) (replies : List ReplyValue) → Applying was handed given is → AreJoinedParcels limit (handed ∷ [])
+    → HasSentBy was start limit sent replies
+    → HasSentBy is start limit (sent ++ all_decisions_in (handed ∷ [])) (replies ++ replies_in given)
+parcel_sent was is handed given start limit sent replies applying joined has =
+    let step : (next : LedgerState) × is next × IsApplied has.ledger handed given next = applying has.ledger has.now in
+    record {
+      ledger = step.0;
+      now = step.1;
+      commits = subst (λ ds. Commits start (sent ++ ds) step.0 (replies ++ replies_in given))
+          (sym (append-nil (decisions_in handed))) (step.2.commits start sent replies has.commits);
+      joined = step.2.joined start limit has.commits.continues joined.0 has.joined;
+    }
+
+-- an engine in which nothing was queued
+pub opened_by : {L : Type 0} (is : L → LedgerState → Type 0) (ledger : L) (limit submitters : ℕ) (engine : AnyEngineState L)
+    (front : FrontState)
+    → engine ≡ record { front = front; ledger = ledger; unread = []; numbers = replicate 16 0; shut = false }
+    → front ≡ record {
+      limit = limit;
+      submitters = submitters;
+      held = [];
+      closed = false;
+      stopped = false;
+      ended = replicate 17 false;
+    } → AreDecisions [] front.closed front.stopped (held_by front)
+    → ((start : LedgerState) → is ledger start → start.stopped ≡ false → Commits start [] start [])
+    → ((start : LedgerState) (limit : ℕ) → AreJoined limit (groups_since start start))
+    → IsOpenedBy is ledger limit submitters engine
+opened_by is ledger limit submitters engine front engine_is front_is passes begins joined =
+    rw engine_is (record {
+      serves = λ start now goes. record {
+        taken = record {
+          sent = [];
+          passed = passes;
+          has_sent = record {
+            ledger = start;
+            now = now;
+            commits = begins start now goes;
+            joined = joined start front.limit;
+          };
+        };
+        queued = none_queued front.submitters;
+        unstopped = ap (λ (f : FrontState). f.stopped) front_is;
+      };
+      own = refl;
+      limited = ap (λ (f : FrontState). f.limit) front_is;
+      counted = ap (λ (f : FrontState). f.submitters) front_is;
+      nothing = (ap (λ (f : FrontState). f.held) front_is, refl);
+      unshut = refl;
+    })
+
+module _ {L : Type 0} (is : L → LedgerState → Type 0) (old new : AnyEngineState L) where
+  -- what the front and the ledger make of one item more
+  abbrev pub TakesBy : Item → Type 0
+  TakesBy x =
+      (start : LedgerState) (items : List Item) (read : List ReplyValue)
+      → HasTakenBy (is old.ledger) start items (read ++ old.unread) old.front
+      → HasTakenBy (is new.ledger) start (items ++ x ∷ []) (read ++ new.unread) new.front
+
+  -- one ticket more, with what its sender may queue next
+  more_by : (ticket : Ticket) (numbers : List ℕ) (shut : Bool) → TakesBy ticket.item → Steps old.front ticket new.front
+      → IsFront old.front → ticket.sender ≤ old.front.submitters → new.front.submitters ≡ old.front.submitters
+      → ((queue : List Ticket) → AreQueued old.front.submitters queue old.numbers old.shut
+      → AreQueued old.front.submitters (queue ++ ticket ∷ []) numbers shut)
+      → QueuesBy is old ticket (record new { numbers = numbers; shut = shut })
+  more_by ticket numbers shut takes steps sound among same more = record {
+    adds = λ start queue read serves. record {
+      taken = subst (λ (items : List Item). HasTakenBy (is new.ledger) start items (read ++ new.unread) new.front)
+          (sym (map-append (λ (t : Ticket). t.item) queue (ticket ∷ [])))
+          (takes start (items_in queue) read serves.taken);
+      queued = subst (λ n. AreQueued n (queue ++ ticket ∷ []) numbers shut) (sym same) (more queue serves.queued);
+      unstopped = ap (λ (f : FrontState). f.stopped) steps
+          ∙ (has_taken false old.front ticket (take_step false old.front ticket.sender ticket.item) sound among refl).goes_on
+          refl serves.unstopped;
+    };
+    steps = steps;
+  }
+
+  pub packet_by : (submitter number : ℕ) (packet : Packet) → get_or old.numbers submitter 0 ≡ number
+      → TakesBy (packet_ticket submitter number packet).item → Steps old.front (packet_ticket submitter number packet) new.front
+      → IsFront old.front → new.numbers ≡ old.numbers → new.shut ≡ old.shut
+      → new.front.submitters ≡ old.front.submitters → submitter < old.front.submitters
+      → old.front.submitters ≤ length old.numbers →
+      QueuesBy is old (packet_ticket submitter number packet)
+      (record new { numbers = slice_set new.numbers submitter (number + 1) })
+  packet_by submitter number packet is_number takes steps sound numbers shut same among long =
+      more_by (packet_ticket submitter number packet) (slice_set new.numbers submitter (number + 1)) new.shut takes steps sound
+      (omega (arith, among)) same (λ queue are. packet_queued_as old.front.submitters queue new.numbers old.numbers new.shut
+      old.shut submitter packet number are is_number numbers shut among long)
+
+  pub control_by : (x : Item) → TakesBy x → Steps old.front (ticket_of old.front.submitters x) new.front
+      → IsFront old.front → new.numbers ≡ old.numbers
+      → new.front.submitters ≡ old.front.submitters → IsSubmitted old.front.submitters old.front.submitters x
+      → IsNext old.front.submitters 0 x → 0 + packets_in (x ∷ []) ≡ 0 → old.shut ≡ false →
+      QueuesBy is old (ticket_of old.front.submitters x) (record new { shut = is_end x })
+  control_by x takes steps sound numbers same own next none on =
+      let n = old.front.submitters in
+      more_by (ticket_of n x) new.numbers (is_end x) takes steps sound (omega arith) same (λ queue are.
+      subst (λ ns. AreQueued n (queue ++ ticket_of n x ∷ []) ns (is_end x)) (sym numbers)
+      (control_queued n queue old.numbers old.shut are x own next none on))
+
+  -- the group held committed
+  pub group_by : ((start : LedgerState) (items : List Item) (read : List ReplyValue)
+      → HasTakenBy (is old.ledger) start items (read ++ old.unread) old.front
+      → HasTakenBy (is new.ledger) start items (read ++ new.unread) new.front) → new.front ≡ with_group old.front []
+      → new.numbers ≡ old.numbers → new.shut ≡ old.shut → ContinuesBy is old new
+  group_by takes seals numbers shut = record {
+    adds = λ start queue read serves. record {
+      taken = takes start (items_in queue) read serves.taken;
+      queued = rw (seals, numbers, shut) serves.queued;
+      unstopped = ap (λ (f : FrontState). f.stopped) seals ∙ serves.unstopped;
+    };
+    seals = seals;
+  }
+
+pub any_serving_is_lawful : EachPartIsLawful → RunIsLawful → {L : Type 0} (is : L → LedgerState → Type 0)
+    → AnyServingIsLawful is
+any_serving_is_lawful each_part run is start queue read engine serves =
+    let front = engine.front in
+    let taken = serves.taken in
+    let ledger = taken.has_sent.ledger in
+    let commits = taken.has_sent.commits in
+    let far = each_part start (items_in queue) front.closed front.stopped taken.sent (held_by front) ledger
+    (read ++ engine.unread) taken.passed commits in
+    record {
+      ledger = ledger;
+      own = taken.has_sent.now;
+      opening = commits.from;
+      continues = commits.continues;
+      replayed = commits.state;
+      joined = taken.has_sent.joined;
+      committed = far.committed;
+      due = far.due;
+      replied = λ none. far.replied (ap (map Admitted) none);
+      whole = far.whole serves.unstopped;
+      report = λ none done. run (ended_run start queue read front engine.shut ledger) start read
+          (queue_ended front.submitters queue engine.numbers engine.shut serves.queued) refl
+          (record {
+            closed = front.closed;
+            stopped = front.stopped;
+            decisions = taken.sent;
+            passed = passes_ended (if engine.shut then front.submitters else front.submitters + 1) queue front.closed front.stopped taken.sent
+                (subst (AreDecisions (items_in queue) front.closed front.stopped)
+                (ap (λ jobs. taken.sent ++ map Admitted jobs) none ∙ append-nil taken.sent) taken.passed);
+            commits = subst (Commits start taken.sent ledger)
+                (ap (λ replies. read ++ replies) done ∙ append-nil read) commits;
+          })
+          (λ submitter below. refl);
+    }

@@ -1,0 +1,8 @@
+use Rattle.std.proofs.Common.{refl}
+use Rattle.tb_embed.proofs.AnyRun.{opened_by}
+use Rattle.tb_embed.proofs.any_engine.AnyEngine.over.Goals as goal
+
+pub returns-clause-opened : goal.returns-clause-opened
+returns-clause-opened g c =
+    opened_by g.L.AnyLedger.is c.args.ledger c.args.limit c.args.submitters _ c.in-Ok.front (rw c.new-2.ensures refl)
+    c.in-Ok.ensures.front c.in-Ok.ensures.passes c.stopped.ensures.begins c.stopped.ensures.joined

@@ -1,0 +1,21 @@
+use Rattle.std.proofs.Common.{refl, sym, subst, ap, ◌∙◌}
+use Rattle.tb_work.specs.declared.item.Item.TheVariants as item
+use Rattle.tb_embed.specs.AnyEngine.{AnyEngineState, QueuesBy}
+use Rattle.tb_embed.specs.Engine.{Steps}
+use Rattle.tb_embed.specs.Queued.{ticket_of}
+use Rattle.tb_embed.proofs.AnyRun.{TakesBy, control_by}
+use Rattle.tb_embed.proofs.any_engine.AnyEngine.pulse.Goals as goal
+
+pub returns-clause-ok : goal.returns-clause-ok
+returns-clause-ok g c =
+    let may_be = g.L.AnyLedger.is in
+    let old = c.args.self.now in
+    let new = c.take_control.new.self in
+    let done = c.in_ok-take_control.ensures in
+    let x = item.Pulse c.args.nanoseconds in
+    let open_yet = ap (λ (s : AnyEngineState _). s.shut) (sym c.self.view_is) ∙ c.if-self.false in
+    subst (λ b. QueuesBy may_be old (ticket_of old.front.submitters x) (record new { shut = b })) (sym (done.same.1 ∙ open_yet))
+    (control_by may_be old new x
+    (subst (λ moment. TakesBy may_be old new (item.Pulse moment)) c.new.ensures done.taken)
+    (subst (λ moment. Steps old.front (ticket_of old.front.submitters (item.Pulse moment)) new.front) c.new.ensures done.steps)
+    done.front done.same.0 done.same.3 refl tt refl open_yet)

@@ -1,0 +1,30 @@
+use Rattle.std.proofs.Common.{sym, subst, ap, arith, ◌+◌, ◌≤◌, get_or, length}
+use Rattle.std.specs.Prelude.{slice_set}
+use Rattle.tb_work.specs.Packet.{Numbered}
+use Rattle.tb_work.specs.declared.item.Item.TheVariants as item
+use Rattle.tb_embed.specs.AnyEngine.{AnyEngineState, QueuesBy}
+use Rattle.tb_embed.specs.Engine.{Steps}
+use Rattle.tb_embed.specs.Queued.{packet_ticket, ticket_of}
+use Rattle.tb_embed.proofs.AnyRun.{TakesBy, packet_by}
+use Rattle.tb_embed.proofs.any_engine.AnyEngine.submit.Goals as goal
+
+pub returns-in-Ok-clause-ok : goal.returns-in-Ok-clause-ok
+returns-in-Ok-clause-ok g c =
+    let may_be = g.L.AnyLedger.is in
+    let old = c.args.self.now in
+    let new = c.take.new.self in
+    let submitter = c.args.submitter in
+    let number = get_or c.self.inside.numbers submitter 0 in
+    let same = c.in-Ok.ensures.same in
+    let known = c.self.invariant in
+    subst (λ (s : AnyEngineState _). QueuesBy may_be old (packet_ticket submitter number c.args.packet)
+    (record s { numbers = slice_set s.numbers submitter (number + 1) }))
+    (sym c.self-2.view_is)
+    (packet_by may_be old new submitter number c.args.packet
+    (ap (λ (s : AnyEngineState _). get_or s.numbers submitter 0) (sym c.self.view_is))
+    (subst (λ (job : Numbered). TakesBy may_be old new (item.Packet job)) c.in_ok-job.ensures.job c.in-Ok.ensures.taken)
+    (subst (λ (job : Numbered). Steps old.front (ticket_of submitter (item.Packet job)) new.front)
+    c.in_ok-job.ensures.job c.in-Ok.ensures.steps)
+    c.in-Ok.ensures.front same.0 same.1 same.3 c.in_default.ensures.among
+    (subst (λ (s : AnyEngineState _). s.front.submitters ≤ length s.numbers) c.self.view_is
+    (omega (arith, known.counted, known.among, known.each))))
