@@ -303,6 +303,38 @@ impl Front {
         }
     }
 
+    /// Takes a packet, and puts the parcels that it yields into the list.
+    #[inline(always)]
+    fn packet(&mut self, parcels: &mut ArrayVec<Parcel, 2>, job: Job)
+        requires { parcels.old.items ≡ [] }
+        ensures took { (refused : Bool) × (take_result self.new parcels.new.items ≡ step_of_packet refused self.old job) }
+        ensures front { IsFront self.old }
+    {
+        match self.try_packet(job) {
+            Ok(Some(parcel)) => parcels.push(parcel),
+            Ok(None) => {}
+            Err(job) => self.refuse(parcels, job),
+        }
+    }
+
+    /// Takes one ticket, and puts the parcels that it yields into the list.
+    #[inline(always)]
+    fn step(&mut self, parcels: &mut ArrayVec<Parcel, 2>, ticket: Ticket)
+        requires sender { ticket.sender ≤ self.old.submitters }
+        requires empty { parcels.old.items ≡ [] }
+        ensures took { (refused : Bool) × (take_result self.new parcels.new.items
+            ≡ take_step refused self.old ticket.sender ticket.item) }
+        ensures front { IsFront self.old }
+    {
+        let Ticket { sender, item } = ticket;
+        match item {
+            Item::Packet(job) => self.packet(parcels, job),
+            Item::Pulse(moment) => self.pulse(parcels, moment),
+            Item::End => self.end(parcels, sender),
+            Item::Close => self.close(parcels, sender),
+        }
+    }
+
     /// Takes one ticket as `take` does if its allocation fails. Takes no memory.
     pub fn take_as_refused(&mut self, ticket: Ticket) -> ArrayVec<Parcel, 2>
         requires { ticket.sender ≤ self.old.submitters }
@@ -365,11 +397,7 @@ impl Front {
             → KnowsEnds (queue ++ ticket ∷ []) self.new }
         ensures same { (self.new.limit ≡ self.old.limit) × (self.new.submitters ≡ self.old.submitters) }
     {
-        let mut ticket = ticket;
-        match self.try_take(parcels, &mut ticket) {
-            Ok(()) => {}
-            Err(_) => self.step_refused(parcels, ticket),
-        }
+        self.step(parcels, ticket);
     }
 
     /// Holds a batch again that `idle` gave, as the group that it was. Takes no memory, and the cost doesn't depend on how much

@@ -1,10 +1,11 @@
 //! A list of items through the front and the ledger, in one thread.
 
-ghost use Rattle.std.specs.Prelude.{◌≡◌, ◌≤◌, ◌++◌, ◌∷◌, [], ℕ, List, IfOk, OnOk};
+ghost use Rattle.std.specs.Prelude.{◌≡◌, ◌≤◌, ◌++◌, ◌∷◌, [], ℕ, List, IfOk, OnOk, option_to_list};
 ghost use Rattle.tb_layout.specs.inside.Limits.{batch_max};
 ghost use Rattle.tb_layout.specs.Limits.{clock_max};
 ghost use Rattle.tb_work.specs.Ahead.{ahead};
 ghost use Rattle.tb_work.specs.declared.item.Item.{Item as ItemValue};
+ghost use Rattle.tb_work.specs.declared.item.Item.TheVariants.{Packet as PacketItem};
 ghost use Rattle.tb_core.specs.Front.{all_decisions_in, decisions_in};
 ghost use Rattle.tb_core.specs.Grouping.{AreWithin, IsGrouping, IsJoinedParcel, AreJoinedParcels};
 ghost use Rattle.tb_core.specs.inside.Decision.{Decision};
@@ -20,7 +21,7 @@ use arrayvec::ArrayVec;
 use std::alloc::Global;
 use tb_demux::Cutter;
 use tb_layout::NoMemory;
-use tb_work::{Item, Reply, Ticket};
+use tb_work::{Item, Job, Reply, Ticket};
 
 /// The result of a list of items: the ledger, and a reply to each packet, in order.
 #[derive(Drop)]
@@ -93,6 +94,24 @@ fn apply_all(
     Ok(())
 }
 
+/// Applies the parcel, if there is one.
+#[inline(always)]
+fn apply_if(
+    ledger: &mut Ledger,
+    replies: &mut Vec<Reply>,
+    parcel: Option<Parcel>,
+) -> Result<(), NoMemory>
+    ensures { (start : LedgerState) (limit : ℕ) (sent : List Decision) → AreJoinedParcels limit (option_to_list parcel)
+        → HasNotStopped start limit sent ledger.old replies.old.items
+        → OnOk result (HasNotStopped start limit (sent ++ all_decisions_in (option_to_list parcel)) ledger.new
+        replies.new.items) }
+{
+    match parcel {
+        Some(parcel) => apply(ledger, replies, parcel),
+        None => Ok(()),
+    }
+}
+
 /// A front and a ledger under way, with the replies so far.
 #[derive(Drop)]
 struct Listing {
@@ -102,8 +121,25 @@ struct Listing {
 }
 
 impl Listing {
-    /// Takes one item, with room for its parcels. Its sender doesn't matter: whether all have ended isn't asked.
-    fn take(&mut self, parcels: &mut ArrayVec<Parcel, 2>, item: Item) -> Result<(), NoMemory>
+    /// Takes a packet, of which at most one parcel comes.
+    #[inline(always)]
+    fn packet(&mut self, job: Job) -> Result<(), NoMemory>
+        ensures { (start : LedgerState) (limit : ℕ) (items : List ItemValue)
+            → IsRunning start limit items self.old.front self.old.ledger self.old.replies.items
+            → OnOk result (IsRunning start limit (items ++ PacketItem job ∷ []) self.new.front self.new.ledger
+            self.new.replies.items) }
+    {
+        match self.front.try_packet(job) {
+            Ok(parcel) => apply_if(&mut self.ledger, &mut self.replies, parcel),
+            Err(job) => {
+                drop(job);
+                Err(NoMemory)
+            }
+        }
+    }
+
+    /// Takes an item that is no packet, with room for its parcels. Its sender doesn't matter: whether all have ended isn't asked.
+    fn control(&mut self, parcels: &mut ArrayVec<Parcel, 2>, item: Item) -> Result<(), NoMemory>
         requires { parcels.old.items ≡ [] }
         ensures none { OnOk result (parcels.new.items ≡ []) }
         ensures runs { (start : LedgerState) (limit : ℕ) (items : List ItemValue)
@@ -116,6 +152,21 @@ impl Listing {
         drop(ticket);
         taken?;
         apply_all(&mut self.ledger, &mut self.replies, parcels)
+    }
+
+    /// Takes one item, with room for its parcels.
+    fn take(&mut self, parcels: &mut ArrayVec<Parcel, 2>, item: Item) -> Result<(), NoMemory>
+        requires { parcels.old.items ≡ [] }
+        ensures none { OnOk result (parcels.new.items ≡ []) }
+        ensures runs { (start : LedgerState) (limit : ℕ) (items : List ItemValue)
+            → IsRunning start limit items self.old.front self.old.ledger self.old.replies.items
+            → OnOk result (IsRunning start limit (items ++ item ∷ []) self.new.front self.new.ledger
+            self.new.replies.items) }
+    {
+        match item {
+            Item::Packet(job) => self.packet(job),
+            item => self.control(parcels, item),
+        }
     }
 
     /// Takes items in order.

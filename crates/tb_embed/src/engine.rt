@@ -188,8 +188,20 @@ pub(crate) fn offer(front: &mut Front, ticket: Ticket) -> Result<Option<Parcel>,
     ensures memory { OnErr result (takes_memory front.old ticket.item ≡ true) }
     ensures front { IsFront front.old }
 {
+    let Ticket { sender, item } = ticket;
+    let mut ticket = match item {
+        Item::Packet(job) => {
+            return match front.try_packet(job) {
+                Ok(parcel) => Ok(parcel),
+                Err(job) => Err(Ticket {
+                    sender,
+                    item: Item::Packet(job),
+                }),
+            };
+        }
+        item => Ticket { sender, item },
+    };
     let mut parcels = ArrayVec::new();
-    let mut ticket = ticket;
     match front.try_take(&mut parcels, &mut ticket) {
         Ok(()) => Ok(parcels.pop_at(0)),
         Err(_) => Err(ticket),

@@ -4,7 +4,7 @@ use Rattle.tb_work.specs.declared.item.Ticket.{Ticket}
 use Rattle.tb_core.specs.Front.{take_result, all_decisions_in}
 use Rattle.tb_core.specs.Grouping.{AreJoinedParcels}
 use Rattle.tb_core.proofs.TicketDecisions.{has_taken}
-use Rattle.tb_core.proofs.list.Listing.take.Goals as goal
+use Rattle.tb_core.proofs.list.Listing.control.Goals as goal
 
 pub returns-clause-runs : goal.returns-clause-runs
 returns-clause-runs c = λ start limit items run.
