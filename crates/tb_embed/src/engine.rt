@@ -177,6 +177,26 @@ fn commit_held(
     }
 }
 
+/// Passes a ticket that is no packet, of which at most one parcel comes, through a front, as `offer` does. It has a list of parcels, which a
+/// packet does without.
+#[inline(never)]
+fn offer_control(front: &mut Front, ticket: Ticket) -> Result<Option<Parcel>, Ticket>
+    requires sender { ticket.sender ≤ front.old.submitters }
+    requires one { length (take_step false front.old ticket.sender ticket.item).parcels ≤ 1 }
+    ensures ok { IfOk result (λ parcel. take_result front.new (option_to_list parcel)
+        ≡ take_step false front.old ticket.sender ticket.item) }
+    ensures err { IfErr result (λ back. (back ≡ ticket) × (front.new ≡ front.old)) }
+    ensures memory { OnErr result (takes_memory front.old ticket.item ≡ true) }
+    ensures front { IsFront front.old }
+{
+    let mut parcels = ArrayVec::new();
+    let mut ticket = ticket;
+    match front.try_take(&mut parcels, &mut ticket) {
+        Ok(()) => Ok(parcels.pop_at(0)),
+        Err(_) => Err(ticket),
+    }
+}
+
 /// Passes a ticket, of which at most one parcel comes, through a front, and returns the parcel. If its allocation fails, it is
 /// returned and nothing has changed.
 pub(crate) fn offer(front: &mut Front, ticket: Ticket) -> Result<Option<Parcel>, Ticket>
@@ -189,22 +209,15 @@ pub(crate) fn offer(front: &mut Front, ticket: Ticket) -> Result<Option<Parcel>,
     ensures front { IsFront front.old }
 {
     let Ticket { sender, item } = ticket;
-    let mut ticket = match item {
-        Item::Packet(job) => {
-            return match front.try_packet(job) {
-                Ok(parcel) => Ok(parcel),
-                Err(job) => Err(Ticket {
-                    sender,
-                    item: Item::Packet(job),
-                }),
-            };
-        }
-        item => Ticket { sender, item },
-    };
-    let mut parcels = ArrayVec::new();
-    match front.try_take(&mut parcels, &mut ticket) {
-        Ok(()) => Ok(parcels.pop_at(0)),
-        Err(_) => Err(ticket),
+    match item {
+        Item::Packet(job) => match front.try_packet(job) {
+            Ok(parcel) => Ok(parcel),
+            Err(job) => Err(Ticket {
+                sender,
+                item: Item::Packet(job),
+            }),
+        },
+        item => offer_control(front, Ticket { sender, item }),
     }
 }
 
