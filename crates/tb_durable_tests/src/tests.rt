@@ -4,6 +4,8 @@ ghost use Rattle.std.specs.Prelude.{IfOk, IsTrue};
 ghost use Rattle.sqlite_trees.specs.Tree.{rowid};
 ghost use Rattle.sqlite_trees.specs.View.{is_int};
 
+mod engine;
+
 use sqlite::MemStore;
 use sqlite_trees::schema::Object;
 use sqlite_trees::store::{Shape, Store};
