@@ -97,7 +97,9 @@ impl<S: Store + Drop> DurableLedger<S> {
     ghost use Rattle.tb_core.specs.Journal.{LedgerState};
     ghost use Rattle.tb_durable.specs.Durable.{IsJournal, IsKept, IsStored, LeavesWith, groups_of, groups_of_parcel, opened_rows, rows_of};
     ghost use Rattle.tb_durable.specs.Runs.{ShowsJournal};
+    ghost use Rattle.tb_durable.specs.Entries.{IsFailure, IsLedgerFile};
     ghost use Rattle.tb_durable.specs.Faults.{IsCause};
+    ghost use Rattle.tb_durable.specs.declared.counts.PacketCounts.{PacketCounts as Counts};
     ghost use Rattle.tb_durable.specs.Recovery.{RecoversFromCrashes};
 
     /// Opens the ledger of a store. If its table is empty, the ledger is new, and the given settings are stored. Otherwise
@@ -121,6 +123,9 @@ impl<S: Store + Drop> DurableLedger<S> {
         ensures goes_on { IfOk result (λ ledger. (ledger.bare.stopped ≡ false) × (ledger.in_doubt ≡ false)) }
         ensures fault { IfErr result (λ refused. IsClean (S.Store.view refused.1)
             → IsCause (opened_rows settings ((S.Store.view store).committed 0)) refused.0) }
+        ensures opens { (counts : Counts) → IsLedgerFile ((S.Store.view store).committed 0) counts
+            → IfErr result (λ refused. IsClean (S.Store.view refused.1) → IsFailure refused.0)
+            × IfOk result (λ ledger. IsClean (S.Store.view ledger.table.store) → ledger.counts ≡ counts) }
     {
         let mut table = Table {
             store,
