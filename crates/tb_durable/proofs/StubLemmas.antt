@@ -1,12 +1,10 @@
 -- Stubs that are counted are read back as they were written.
-use Rattle.std.proofs.Common.{◌≡◌, suc, ◌<◌, ◌≤◌, ◌+◌, ◌*◌, ◌^◌, ◌/◌, ◌%◌, ℕ, Bool, true, false, List, [], ◌∷◌, ◌++◌, Option, Some, None, refl, sym, ap, ◌∙◌, arith, length, length-append, map, take, drop}
-use Rattle.std.specs.Prelude.{◌==◌, ◌&&◌, ◌||◌, IsOk, IsSome, get_or, nat_lt, slice_index_or, if◌then◌else◌}
+use Rattle.std.proofs.Common.{◌≡◌, suc, ◌<◌, ◌+◌, ◌*◌, ◌^◌, ◌/◌, ◌%◌, ℕ, Bool, true, false, List, [], ◌∷◌, Option, Some, None, refl, sym, ap, ◌∙◌, arith, length, length-append, map, drop}
+use Rattle.std.specs.Prelude.{◌==◌, ◌&&◌, ◌||◌, IsSome, get_or, nat_lt, slice_index_or, if◌then◌else◌}
 use Rattle.std.specs.List.{flat_map, AllByRecursion}
 use Rattle.std.specs.Simd.{first_chunks}
 use Rattle.std.proofs.lemmas.Bool.{and_parts, ltb-true}
 use Rattle.std.proofs.lemmas.List.{drop_at, drop_more, take_at}
-use Rattle.tb_layout.specs.Bytes.{little_endian}
-use Rattle.tb_layout.specs.inside.Bytes.{bytes_of}
 use Rattle.tb_layout.proofs.Numbers.{length-bytes_of, little_endian-bytes_of}
 use Rattle.tb_work.specs.declared.stub.Stub.{Stub}
 use Rattle.tb_work.specs.Admission.{event_size}

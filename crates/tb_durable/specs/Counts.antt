@@ -1,5 +1,5 @@
 -- How many packets of each submitter are stored.
-use Rattle.std.specs.Prelude.{ℕ, ◌+◌, ◌^◌, ◌==◌, ◌&&◌, ◌||◌, Bool, nat_lt, List, [], ◌∷◌, Option, Some, None, replicate, slice_index_or, slice_set, if◌then◌else◌}
+use Rattle.std.specs.Prelude.{◌+◌, ◌^◌, ◌==◌, ◌&&◌, ◌||◌, Bool, nat_lt, List, [], ◌∷◌, Option, Some, None, replicate, slice_index_or, slice_set, if◌then◌else◌}
 use Rattle.tb_work.specs.declared.stub.Stub.{Stub}
 use Rattle.tb_durable.specs.declared.counts.PacketCounts.{PacketCounts}
 

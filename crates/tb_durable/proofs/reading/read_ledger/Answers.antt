@@ -1,8 +1,7 @@
-use Rattle.std.proofs.Common.{◌≡◌, ◌∙◌, arith, refl, rules, subst, sym, [], ◌∷◌}
+use Rattle.std.proofs.Common.{arith, refl, rules, subst, sym, [], ◌∷◌}
 use Rattle.sqlite_trees.specs.View.{IsClean}
 use Rattle.tb_durable.specs.Durable.{HasJournal, opened_rows}
 use Rattle.tb_durable.specs.Faults.{IsCause}
-use Rattle.tb_durable.specs.Counts.{no_packets}
 use Rattle.tb_durable.specs.Entries.{IsFailure, IsHalfway, IsLedgerFile}
 use Rattle.tb_durable.proofs.FileLemmas.{AreSettings, begins_halfway, opened_file}
 use Rattle.tb_durable.proofs.Journals.{new_journal}

@@ -1,15 +1,13 @@
-use Rattle.std.proofs.Common.{◌≡◌, ◌∙◌, ◌+◌, ◌∷◌, [], ◌++◌, rules, sym, ap, arith, subst, map, drop, length, true, false, append_assoc}
+use Rattle.std.proofs.Common.{◌≡◌, ◌∙◌, ◌+◌, ◌∷◌, [], ◌++◌, rules, sym, ap, subst, map, drop, length, true, false, append_assoc}
 use Rattle.std.specs.Prelude.{◌==◌, IsSome}
 use Rattle.std.proofs.lemmas.List.{drop_all, map-append}
-use Rattle.tb_work.specs.Packet.{Numbered, input_of}
-use Rattle.tb_work.specs.Job.{stub_of}
-use Rattle.tb_batch.specs.Batch.{body_of}
+use Rattle.tb_work.specs.Packet.{input_of}
 use Rattle.tb_batch.specs.Grouping.{is_taken}
 use Rattle.tb_core.specs.Ledger.{batch_packets}
 use Rattle.tb_durable.specs.declared.fault.OpenFault.TheVariants.{NoMemory}
-use Rattle.tb_durable.specs.Counts.{counted, counted_all}
+use Rattle.tb_durable.specs.Counts.{counted_all}
 use Rattle.tb_durable.specs.Rows.{stub_at}
-use Rattle.tb_durable.proofs.BatchLemmas.{begins, job_at, next_part, next_taken, none_left, some_held}
+use Rattle.tb_durable.proofs.BatchLemmas.{begins, next_part, next_taken, none_left, some_held}
 use Rattle.tb_durable.proofs.StubLemmas.{counted_follows, counted_none, counted_step, stubs_left}
 use Rattle.tb_durable.proofs.replaying.Replaying.batch_in.Goals as goal
 use Rattle.tb_durable.proofs.replaying.Replaying.batch_in.Goals.{in_default-seal-via-in-Some+then-is_empty+else-is_empty-2, in_default-seal-via-in-Some+else-is_empty, in_default-seal-via-in_default-seal}

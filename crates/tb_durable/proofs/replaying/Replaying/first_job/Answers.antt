@@ -1,4 +1,4 @@
-use Rattle.std.proofs.Common.{◌≡◌, ◌∙◌, ◌*◌, sym, ap, take, drop}
+use Rattle.std.proofs.Common.{◌∙◌, ◌*◌, sym, ap, take, drop}
 use Rattle.std.specs.Option.{is_some}
 use Rattle.tb_durable.proofs.BatchLemmas.{first_read, known_size, rest_bytes}
 use Rattle.tb_durable.proofs.replaying.Replaying.first_job.Goals as goal
