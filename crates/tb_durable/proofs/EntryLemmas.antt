@@ -100,8 +100,7 @@ rows_push place before middle after [] row all last =
     (after, rw (at, all) at last, refl)
 rows_push place before middle after (first ∷ rows) row all last =
     let next : place + length (flat_map group_in (first ∷ rows)) ≡ place + length (group_in first) + length (flat_map group_in rows)
-    = omega (arith, length-append (group_in first) (flat_map group_in rows)) in
-    (
+    = omega (arith, length-append (group_in first) (flat_map group_in rows)) in (
       all.0,
       all.1,
       rows_push (place + length (group_in first)) all.0 middle after rows row all.2

@@ -1,23 +1,27 @@
 -- A ledger's file, read row by row and with one row more.
-use Rattle.std.proofs.Common.{◌≡◌, ◌<◌, ◌≤◌, ◌+◌, ◌^◌, ℕ, pos, true, false, List, [], ◌∷◌, ◌++◌, refl, sym, ap, subst, ◌∙◌, arith, length, map}
+use Rattle.std.proofs.Common.{◌≡◌, ◌⊎◌, inl, inr, Some, ◌<◌, ◌≤◌, ◌+◌, ◌^◌, ℕ, pos, true, false, List, [], ◌∷◌, ◌++◌, refl, sym, ap, subst, ◌∙◌, arith, length, map}
 use Rattle.std.specs.List.{flat_map}
 use Rattle.sqlite_value.specs.declared.value.Value.TheVariants.{Int}
 use Rattle.sqlite_value.specs.Order.{Row}
-use Rattle.sqlite_trees.specs.Tree.{rowid}
+use Rattle.sqlite_trees.specs.Tree.{Trees, rowid}
 use Rattle.sqlite_trees.specs.View.{View, Advances}
 use Rattle.tb_layout.specs.Events.{Input}
 use Rattle.tb_layout.specs.Limits.{clock_max}
+use Rattle.tb_layout.specs.inside.Limits.{moment_max}
+use Rattle.tb_batch.specs.Batch.{AreParts, IsLawful}
+use Rattle.tb_batch.specs.declared.parts.Parts.{Parts}
 use Rattle.tb_core.specs.BareLedger.{BareLedgerState, new_bare_ledger}
 use Rattle.tb_durable.specs.declared.counts.PacketCounts.{PacketCounts}
 use Rattle.tb_durable.specs.declared.fault.OpenFault.{OpenFault}
 use Rattle.tb_durable.specs.declared.fault.OpenFault.TheVariants as fault
 use Rattle.tb_durable.specs.declared.settings.Settings.{Settings}
-use Rattle.tb_durable.specs.Counts.{no_packets}
-use Rattle.tb_durable.specs.Durable.{AddsGroup, IsFirst, IsJournal, IsReading, opened_rows}
-use Rattle.tb_durable.specs.Entries.{AreEntryRows, IsEntryRow, IsFailure, IsFirstRow, IsHalfway, IsLedgerFile}
-use Rattle.tb_durable.specs.Rows.{group_in, settings_row}
-use Rattle.tb_durable.proofs.EntryLemmas.{rows_push}
-use Rattle.tb_durable.proofs.Journals.{more_places, new_journal, one_more}
+use Rattle.tb_durable.specs.Counts.{counted_all, no_packets}
+use Rattle.tb_durable.specs.Durable.{Adds, AddsGroup, IsAdded, IsFirst, IsJournal, IsReading, IsSettled, IsStored, opened_rows}
+use Rattle.tb_durable.specs.Entries.{AreEntryRows, CanBeOpened, HasEntries, IsEntryRow, IsFailure, IsFirstRow, IsHalfway, IsLedgerFile}
+use Rattle.tb_durable.specs.Rows.{group_in, jobs_row, pulse_row, settings_row}
+use Rattle.tb_durable.proofs.Cutting.{operation_is}
+use Rattle.tb_durable.proofs.EntryLemmas.{entry_place, rows_push}
+use Rattle.tb_durable.proofs.Journals.{added_last, left_last, more_places, new_journal, one_more}
 use Rattle.tb_durable.proofs.StoreLemmas.{left_is, reads_one}
 
 pub no_memory_fails : (error : OpenFault) → error ≡ fault.NoMemory → IsFailure error
@@ -109,3 +113,45 @@ file_push rows bare before after row j file entry =
       all.0,
       rows_push 0 no_packets before after j.entries row all.1 (subst (λ p. IsEntryRow p before row after) place entry),
     )
+
+-- whatever a crash leaves can be opened if the row that is being stored is an entry's at the next place
+pub crash_opens : (old : View) (row : Row) (bare : BareLedgerState) (before after : PacketCounts) (was now : Trees → Type 0)
+    → IsStored old bare → HasEntries old bare before → bare.stopped ≡ false → IsEntryRow bare.places before row after
+    → ((db : Trees) → now db → was db ⊎ IsAdded old row db) → CanBeOpened was → CanBeOpened now
+crash_opens old row bare before after was now stored has goes_on entry crash opens db left =
+    elim (crash db left) [
+      | inl there ↦ opens db there
+      | inr added ↦
+          let at_rest = stored added.clean goes_on in
+          let at = entry_place bare.places before after row entry in (
+            after,
+            subst (λ rows. IsLedgerFile rows after) (sym (left_last old row bare at_rest.0 at_rest.1 at db added))
+                (file_push (old.committed 0) bare before after row at_rest.1 (has added.clean goes_on) entry),
+          )
+    ]
+
+-- the table has the row after the others
+pub stored_file : (old new : View) (row : Row) (bare : BareLedgerState) (before after : PacketCounts) → IsSettled old
+    → IsJournal (old.committed 0) bare → IsLedgerFile (old.committed 0) before → IsEntryRow bare.places before row after
+    → Adds old new row → IsLedgerFile (new.committed 0) after
+stored_file old new row bare before after at_rest journal file entry adds =
+    subst (λ rows. IsLedgerFile rows after)
+    (sym (added_last old row bare at_rest journal (entry_place bare.places before after row entry) new adds))
+    (file_push (old.committed 0) bare before after row journal file entry)
+
+-- ---- the row of a parcel
+
+pub batch_entry : (place : ℕ) (before after : PacketCounts) (parts : Parts) → AreParts parts
+    → counted_all before parts.stubs.items ≡ Some after → IsEntryRow place before (jobs_row place parts.jobs.items) after
+batch_entry place before after parts are counted =
+    let jobs = parts.jobs.items in
+    inl (record {
+      jobs = jobs;
+      is = refl;
+      lawful = subst (λ o. IsLawful o jobs) (sym (operation_is parts.operation jobs are.lawful)) are.lawful;
+      follow = ap (counted_all before) (sym are.stubs) ∙ counted;
+    })
+
+pub pulse_entry : (place moment : ℕ) (counts : PacketCounts) → moment ≤ moment_max
+    → IsEntryRow place counts (pulse_row place moment) counts
+pulse_entry place moment counts low = inr (record { moment = moment; is = refl; low = low }, refl)

@@ -100,8 +100,7 @@ counted_in_range before after (job ∷ jobs) all is =
     let bounds = and_parts (nat_lt (stub.number + 1) (2 ^ 64)) (nat_lt (slice_index_or before.packets stub.submitter 0 + 1) (2 ^ 64))
     (and_parts (stub.number == 0 || stub.number == slice_index_or before.numbers stub.submitter 0)
     (nat_lt (stub.number + 1) (2 ^ 64) && nat_lt (slice_index_or before.packets stub.submitter 0 + 1) (2 ^ 64)) among.1).1 in
-    let whole = admitted_are_whole 8190 job.packet.bytes (event_size job.packet.operation) all.0 in
-    (
+    let whole = admitted_are_whole 8190 job.packet.bytes (event_size job.packet.operation) all.0 in (
       record {
         number = omega (arith, ltb-true (stub.number + 1) (2 ^ 64) bounds.0);
         submitter = omega (arith, ltb-true stub.submitter 16 among.0);

@@ -1,5 +1,5 @@
 -- Which rows are entries, and which rows are a ledger's file.
-use Rattle.std.specs.Prelude.{◌≡◌, ◌⊎◌, ◌≤◌, ◌<◌, ◌+◌, ◌%◌, ◌^◌, ℕ, List, [], ◌∷◌, ◌++◌, length, map, Some, IsOk}
+use Rattle.std.specs.Prelude.{◌≡◌, ◌⊎◌, ◌≤◌, ◌<◌, ◌+◌, ◌%◌, ◌^◌, ℕ, List, [], ◌∷◌, ◌++◌, length, map, false, Some, IsOk}
 use Rattle.tb_layout.specs.Limits.{clock_max}
 use Rattle.tb_layout.specs.inside.Limits.{batch_max, moment_max}
 use Rattle.tb_work.specs.Admission.{admission_of}
@@ -9,7 +9,8 @@ use Rattle.tb_work.specs.declared.stub.Stub.{Stub}
 use Rattle.tb_batch.specs.Batch.{IsLawful, body_of, operation_of}
 use Rattle.tb_core.specs.BareLedger.{BareLedgerState}
 use Rattle.sqlite_value.specs.Order.{Row}
-use Rattle.sqlite_trees.specs.View.{View}
+use Rattle.sqlite_trees.specs.Tree.{Trees}
+use Rattle.sqlite_trees.specs.View.{View, IsClean}
 use Rattle.tb_durable.specs.declared.counts.PacketCounts.{PacketCounts}
 use Rattle.tb_durable.specs.declared.fault.OpenFault.{OpenFault}
 use Rattle.tb_durable.specs.declared.fault.OpenFault.TheVariants as fault
@@ -54,6 +55,14 @@ pub record IsFirstRow (row : Row) : Type 0 where
 abbrev pub IsLedgerFile : List Row → PacketCounts → Type 0
 IsLedgerFile [] counts = counts ≡ no_packets
 IsLedgerFile (first ∷ entries) counts = IsFirstRow first × AreEntryRows 0 no_packets entries counts
+
+-- unless the ledger stopped, its table is a ledger's file, if the disk has returned what was written
+abbrev pub HasEntries : View → BareLedgerState → PacketCounts → Type 0
+HasEntries view bare counts = IsClean view → bare.stopped ≡ false → IsLedgerFile (view.committed 0) counts
+
+-- whatever a crash leaves is a ledger's file
+abbrev pub CanBeOpened : (Trees → Type 0) → Type 0
+CanBeOpened recovers = (db : Trees) → recovers db → (counts : PacketCounts) × IsLedgerFile (db 0) counts
 
 -- ---- opening
 

@@ -9,7 +9,7 @@
 ghost use Rattle.std.specs.Prelude.{◌≡◌, ◌≢◌, ◌≤◌, ◌<◌, ◌++◌, map, pos, negsuc, length, ℕ, List, IfOk, OnOk, IfSome, IfNone};
 ghost use Rattle.tb_layout.specs.Bytes.{little_endian};
 ghost use Rattle.tb_layout.specs.Limits.{clock_max};
-ghost use Rattle.tb_layout.specs.inside.Limits.{places_max};
+ghost use Rattle.tb_layout.specs.inside.Limits.{moment_max, places_max};
 ghost use Rattle.tb_work.specs.Packet.{input_of};
 ghost use Rattle.tb_batch.specs.Batch.{AreParts};
 ghost use Rattle.sqlite_value.specs.declared.value.Value.TheVariants.{Int as IntValue, Blob as BlobValue};
@@ -136,7 +136,8 @@ pub(crate) fn fill_batch(
 /// Writes the row of a pulse.
 pub(crate) fn fill_pulse(row: &mut Row, place: u64, moment: Moment) -> Result<(), NoMemory>
     requires { place < places_max }
-    ensures { OnOk result (row.new ≡ pulse_row place moment) }
+    ensures row { OnOk result (row.new ≡ pulse_row place moment) }
+    ensures bound { moment ≤ moment_max }
 {
     fill(
         row,
