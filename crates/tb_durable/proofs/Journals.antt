@@ -27,6 +27,13 @@ length-all_in groups group =
     ∙ length-append (all_in groups) (group ++ [])
     ∙ ap (λ one. length (all_in groups) + length one) (append-nil group)
 
+-- the places that a group takes
+pub more_places : (rows : List Row) (old new : BareLedgerState) (group : List Input) → IsJournal rows old
+    → AddsGroup old new group → new.places ≡ old.places + length group
+more_places rows old new group j adds =
+    let groups = map group_in j.entries in
+    omega (arith, j.committed.counted, (adds groups j.committed).0.counted, length-all_in groups group)
+
 -- the journal of a ledger that has committed nothing
 pub new_journal : (row : Row) (clock : ℕ) (bare : BareLedgerState) → IsFirst row clock → bare ≡ new_bare_ledger clock
     → IsJournal (row ∷ []) bare

@@ -6,3 +6,7 @@ mod Applied
 mod Journals
 mod Recovered
 pub mod RunLemmas
+mod StubLemmas
+mod BatchLemmas
+mod EntryLemmas
+mod FileLemmas

@@ -3,3 +3,5 @@ pub mod Durable
 pub mod Faults
 pub mod Recovery
 pub mod Runs
+pub mod Counts
+pub mod Entries

@@ -1,5 +1,5 @@
 -- What the rows of the table mean.
-use Rattle.std.specs.Prelude.{ℕ, ℤ, pos, negsuc, ◌+◌, ◌*◌, ◌/◌, ◌%◌, ◌^◌, ◌==◌, List, [], ◌∷◌, map, if◌then◌else◌}
+use Rattle.std.specs.Prelude.{◌≡◌, ℕ, ℤ, pos, negsuc, ◌+◌, ◌*◌, ◌/◌, ◌%◌, ◌^◌, ◌==◌, List, [], ◌∷◌, map, if◌then◌else◌}
 use Rattle.std.specs.List.{flat_map}
 use Rattle.tb_layout.specs.Events.{Input, Pulse, chunks}
 use Rattle.tb_layout.specs.Bytes.{little_endian}
@@ -81,3 +81,10 @@ inputs_in rows = flat_map group_in rows
 -- where the first row says that the clock starts
 abbrev pub clock_in : Row → ℕ
 clock_in row = whole_number (column row 3)
+
+-- a row has these values of an entry: numbers that aren't negative, and bytes
+pub record HasColumns (row : Row) (operation moment : ℕ) (stubs body : List ℕ) : Type 0 where
+  pub has_operation : column row 2 ≡ Int (pos operation)
+  pub has_moment : column row 3 ≡ Int (pos moment)
+  pub has_stubs : column row 4 ≡ Blob stubs
+  pub has_body : column row 5 ≡ Blob body

@@ -1,6 +1,7 @@
 //! How many packets of each submitter are stored.
 
-ghost use Rattle.std.specs.Prelude.{◌≡◌, ◌<◌, ◌+◌, replicate, slice_index_or, slice_set, IfSome, IfNone, IsSome};
+ghost use Rattle.std.specs.Prelude.{◌≡◌, Some, None, IfSome, IfNone};
+ghost use Rattle.std.specs.Option.{is_some};
 
 use tb_work::Stub;
 
@@ -12,10 +13,11 @@ pub(crate) struct PacketCounts {
 }
 
 impl PacketCounts {
+    ghost use Rattle.tb_durable.specs.Counts.{counted, counted_all, follows, no_packets};
+
     /// Returns the counts of an empty journal.
     pub(crate) fn new() -> PacketCounts
-        ensures packets { result.packets ≡ replicate 16 0 }
-        ensures numbers { result.numbers ≡ replicate 16 0 }
+        ensures { result ≡ no_packets }
     {
         PacketCounts {
             packets: [0; 16],
@@ -26,10 +28,8 @@ impl PacketCounts {
     /// Counts a packet. None if it doesn't follow its submitter's last: it has neither the submitter's next number nor 0, with which
     /// the submitter's packets begin in each run. Then nothing is counted. There are 16 submitters.
     pub(crate) fn count(&mut self, stub: Stub) -> Option<()>
-        ensures among { IsSome result → stub.submitter < 16 }
-        ensures packets { IfSome result (λ _. self.new.packets ≡ slice_set self.old.packets stub.submitter
-            (slice_index_or self.old.packets stub.submitter 0 + 1)) }
-        ensures numbers { IfSome result (λ _. self.new.numbers ≡ slice_set self.old.numbers stub.submitter (stub.number + 1)) }
+        ensures follows { is_some result ≡ follows self.old stub }
+        ensures counted { IfSome result (λ _. self.new ≡ counted self.old stub) }
         ensures same { IfNone result (self.new ≡ self.old) }
     {
         let submitter = stub.submitter as usize;
@@ -43,8 +43,12 @@ impl PacketCounts {
         Some(())
     }
 
-    /// Counts the packets of a batch, as `count` does.
-    pub(crate) fn count_all(&mut self, stubs: &[Stub]) -> Option<()> {
+    /// Counts the packets of a batch, as `count` does. If one of them doesn't follow, those before it are counted.
+    #[tactic(auto, unfolding(crate::specs::Counts::counted_all))]
+    pub(crate) fn count_all(&mut self, stubs: &[Stub]) -> Option<()>
+        ensures counted { IfSome result (λ _. counted_all self.old stubs.now ≡ Some self.new) }
+        ensures refused { IfNone result (counted_all self.old stubs.now ≡ None) }
+    {
         for stub in stubs {
             self.count(*stub)?;
         }

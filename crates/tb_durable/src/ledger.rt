@@ -97,7 +97,9 @@ impl<S: Store + Drop> DurableLedger<S> {
     ghost use Rattle.tb_core.specs.Journal.{LedgerState};
     ghost use Rattle.tb_durable.specs.Durable.{IsJournal, IsKept, IsStored, LeavesWith, groups_of, groups_of_parcel, opened_rows, rows_of};
     ghost use Rattle.tb_durable.specs.Runs.{ShowsJournal};
+    ghost use Rattle.tb_durable.specs.Entries.{CanBeOpened, HasEntries, IsFailure, IsLedgerFile};
     ghost use Rattle.tb_durable.specs.Faults.{IsCause};
+    ghost use Rattle.tb_durable.specs.declared.counts.PacketCounts.{PacketCounts as Counts};
     ghost use Rattle.tb_durable.specs.Recovery.{RecoversFromCrashes};
 
     /// Opens the ledger of a store. If its table is empty, the ledger is new, and the given settings are stored. Otherwise
@@ -121,6 +123,11 @@ impl<S: Store + Drop> DurableLedger<S> {
         ensures goes_on { IfOk result (λ ledger. (ledger.bare.stopped ≡ false) × (ledger.in_doubt ≡ false)) }
         ensures fault { IfErr result (λ refused. IsClean (S.Store.view refused.1)
             → IsCause (opened_rows settings ((S.Store.view store).committed 0)) refused.0) }
+        ensures opens { (counts : Counts) → IsLedgerFile ((S.Store.view store).committed 0) counts
+            → IfErr result (λ refused. IsClean (S.Store.view refused.1) → IsFailure refused.0)
+            × IfOk result (λ ledger. IsClean (S.Store.view ledger.table.store) → ledger.counts ≡ counts) }
+        ensures entries { IfOk result (λ ledger. (counts : Counts) → IsLedgerFile ((S.Store.view store).committed 0) counts
+            → HasEntries (S.Store.view ledger.table.store) ledger.bare ledger.counts) }
     {
         let mut table = Table {
             store,
@@ -231,6 +238,7 @@ impl<S: Store + Drop> DurableLedger<S> {
     fn stop(&mut self, refused: NotStored, parcel: Parcel) -> Outcomes
         ensures doubt { self.new.in_doubt ≡ refused.in_doubt }
         ensures table { self.new.table ≡ self.old.table }
+        ensures counts { self.new.counts ≡ self.old.counts }
         ensures stopped { self.new.bare ≡ after_refusal self.old.bare parcel }
         ensures outcomes { result ≡ refusal_of parcel }
         ensures applying { Applying (IsWithJournal self.old.bare) parcel result (IsWithJournal self.new.bare) }
@@ -244,6 +252,7 @@ impl<S: Store + Drop> DurableLedger<S> {
     fn follow(&mut self, parcel: Parcel) -> Outcomes
         ensures doubt { self.new.in_doubt ≡ self.new.bare.stopped }
         ensures table { self.new.table ≡ self.old.table }
+        ensures counts { self.new.counts ≡ self.old.counts }
         ensures applied { Applies parcel self.old.bare result self.new.bare }
         ensures applying { Applying (IsWithJournal self.old.bare) parcel result (IsWithJournal self.new.bare) }
     {
@@ -271,6 +280,12 @@ impl<S: Store + Drop> DurableLedger<S> {
             ((S.Store.view self.old.table.store).committed 0) (rows_of self.old.bare.places (parcel.Batch batch)) }
         ensures certain { self.new.bare.stopped ≡ true → self.new.in_doubt ≡ false
             → LeavesNothingNew (S.Store.recovers self.old.table.store) (S.Store.recovers self.new.table.store) }
+        ensures entries { IsStored (S.Store.view self.old.table.store) self.old.bare
+            → HasEntries (S.Store.view self.old.table.store) self.old.bare self.old.counts
+            → HasEntries (S.Store.view self.new.table.store) self.new.bare self.new.counts }
+        ensures openable { IsStored (S.Store.view self.old.table.store) self.old.bare
+            → HasEntries (S.Store.view self.old.table.store) self.old.bare self.old.counts
+            → CanBeOpened (S.Store.recovers self.old.table.store) → CanBeOpened (S.Store.recovers self.new.table.store) }
         ensures stays { self.old.bare.stopped ≡ true → self.new ≡ self.old }
         ensures applying { Applying (IsWithJournal self.old.bare) (parcel.Batch batch) result (IsWithJournal self.new.bare) }
         ensures says { self.new.bare.stopped ≡ false → map group_in (rows_of self.old.bare.places (parcel.Batch batch)) ≡ groups_of_parcel (parcel.Batch batch) }
@@ -314,6 +329,12 @@ impl<S: Store + Drop> DurableLedger<S> {
             ((S.Store.view self.old.table.store).committed 0) (rows_of self.old.bare.places (parcel.Pulse moment)) }
         ensures certain { self.new.bare.stopped ≡ true → self.new.in_doubt ≡ false
             → LeavesNothingNew (S.Store.recovers self.old.table.store) (S.Store.recovers self.new.table.store) }
+        ensures entries { IsStored (S.Store.view self.old.table.store) self.old.bare
+            → HasEntries (S.Store.view self.old.table.store) self.old.bare self.old.counts
+            → HasEntries (S.Store.view self.new.table.store) self.new.bare self.new.counts }
+        ensures openable { IsStored (S.Store.view self.old.table.store) self.old.bare
+            → HasEntries (S.Store.view self.old.table.store) self.old.bare self.old.counts
+            → CanBeOpened (S.Store.recovers self.old.table.store) → CanBeOpened (S.Store.recovers self.new.table.store) }
         ensures stays { self.old.bare.stopped ≡ true → self.new ≡ self.old }
         ensures applying { Applying (IsWithJournal self.old.bare) (parcel.Pulse moment) result (IsWithJournal self.new.bare) }
         ensures says { self.new.bare.stopped ≡ false → map group_in (rows_of self.old.bare.places (parcel.Pulse moment)) ≡ groups_of_parcel (parcel.Pulse moment) }
@@ -352,6 +373,12 @@ impl<S: Store + Drop> DurableLedger<S> {
             ((S.Store.view self.old.table.store).committed 0) (rows_of self.old.bare.places parcel) }
         ensures certain { self.new.bare.stopped ≡ true → self.new.in_doubt ≡ false
             → LeavesNothingNew (S.Store.recovers self.old.table.store) (S.Store.recovers self.new.table.store) }
+        ensures entries { IsStored (S.Store.view self.old.table.store) self.old.bare
+            → HasEntries (S.Store.view self.old.table.store) self.old.bare self.old.counts
+            → HasEntries (S.Store.view self.new.table.store) self.new.bare self.new.counts }
+        ensures openable { IsStored (S.Store.view self.old.table.store) self.old.bare
+            → HasEntries (S.Store.view self.old.table.store) self.old.bare self.old.counts
+            → CanBeOpened (S.Store.recovers self.old.table.store) → CanBeOpened (S.Store.recovers self.new.table.store) }
         ensures stays { self.old.bare.stopped ≡ true → self.new ≡ self.old }
         ensures applying { Applying (IsWithJournal self.old.bare) parcel result (IsWithJournal self.new.bare) }
         ensures says { self.new.bare.stopped ≡ false → map group_in (rows_of self.old.bare.places parcel) ≡ groups_of_parcel parcel }
@@ -391,6 +418,15 @@ impl<S: Store + Drop> DurableLedger<S> {
     /// opening finds a journal by `over` (`stored`).
     pub fn recovers(&self)
         ensures { RecoversFromCrashes (S.Store.recovers self.now.table.store) }
+    {}
+
+    /// Establishes that what a crash leaves between two calls, unless the ledger stopped, can be opened: it is a ledger's file, so opening
+    /// it fails only if memory or the disk does (`over`, `opens`). `apply` keeps that at each outcome (`openable`).
+    pub fn can_be_opened(&self)
+        ensures { IsStored (S.Store.view self.now.table.store) self.now.bare
+            → HasEntries (S.Store.view self.now.table.store) self.now.bare self.now.counts
+            → IsClean (S.Store.view self.now.table.store) → self.now.bare.stopped ≡ false
+            → CanBeOpened (S.Store.recovers self.now.table.store) }
     {}
 }
 

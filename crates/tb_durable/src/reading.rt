@@ -1,11 +1,13 @@
 //! A ledger read from its table.
 
-ghost use Rattle.std.specs.Prelude.{◌≡◌, ◌≤◌, ◌∷◌, [], true, false, Ok, List, IsSome, IfOk, OnOk, IfErr};
+ghost use Rattle.std.specs.Prelude.{◌≡◌, ◌≤◌, ◌∷◌, [], true, false, Ok, List, IsSome, IsOk, IfOk, OnOk, IfErr};
 ghost use Rattle.tb_layout.specs.Limits.{clock_max};
 ghost use Rattle.sqlite_trees.specs.View.{IsClean, doubt};
 ghost use Rattle.tb_durable.specs.Rows.{settings_row};
 ghost use Rattle.tb_durable.specs.Durable.{HasJournal, IsReading, IsReplaying, IsSettled, IsStored, IsJournal, IsFirst, opened_rows};
+ghost use Rattle.tb_durable.specs.Entries.{IsFailure, IsFirstRow, IsHalfway, IsLedgerFile};
 ghost use Rattle.tb_durable.specs.Faults.{IsCause, IsFirstFault};
+ghost use Rattle.tb_durable.specs.declared.counts.PacketCounts.{PacketCounts as Counts};
 ghost use Rattle.sqlite_value.specs.Order.{Row};
 
 use crate::counts::PacketCounts;
@@ -25,6 +27,7 @@ fn settings_of(row: &Row) -> Result<Settings, OpenFault>
     ensures clock { IfOk result (λ settings. settings.clock ≤ clock_max) }
     ensures first { IfOk result (λ settings. IsFirst row.now settings.clock) }
     ensures fault { IfErr result (IsFirstFault row.now) }
+    ensures opens { IsFirstRow row.now → IsOk result }
 {
     let ValueRef::Int(-1) = row.get(0) else {
         return Err(OpenFault::BadSettings);
@@ -43,6 +46,7 @@ fn settings_of(row: &Row) -> Result<Settings, OpenFault>
 /// Reads the first row, if there is one.
 fn read_first<S: Store>(table: &mut Table<S>) -> Result<bool, OpenFault>
     ensures fault { IfErr result (λ fault. (rows : List Row) → IsCause rows fault) }
+    ensures failure { IfErr result IsFailure }
     ensures row { result ≡ Ok true → IsClean (S.Store.view table.new.store)
         → IsReading (S.Store.view table.new.store) (table.new.row ∷ []) }
     ensures none { result ≡ Ok false → IsClean (S.Store.view table.new.store)
@@ -64,6 +68,8 @@ fn write_settings<S: Store>(table: &mut Table<S>, settings: Settings) -> Result<
     ensures rows { OnOk result (IsClean (S.Store.view table.new.store) → IsReading (S.Store.view table.old.store) []
         → (S.Store.view table.old.store).committed 0 ≡ []
         → (S.Store.view table.new.store).committed 0 ≡ settings_row settings ∷ []) }
+    ensures opens { IsClean (S.Store.view table.new.store) → IsReading (S.Store.view table.old.store) []
+        → (S.Store.view table.old.store).committed 0 ≡ [] → IfErr result IsFailure }
     ensures cursor { OnOk result (IsSome ((S.Store.view table.new.store).cursors 0)) }
     ensures clean { doubt (S.Store.view table.old.store).is_clean ≤ doubt (S.Store.view table.new.store).is_clean }
 {
@@ -87,6 +93,8 @@ fn read_settings<S: Store>(table: &mut Table<S>, settings: Settings) -> Result<S
     ensures row { OnOk result (IsClean (S.Store.view table.new.store)
         → IsReading (S.Store.view table.new.store) (table.new.row ∷ [])) }
     ensures first { IfOk result (λ read. IsFirst table.new.row read.clock) }
+    ensures opens { (counts : Counts) → IsLedgerFile ((S.Store.view table.old.store).committed 0) counts
+        → IsClean (S.Store.view table.new.store) → IfErr result IsFailure }
     ensures cursor { OnOk result (IsSome ((S.Store.view table.new.store).cursors 0)) }
     ensures clean { doubt (S.Store.view table.old.store).is_clean ≤ doubt (S.Store.view table.new.store).is_clean }
 {
@@ -114,6 +122,14 @@ fn replay_row<S: Store>(table: &mut Table<S>, replaying: &mut Replaying) -> Resu
         × IsJournal ((S.Store.view table.new.store).committed 0) replaying.new.ledger }
     ensures same { OnOk result (IsClean (S.Store.view table.new.store)
         → (S.Store.view table.new.store).committed ≡ (S.Store.view table.old.store).committed) }
+    ensures opens { (counts : Counts) → IsClean (S.Store.view table.new.store)
+        → IsHalfway (S.Store.view table.old.store) replaying.old.ledger replaying.old.counts counts → IfErr result IsFailure }
+    ensures onward { (counts : Counts) → result ≡ Ok true → IsClean (S.Store.view table.new.store)
+        → IsHalfway (S.Store.view table.old.store) replaying.old.ledger replaying.old.counts counts
+        → IsHalfway (S.Store.view table.new.store) replaying.new.ledger replaying.new.counts counts }
+    ensures counted { (counts : Counts) → result ≡ Ok false → IsClean (S.Store.view table.new.store)
+        → IsHalfway (S.Store.view table.old.store) replaying.old.ledger replaying.old.counts counts
+        → replaying.new.counts ≡ counts }
     ensures goes_on { OnOk result (replaying.old.ledger.stopped ≡ false → replaying.new.ledger.stopped ≡ false) }
     ensures committed { OnOk result (HasJournal replaying.old.ledger → HasJournal replaying.new.ledger) }
     ensures cursor { OnOk result (IsSome ((S.Store.view table.new.store).cursors 0)) }
@@ -136,6 +152,9 @@ fn replay_rows<S: Store>(table: &mut Table<S>, replaying: &mut Replaying) -> Res
         → IsReplaying (S.Store.view table.old.store) replaying.old.ledger
         → IsSettled (S.Store.view table.new.store)
         × IsJournal ((S.Store.view table.new.store).committed 0) replaying.new.ledger) }
+    ensures opens { (counts : Counts) → IsClean (S.Store.view table.new.store)
+        → IsHalfway (S.Store.view table.old.store) replaying.old.ledger replaying.old.counts counts
+        → IfErr result IsFailure × OnOk result (replaying.new.counts ≡ counts) }
     ensures goes_on { OnOk result (replaying.old.ledger.stopped ≡ false → replaying.new.ledger.stopped ≡ false) }
     ensures committed { OnOk result (HasJournal replaying.old.ledger → HasJournal replaying.new.ledger) }
     ensures same { OnOk result (IsClean (S.Store.view table.new.store)
@@ -170,6 +189,9 @@ pub(crate) fn read_ledger<S: Store>(
     ensures stored { IfOk result (λ read. IsStored (S.Store.view table.new.store) read.replaying.ledger) }
     ensures goes_on { IfOk result (λ read. read.replaying.ledger.stopped ≡ false) }
     ensures committed { IfOk result (λ read. HasJournal read.replaying.ledger) }
+    ensures opens { (counts : Counts) → IsLedgerFile ((S.Store.view table.old.store).committed 0) counts
+        → IsClean (S.Store.view table.new.store)
+        → IfErr result IsFailure × IfOk result (λ read. read.replaying.counts ≡ counts) }
     ensures rows { OnOk result (IsClean (S.Store.view table.new.store) → (S.Store.view table.new.store).committed 0
         ≡ opened_rows settings ((S.Store.view table.old.store).committed 0)) }
     ensures clean { doubt (S.Store.view table.old.store).is_clean ≤ doubt (S.Store.view table.new.store).is_clean }

@@ -1,21 +1,29 @@
 //! The rows of the table, applied in order.
 
-ghost use Rattle.std.specs.Prelude.{◌≡◌, ◌≢◌, ◌⊎◌, ◌≤◌, ◌<◌, ◌++◌, List, [], ◌∷◌, map, pos, length, false, IfSome, OnOk, IfOk, IfErr};
+ghost use Rattle.std.specs.Prelude.{◌≡◌, ◌≢◌, ◌⊎◌, ◌≤◌, ◌<◌, ◌++◌, ℕ, List, [], ◌∷◌, map, pos, length, true, false, Some, IsSome, IfSome, IsOk, OnOk, IfOk, IfErr};
+ghost use Rattle.std.specs.Result.{is_ok};
 ghost use Rattle.tb_layout.specs.Events.{Pulse as PulseInput};
-ghost use Rattle.tb_work.specs.Packet.{input_of};
-ghost use Rattle.tb_work.specs.Job.{numbered_packet};
+ghost use Rattle.tb_layout.specs.inside.Limits.{batch_max, moment_max};
+ghost use Rattle.tb_work.specs.Admission as spec;
+ghost use Rattle.tb_work.specs.Admission.{admission_of};
+ghost use Rattle.tb_work.specs.Packet.{Numbered, input_of};
+ghost use Rattle.tb_work.specs.Job.{numbered_packet, stub_of};
 ghost use Rattle.tb_work.specs.declared.stub.Stub.{Stub};
+ghost use Rattle.tb_batch.specs.Grouping.{is_taken};
 ghost use Rattle.tb_core.specs.Ledger.{batch_packets, size_of};
 ghost use Rattle.sqlite_value.specs.declared.value.Value.TheVariants.{Int as IntValue};
 ghost use Rattle.sqlite_trees.specs.Tree.{rowid};
 ghost use Rattle.tb_durable.specs.Rows.{stubs_in, group_in};
+ghost use Rattle.tb_durable.specs.Counts.{counted, counted_all, follows};
 ghost use Rattle.tb_durable.specs.Durable.{AddsGroup};
+ghost use Rattle.tb_durable.specs.Entries.{AreColumnsOf, BeginsWith, IsEntryRow, without_user};
 ghost use Rattle.tb_durable.specs.Faults.{IsEntryFault, IsRowFault};
+ghost use Rattle.tb_durable.specs.declared.counts.PacketCounts.{PacketCounts as Counts};
 ghost use Rattle.tb_durable.specs.declared.fault.OpenFault.TheVariants.{BadEntry as BadEntryFault, NoMemory as NoMemoryFault};
 
 use crate::counts::PacketCounts;
 use crate::fault::OpenFault;
-use crate::rows::{blob_in, number_in, stub_at};
+use crate::rows::{columns_in, number_in, stub_at};
 use sqlite_value::row::Row;
 use std::alloc::Global;
 use tb_batch::{Batch, Batcher, Offered};
@@ -55,6 +63,7 @@ fn event_size(operation: u8) -> Option<usize>
     ensures size { IfSome result (λ size. size ≡ size_of operation) }
     ensures bound { IfSome result (λ size. size ≤ 128) }
     ensures kind { IfSome result (λ size. operation ≢ 0) }
+    ensures exact { result ≡ spec.event_size operation }
 {
     if operation == CREATE_ACCOUNTS || operation == CREATE_TRANSFERS {
         Some(128)
@@ -69,6 +78,8 @@ fn event_size(operation: u8) -> Option<usize>
 fn join(batcher: &mut Batcher, job: Job, fault: OpenFault) -> Result<(), OpenFault>
     ensures fault { IfErr result (λ error. (error ≡ NoMemoryFault) ⊎ (error ≡ fault)) }
     ensures joined { OnOk result (batcher.new.jobs ≡ batcher.old.jobs ++ job ∷ []) }
+    ensures limit { OnOk result (batcher.new.limit ≡ batcher.old.limit) }
+    ensures taken { is_taken batcher.old.limit batcher.old.jobs job ≡ true → IfErr result (λ error. error ≡ NoMemoryFault) }
 {
     match batcher.offer(job) {
         Offered::Joined => Ok(()),
@@ -87,6 +98,7 @@ fn join(batcher: &mut Batcher, job: Job, fault: OpenFault) -> Result<(), OpenFau
 fn job_of(alloc: Global, stub: Stub, packet: Packet, fault: OpenFault) -> Result<Job, OpenFault>
     ensures fault { IfErr result (λ error. (error ≡ NoMemoryFault) ⊎ (error ≡ fault)) }
     ensures job { IfOk result (λ job. job ≡ numbered_packet stub.submitter stub.number packet) }
+    ensures admitted { IsOk (admission_of batch_max packet) → IfErr result (λ error. error ≡ NoMemoryFault) }
 {
     match Job::new(alloc, stub.submitter, stub.number, BATCH_MAX, packet) {
         Ok(job) => Ok(job),
@@ -124,6 +136,8 @@ impl Replaying {
     /// Counts a packet, which must follow its submitter's last.
     fn count(&mut self, stub: Stub) -> Result<(), OpenFault>
         ensures fault { IfErr result (IsEntryFault self.old.ledger.places) }
+        ensures follows { is_ok result ≡ follows self.old.counts stub }
+        ensures counted { OnOk result (self.new.counts ≡ counted self.old.counts stub) }
         ensures same { self.new.ledger ≡ self.old.ledger }
     {
         match self.counts.count(stub) {
@@ -142,6 +156,8 @@ impl Replaying {
         ensures fault { IfErr result (IsEntryFault self.now.ledger.places) }
         ensures first { IfOk result (λ first. (stubs : List Stub) → batch_packets operation body.now (stub ∷ stubs)
             ≡ input_of first.0 ∷ batch_packets operation first.1.now stubs) }
+        ensures begins { (job : Numbered) (more : List ℕ) → BeginsWith job more operation stub body.now
+            → IfErr result (λ error. error ≡ NoMemoryFault) × IfOk result (λ first. (first.0 ≡ without_user job) × (first.1.now ≡ more)) }
     {
         let Some(size) = event_size(operation) else {
             return Err(self.bad_entry());
@@ -168,6 +184,10 @@ impl Replaying {
         ensures packets { IfOk result (λ batch. map input_of batch
             ≡ batch_packets columns.entry.operation columns.entry.body.now (stubs_in columns.entry.stubs.now)) }
         ensures some { IfOk result (λ batch. 0 < length batch) }
+        ensures counted { OnOk result (counted_all self.old.counts (stubs_in columns.entry.stubs.now) ≡ Some self.new.counts) }
+        ensures opens { (jobs : List Numbered)
+            → AreColumnsOf jobs columns.entry.operation columns.entry.stubs.now columns.entry.body.now
+            → IsSome (counted_all self.old.counts (map stub_of jobs)) → IfErr result (λ error. error ≡ NoMemoryFault) }
     {
         let (chunks, rest) = columns.stubs.as_chunks::<16>();
         let mut body = columns.body;
@@ -193,6 +213,10 @@ impl Replaying {
         ensures group { let group = batch_packets columns.entry.operation columns.entry.body.now (stubs_in columns.entry.stubs.now) in
             OnOk result (AddsGroup self.old.ledger self.new.ledger group × (0 < length group)) }
         ensures goes_on { OnOk result (self.new.ledger.stopped ≡ false) }
+        ensures counted { OnOk result (counted_all self.old.counts (stubs_in columns.entry.stubs.now) ≡ Some self.new.counts) }
+        ensures opens { (jobs : List Numbered)
+            → AreColumnsOf jobs columns.entry.operation columns.entry.stubs.now columns.entry.body.now
+            → IsSome (counted_all self.old.counts (map stub_of jobs)) → IfErr result (λ error. error ≡ NoMemoryFault) }
     {
         let batch = self.batch_in(columns)?;
         drop(self.ledger.apply(Parcel::Batch(batch)));
@@ -207,6 +231,8 @@ impl Replaying {
         ensures fault { IfErr result (IsEntryFault self.old.ledger.places) }
         ensures group { OnOk result (AddsGroup self.old.ledger self.new.ledger (PulseInput nanoseconds ∷ [])) }
         ensures goes_on { OnOk result (self.new.ledger.stopped ≡ false) }
+        ensures counts { self.new.counts ≡ self.old.counts }
+        ensures opens { nanoseconds ≤ moment_max → IfErr result (λ error. error ≡ NoMemoryFault) }
     {
         if nanoseconds > MOMENT_MAX {
             return Err(self.bad_entry());
@@ -225,30 +251,26 @@ impl Replaying {
         ensures group { OnOk result (AddsGroup self.old.ledger self.new.ledger (group_in row.now)) }
         ensures some { OnOk result (0 < length (group_in row.now)) }
         ensures goes_on { OnOk result (self.new.ledger.stopped ≡ false) }
+        ensures opens { (after : Counts) → IsEntryRow self.old.ledger.places self.old.counts row.now after
+            → IfErr result (λ error. error ≡ NoMemoryFault) × OnOk result (self.new.counts ≡ after) }
     {
         let place = self.ledger.places();
         if number_in(row, 0) != Some(place) {
             return Err(OpenFault::OutOfPlace(place));
         }
-        let columns = (
-            number_in(row, 2),
-            number_in(row, 3),
-            blob_in(row, 4),
-            blob_in(row, 5),
-        );
-        let (Some(operation), Some(moment), Some(stubs), Some(body)) = columns else {
+        let Some(columns) = columns_in(row) else {
             return Err(self.bad_entry());
         };
-        if operation == 0 {
-            return self.pulse(moment);
+        if columns.operation == 0 {
+            return self.pulse(columns.moment);
         }
-        let Ok(operation) = u8::try_from(operation) else {
+        let Ok(operation) = u8::try_from(columns.operation) else {
             return Err(self.bad_entry());
         };
         self.batch(BatchColumns {
             operation,
-            stubs,
-            body,
+            stubs: columns.stubs,
+            body: columns.body,
         })
     }
 }

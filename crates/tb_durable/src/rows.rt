@@ -6,15 +6,16 @@
 //! | of the first packet | 129 to 131 | 0 | 16 bytes a packet | the events |
 //! | of the pulse | 0 | its nanoseconds | empty | empty |
 
-ghost use Rattle.std.specs.Prelude.{◌≡◌, ◌≢◌, ◌≤◌, ◌<◌, ◌++◌, map, pos, negsuc, length, ℕ, IfOk, OnOk, IfSome, IfNone};
+ghost use Rattle.std.specs.Prelude.{◌≡◌, ◌≢◌, ◌≤◌, ◌<◌, ◌++◌, map, pos, negsuc, length, ℕ, List, IfOk, OnOk, IfSome, IfNone};
 ghost use Rattle.tb_layout.specs.Bytes.{little_endian};
 ghost use Rattle.tb_layout.specs.Limits.{clock_max};
-ghost use Rattle.tb_layout.specs.inside.Limits.{places_max};
+ghost use Rattle.tb_layout.specs.inside.Limits.{moment_max, places_max};
 ghost use Rattle.tb_work.specs.Packet.{input_of};
 ghost use Rattle.tb_batch.specs.Batch.{AreParts};
 ghost use Rattle.sqlite_value.specs.declared.value.Value.TheVariants.{Int as IntValue, Blob as BlobValue};
 ghost use Rattle.sqlite_value.specs.Order.{column as column_of};
-ghost use Rattle.tb_durable.specs.Rows.{word_of, stub_in, stub_at, stub_bytes, stubs_bytes, stubs_in, row_of, jobs_row, pulse_row, settings_row, clock_in, group_in};
+ghost use Rattle.tb_durable.specs.Entries.{IsFirstRow};
+ghost use Rattle.tb_durable.specs.Rows.{HasColumns, word_of, stub_in, stub_at, stub_bytes, stubs_bytes, stubs_in, row_of, jobs_row, pulse_row, settings_row, clock_in, group_in};
 
 use crate::settings::Settings;
 use sqlite_value::row::Row;
@@ -135,7 +136,8 @@ pub(crate) fn fill_batch(
 /// Writes the row of a pulse.
 pub(crate) fn fill_pulse(row: &mut Row, place: u64, moment: Moment) -> Result<(), NoMemory>
     requires { place < places_max }
-    ensures { OnOk result (row.new ≡ pulse_row place moment) }
+    ensures row { OnOk result (row.new ≡ pulse_row place moment) }
+    ensures bound { moment ≤ moment_max }
 {
     fill(
         row,
@@ -183,8 +185,9 @@ pub(crate) fn number_in(row: &Row, column: usize) -> Option<u64>
 }
 
 /// Returns the bytes in a column; None if it has no blob.
-pub(crate) fn blob_in(row: &Row, column: usize) -> Option<&[u8]>
-    ensures { IfSome result (λ bytes. column_of row.now column ≡ BlobValue bytes.now) }
+fn blob_in(row: &Row, column: usize) -> Option<&[u8]>
+    ensures some { IfSome result (λ bytes. column_of row.now column ≡ BlobValue bytes.now) }
+    ensures none { IfNone result ((bytes : List ℕ) → column_of row.now column ≢ BlobValue bytes) }
 {
     match row.get(column) {
         ValueRef::Blob(bytes) => Some(bytes),
@@ -192,9 +195,32 @@ pub(crate) fn blob_in(row: &Row, column: usize) -> Option<&[u8]>
     }
 }
 
+/// The columns of an entry's row, but for its place.
+#[derive(Clone, Copy)]
+pub(crate) struct EntryColumns<'a> {
+    pub(crate) operation: u64,
+    pub(crate) moment: u64,
+    pub(crate) stubs: &'a [u8],
+    pub(crate) body: &'a [u8],
+}
+
+/// Returns the columns of a row; None if one of them has a value that no entry has there.
+pub(crate) fn columns_in(row: &Row) -> Option<EntryColumns<'_>>
+    ensures some { IfSome result (λ columns. HasColumns row.now columns.operation columns.moment columns.stubs.now columns.body.now) }
+    ensures none { IfNone result ((operation moment : ℕ) (stubs body : List ℕ) → HasColumns row.now operation moment stubs body → ⊥) }
+{
+    Some(EntryColumns {
+        operation: number_in(row, 2)?,
+        moment: number_in(row, 3)?,
+        stubs: blob_in(row, 4)?,
+        body: blob_in(row, 5)?,
+    })
+}
+
 /// Returns the settings in a row of this version of the format; None if the row has none.
 pub(crate) fn settings_in(row: &Row) -> Option<Settings>
-    ensures { IfSome result (λ settings. clock_in row.now ≡ settings.clock) }
+    ensures some { IfSome result (λ settings. clock_in row.now ≡ settings.clock) }
+    ensures none { IfNone result (IsFirstRow row.now → ⊥) }
 {
     let clock = number_in(row, 3)?;
     let (chunks, _) = blob_in(row, 4)?.as_chunks::<16>();

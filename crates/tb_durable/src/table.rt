@@ -2,7 +2,7 @@
 
 ghost use Rattle.std.specs.Prelude.{◌≡◌, ◌⊎◌, ◌<◌, ◌≤◌, [], false, map, IsTrue, IsSome, IfOk, OnOk, IfErr};
 ghost use Rattle.tb_layout.specs.Limits.{clock_max};
-ghost use Rattle.tb_layout.specs.inside.Limits.{places_max};
+ghost use Rattle.tb_layout.specs.inside.Limits.{moment_max, places_max};
 ghost use Rattle.tb_work.specs.Packet.{input_of};
 ghost use Rattle.tb_batch.specs.Batch.{AreParts};
 ghost use Rattle.sqlite_trees.specs.Tree.{Trees, rowid};
@@ -130,6 +130,7 @@ impl<S: Store> Table<S> {
         requires { place < places_max }
         ensures ok { OnOk result (IsClean (S.Store.view self.new.store) → Adds (S.Store.view self.old.store) (S.Store.view self.new.store)
             (pulse_row place moment)) }
+        ensures bound { moment ≤ moment_max }
         ensures crash { (db : Trees) → S.Store.recovers self.new.store db → S.Store.recovers self.old.store db
             ⊎ IsAdded (S.Store.view self.old.store) (pulse_row place moment) db }
         ensures refused { IfErr result (λ error. error.in_doubt ≡ false

@@ -2,7 +2,10 @@ use Rattle.std.proofs.Common.{◌≡◌, rules, subst, ◌++◌, true, [], ◌�
 use Rattle.sqlite_trees.specs.View.{Advances}
 use Rattle.tb_durable.specs.Rows.{group_in}
 use Rattle.tb_durable.specs.Faults.{IsCause}
+use Rattle.tb_durable.specs.Entries.{IsFailure}
+use Rattle.tb_durable.specs.declared.fault.OpenFault.TheVariants.{NoMemory}
 use Rattle.tb_durable.proofs.FaultLemmas.{row_fault}
+use Rattle.tb_durable.proofs.FileLemmas.{halfway_on, next_entry, no_memory_fails}
 use Rattle.tb_durable.proofs.Journals.{one_more}
 use Rattle.tb_durable.proofs.StoreLemmas.{reads_one}
 use Rattle.tb_durable.proofs.reading.replay_row.Goals as goal
@@ -35,3 +38,27 @@ returns-clause-committed g c = λ has. (
   has.0 ++ group_in c.next.new.self.row ∷ [],
   (c.in_ok-row.ensures.group has.0 has.1).0,
 )
+
+pub returns-in_err-row-clause-opens : goal.returns-in_err-row-clause-opens
+returns-in_err-row-clause-opens g c = λ counts clean halfway.
+    let found : c.in_ok-next.field-0 ≡ true = search rules in
+    let row = c.next.new.self.row in
+    let entry = next_entry (g.S.Store.view c.args.table.now.store) (g.S.Store.view c.next.new.self.store)
+    c.args.replaying.now.ledger c.args.replaying.now.counts counts halfway row
+    (subst (Advances (g.S.Store.view c.args.table.now.store) (g.S.Store.view c.next.new.self.store) 0 row) found
+    (c.in_ok-next.ensures.ok clean)) in
+    let none : c.in_err-row.field-0.0 ≡ NoMemory = (c.in_err-row.ensures.opens entry.0 entry.1).0 in
+    let failure : IsFailure c.in_err-row.field-0.0 = no_memory_fails c.in_err-row.field-0.0 none in
+    search rules
+
+pub returns-clause-onward : goal.returns-clause-onward
+returns-clause-onward g c = λ counts is clean halfway.
+    let found : c.in_ok-next.field-0 ≡ true = search rules in
+    let row = c.next.new.self.row in
+    let old = g.S.Store.view c.args.table.now.store in
+    let new = g.S.Store.view c.next.new.self.store in
+    let before = c.args.replaying.now in
+    let next = subst (Advances old new 0 row) found (c.in_ok-next.ensures.ok clean) in
+    let entry = next_entry old new before.ledger before.counts counts halfway row next in
+    halfway_on old new before.ledger before.counts counts halfway row next c.row.new.self.ledger c.row.new.self.counts
+    (c.in_ok-row.ensures.opens entry.0 entry.1).1 c.in_ok-row.ensures.group c.in_ok-row.ensures.some c.in_ok-row.ensures.place

@@ -1,7 +1,9 @@
-use Rattle.std.proofs.Common.{◌≡◌, ◌⊎◌, arith, refl, sym, ap, subst, ◌∙◌, ◌++◌, [], ◌∷◌}
+use Rattle.std.proofs.Common.{◌≡◌, ◌⊎◌, arith, rules, refl, sym, ap, subst, ◌∙◌, ◌++◌, [], ◌∷◌}
 use Rattle.sqlite_trees.specs.View.{IsClean, doubt}
 use Rattle.tb_durable.specs.Rows.{jobs_row}
+use Rattle.tb_durable.specs.Counts.{counted_all}
 use Rattle.tb_durable.specs.Durable.{IsJournal, IsSettled}
+use Rattle.tb_durable.proofs.FileLemmas.{batch_entry, crash_opens, stored_file}
 use Rattle.tb_durable.proofs.Journals.{added_last, batch_stored, leaves_with_row}
 use Rattle.tb_durable.proofs.ledger.DurableLedger.apply_batch.Goals as goal
 
@@ -55,3 +57,45 @@ returns-in-Err-clause-crash g c = λ has db left.
     (jobs_row before.places c.into_parts-parts.result.jobs.items) before has (sym c.stopped.ensures ∙ c.if-stopped.false) refl
     (g.S.Store.recovers c.args.self.now.table.store) (g.S.Store.recovers c.store_batch.new.table.store)
     c.store_batch.ensures.crash db (subst (λ t. g.S.Store.recovers t.store db) c.stop.ensures.table left))
+
+pub returns-in-Ok-clause-entries : goal.returns-in-Ok-clause-entries
+returns-in-Ok-clause-entries g c = λ has entries clean goes_on.
+    let stored : IsClean (g.S.Store.view c.store_batch.new.table.store) = ap (λ t. doubt (g.S.Store.view t.store).is_clean) (sym c.follow.ensures.table) ∙ clean in
+    let was : IsClean (g.S.Store.view c.args.self.now.table.store) = omega (arith, c.store_batch.ensures.clean) in
+    let on = sym c.stopped.ensures ∙ c.if-stopped.false in
+    let at_rest = has was on in
+    let before = c.args.self.now.bare in
+    let parts = c.into_parts-parts.result in
+    let stubs : c.deref.result.now ≡ parts.stubs.items = search rules in
+    let counted = ap (counted_all c.args.self.now.counts) (sym stubs) ∙ c.in-Some.ensures.counted in
+    let all = stored_file (g.S.Store.view c.args.self.now.table.store) (g.S.Store.view c.store_batch.new.table.store)
+    (jobs_row before.places parts.jobs.items) before c.args.self.now.counts c.count_all.new.self at_rest.0 at_rest.1
+    (entries was on) (batch_entry before.places c.args.self.now.counts c.count_all.new.self parts
+    c.into_parts-parts.ensures.parts counted) (c.in-Ok.ensures.ok stored) in
+    rw (c.follow.ensures.counts, c.follow.ensures.table) all
+
+pub returns-in-Ok-clause-openable : goal.returns-in-Ok-clause-openable
+returns-in-Ok-clause-openable g c = λ has entries opens db left.
+    let before = c.args.self.now.bare in
+    let parts = c.into_parts-parts.result in
+    let stubs : c.deref.result.now ≡ parts.stubs.items = search rules in
+    let counted = ap (counted_all c.args.self.now.counts) (sym stubs) ∙ c.in-Some.ensures.counted in
+    crash_opens (g.S.Store.view c.args.self.now.table.store) (jobs_row before.places parts.jobs.items) before
+    c.args.self.now.counts c.count_all.new.self (g.S.Store.recovers c.args.self.now.table.store)
+    (g.S.Store.recovers c.store_batch.new.table.store) has entries (sym c.stopped.ensures ∙ c.if-stopped.false)
+    (batch_entry before.places c.args.self.now.counts c.count_all.new.self parts
+    c.into_parts-parts.ensures.parts counted) c.store_batch.ensures.crash opens db
+    (subst (λ t. g.S.Store.recovers t.store db) c.follow.ensures.table left)
+
+pub returns-in-Err-clause-openable : goal.returns-in-Err-clause-openable
+returns-in-Err-clause-openable g c = λ has entries opens db left.
+    let before = c.args.self.now.bare in
+    let parts = c.into_parts-parts.result in
+    let stubs : c.deref.result.now ≡ parts.stubs.items = search rules in
+    let counted = ap (counted_all c.args.self.now.counts) (sym stubs) ∙ c.in-Some.ensures.counted in
+    crash_opens (g.S.Store.view c.args.self.now.table.store) (jobs_row before.places parts.jobs.items) before
+    c.args.self.now.counts c.count_all.new.self (g.S.Store.recovers c.args.self.now.table.store)
+    (g.S.Store.recovers c.store_batch.new.table.store) has entries (sym c.stopped.ensures ∙ c.if-stopped.false)
+    (batch_entry before.places c.args.self.now.counts c.count_all.new.self parts
+    c.into_parts-parts.ensures.parts counted) c.store_batch.ensures.crash opens db
+    (subst (λ t. g.S.Store.recovers t.store db) c.stop.ensures.table left)

@@ -3,7 +3,9 @@ use Rattle.sqlite_value.specs.declared.value.Value.TheVariants.{Int}
 use Rattle.sqlite_trees.specs.View.{IsClean, doubt}
 use Rattle.tb_durable.specs.Rows.{pulse_row}
 use Rattle.tb_durable.specs.Durable.{IsJournal, IsSettled}
+use Rattle.tb_durable.specs.Entries.{IsEntryRow}
 use Rattle.tb_durable.proofs.Applied.{adds_pulse}
+use Rattle.tb_durable.proofs.FileLemmas.{crash_opens, pulse_entry, stored_file}
 use Rattle.tb_durable.proofs.Journals.{added_last, leaves_with_row, stored_more}
 use Rattle.tb_durable.proofs.ledger.DurableLedger.apply_pulse.Goals as goal
 
@@ -53,3 +55,38 @@ returns-in-Err-clause-crash g c = λ has db left.
     c.args.self.now.bare has (sym c.stopped.ensures ∙ c.if-stopped.false) (ap (λ p. Int (pos p)) c.places-place.ensures)
     (g.S.Store.recovers c.args.self.now.table.store) (g.S.Store.recovers c.put_pulse.new.self.store)
     c.put_pulse.ensures.crash db (subst (λ t. g.S.Store.recovers t.store db) c.stop.ensures.table left))
+
+pub returns-in-Ok-clause-entries : goal.returns-in-Ok-clause-entries
+returns-in-Ok-clause-entries g c = λ has entries clean goes_on.
+    let stored : IsClean (g.S.Store.view c.put_pulse.new.self.store) = ap (λ t. doubt (g.S.Store.view t.store).is_clean) (sym c.follow.ensures.table) ∙ clean in
+    let was : IsClean (g.S.Store.view c.args.self.now.table.store) = omega (arith, c.put_pulse.ensures.clean) in
+    let on = sym c.stopped.ensures ∙ c.if-stopped.false in
+    let at_rest = has was on in
+    let before = c.args.self.now.bare in
+    let counts = c.args.self.now.counts in
+    let entry = subst (λ p. IsEntryRow p counts (pulse_row c.places-place.result c.args.moment) counts) c.places-place.ensures
+    (pulse_entry c.places-place.result c.args.moment counts c.put_pulse.ensures.bound) in
+    let all = stored_file (g.S.Store.view c.args.self.now.table.store) (g.S.Store.view c.put_pulse.new.self.store)
+    (pulse_row c.places-place.result c.args.moment) before counts counts at_rest.0 at_rest.1
+    (entries was on) entry (c.in-Ok.ensures.ok stored) in
+    rw (c.follow.ensures.counts, c.follow.ensures.table) all
+
+pub returns-in-Ok-clause-openable : goal.returns-in-Ok-clause-openable
+returns-in-Ok-clause-openable g c = λ has entries opens db left.
+    let counts = c.args.self.now.counts in
+    let entry = subst (λ p. IsEntryRow p counts (pulse_row c.places-place.result c.args.moment) counts) c.places-place.ensures
+    (pulse_entry c.places-place.result c.args.moment counts c.put_pulse.ensures.bound) in
+    crash_opens (g.S.Store.view c.args.self.now.table.store) (pulse_row c.places-place.result c.args.moment)
+    c.args.self.now.bare counts counts (g.S.Store.recovers c.args.self.now.table.store)
+    (g.S.Store.recovers c.put_pulse.new.self.store) has entries (sym c.stopped.ensures ∙ c.if-stopped.false) entry
+    c.put_pulse.ensures.crash opens db (subst (λ t. g.S.Store.recovers t.store db) c.follow.ensures.table left)
+
+pub returns-in-Err-clause-openable : goal.returns-in-Err-clause-openable
+returns-in-Err-clause-openable g c = λ has entries opens db left.
+    let counts = c.args.self.now.counts in
+    let entry = subst (λ p. IsEntryRow p counts (pulse_row c.places-place.result c.args.moment) counts) c.places-place.ensures
+    (pulse_entry c.places-place.result c.args.moment counts c.put_pulse.ensures.bound) in
+    crash_opens (g.S.Store.view c.args.self.now.table.store) (pulse_row c.places-place.result c.args.moment)
+    c.args.self.now.bare counts counts (g.S.Store.recovers c.args.self.now.table.store)
+    (g.S.Store.recovers c.put_pulse.new.self.store) has entries (sym c.stopped.ensures ∙ c.if-stopped.false) entry
+    c.put_pulse.ensures.crash opens db (subst (λ t. g.S.Store.recovers t.store db) c.stop.ensures.table left)

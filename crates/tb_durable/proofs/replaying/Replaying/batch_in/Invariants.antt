@@ -1,7 +1,10 @@
-use Rattle.std.proofs.Common.{◌≡◌, ◌++◌, map, drop}
-use Rattle.tb_work.specs.Packet.{input_of}
+use Rattle.std.proofs.Common.{◌≡◌, ◌++◌, List, map, drop}
+use Rattle.tb_work.specs.Packet.{Numbered, input_of}
 use Rattle.tb_core.specs.Ledger.{batch_packets}
+use Rattle.tb_durable.specs.Counts.{counted_all}
+use Rattle.tb_durable.specs.Entries.{AreColumnsOf}
 use Rattle.tb_durable.specs.Rows.{stub_at}
+use Rattle.tb_durable.proofs.BatchLemmas.{IsPartRead}
 use Rattle.tb_durable.proofs.replaying.Replaying.batch_in.Given as goal
 
 abbrev pub invariant-loop-chunk : goal.invariant-loop-chunk
@@ -10,4 +13,9 @@ invariant-loop-chunk l = record {
   packets : map input_of l.batcher.jobs
       ++ batch_packets l.columns.operation l.body (map stub_at (drop l.chunk-index l.chunks))
       ≡ batch_packets l.columns.operation l.columns.body.now (map stub_at l.chunks);
+  limit : l.batcher.limit ≡ 8190;
+  counted : counted_all l.self.counts (map stub_at (drop l.chunk-index l.chunks))
+      ≡ counted_all l.fn.self.counts (map stub_at l.chunks);
+  part : (jobs : List Numbered) → AreColumnsOf jobs l.columns.operation l.columns.stubs.now l.columns.body.now
+      → IsPartRead l.chunk-index jobs l.batcher.jobs l.body;
 }

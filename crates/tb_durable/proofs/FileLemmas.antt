@@ -1,0 +1,157 @@
+-- A ledger's file, read row by row and with one row more.
+use Rattle.std.proofs.Common.{◌≡◌, ◌⊎◌, inl, inr, Some, ◌<◌, ◌≤◌, ◌+◌, ◌^◌, ℕ, pos, true, false, List, [], ◌∷◌, ◌++◌, refl, sym, ap, subst, ◌∙◌, arith, length, map}
+use Rattle.std.specs.List.{flat_map}
+use Rattle.sqlite_value.specs.declared.value.Value.TheVariants.{Int}
+use Rattle.sqlite_value.specs.Order.{Row}
+use Rattle.sqlite_trees.specs.Tree.{Trees, rowid}
+use Rattle.sqlite_trees.specs.View.{View, Advances}
+use Rattle.tb_layout.specs.Events.{Input}
+use Rattle.tb_layout.specs.Limits.{clock_max}
+use Rattle.tb_layout.specs.inside.Limits.{moment_max}
+use Rattle.tb_batch.specs.Batch.{AreParts, IsLawful}
+use Rattle.tb_batch.specs.declared.parts.Parts.{Parts}
+use Rattle.tb_core.specs.BareLedger.{BareLedgerState, new_bare_ledger}
+use Rattle.tb_durable.specs.declared.counts.PacketCounts.{PacketCounts}
+use Rattle.tb_durable.specs.declared.fault.OpenFault.{OpenFault}
+use Rattle.tb_durable.specs.declared.fault.OpenFault.TheVariants as fault
+use Rattle.tb_durable.specs.declared.settings.Settings.{Settings}
+use Rattle.tb_durable.specs.Counts.{counted_all, no_packets}
+use Rattle.tb_durable.specs.Durable.{Adds, AddsGroup, IsAdded, IsFirst, IsJournal, IsReading, IsSettled, IsStored, opened_rows}
+use Rattle.tb_durable.specs.Entries.{AreEntryRows, CanBeOpened, HasEntries, IsEntryRow, IsFailure, IsFirstRow, IsHalfway, IsLedgerFile}
+use Rattle.tb_durable.specs.Rows.{group_in, jobs_row, pulse_row, settings_row}
+use Rattle.tb_durable.proofs.Cutting.{operation_is}
+use Rattle.tb_durable.proofs.EntryLemmas.{entry_place, rows_push}
+use Rattle.tb_durable.proofs.Journals.{added_last, left_last, more_places, new_journal, one_more}
+use Rattle.tb_durable.proofs.StoreLemmas.{left_is, reads_one}
+
+pub no_memory_fails : (error : OpenFault) → error ≡ fault.NoMemory → IsFailure error
+no_memory_fails error is = subst IsFailure (sym is) tt
+
+-- ---- the first row
+
+-- these are settings of the types that a caller gives
+pub record AreSettings (settings : Settings) : Type 0 where
+  pub clock : settings.clock ≤ clock_max
+  pub limit : settings.limit < 2 ^ 32
+  pub submitters : settings.submitters < 2 ^ 32
+
+pub is_first_row : (settings : Settings) → AreSettings settings → IsFirstRow (settings_row settings)
+is_first_row settings are =
+    record { settings = settings; is = refl; clock = are.clock; limit = are.limit; submitters = are.submitters }
+
+-- the rows that opening finds are a file's, too
+pub opened_file : (settings : Settings) (rows : List Row) (counts : PacketCounts) → AreSettings settings
+    → IsLedgerFile rows counts → IsLedgerFile (opened_rows settings rows) counts
+opened_file settings [] counts are is = (is_first_row settings are, is)
+opened_file settings (row ∷ rows) counts are is = is
+
+module _ (view : View) (row : Row) (counts : PacketCounts) (reading : IsReading view (row ∷ []))
+    (file : IsLedgerFile (view.committed 0) counts) where
+  parts : IsFirstRow row × AreEntryRows 0 no_packets reading.left counts
+  parts = subst (λ rows. IsLedgerFile rows counts) reading.all file
+
+  pub read_first_row : IsFirstRow row
+  read_first_row = parts.0
+
+  -- a new ledger has read only the first row
+  pub begins_halfway : (clock : ℕ) (bare : BareLedgerState) → IsFirst row clock → bare ≡ new_bare_ledger clock
+      → IsHalfway view bare no_packets counts
+  begins_halfway clock bare first is = record {
+    read = row ∷ [];
+    reading = reading;
+    journal = new_journal row clock bare first is;
+    left = subst (λ (b : BareLedgerState). AreEntryRows b.places no_packets reading.left counts) (sym is) parts.1;
+  }
+
+-- ---- the next row
+
+module _ (old new : View) (bare : BareLedgerState) (before after : PacketCounts) (h : IsHalfway old bare before after) (row : Row) where
+  -- the row that comes is an entry's, and so are those after it
+  pub next_entry : (next : Advances old new 0 row true) → (middle : PacketCounts) × IsEntryRow bare.places before row middle
+      × AreEntryRows (bare.places + length (group_in row)) middle next.0 after
+  next_entry next =
+      subst (λ rows. AreEntryRows bare.places before rows after)
+      (left_is old new h.read h.reading (row ∷ next.0) next.1) h.left
+
+  pub halfway_on : (next : Advances old new 0 row true) (grown : BareLedgerState) (counts : PacketCounts)
+      → counts ≡ (next_entry next).0 → AddsGroup bare grown (group_in row) → 0 < length (group_in row)
+      → rowid row ≡ Int (pos bare.places) → IsHalfway new grown counts after
+  halfway_on next grown counts same adds some at =
+      let reading = reads_one old new h.read h.reading row next in
+      let left : reading.left ≡ next.0
+      = left_is new old (h.read ++ row ∷ []) reading next.0 (ap (λ (v : View). v.cursors 0) next.2) in
+      let place : grown.places ≡ bare.places + length (group_in row) = more_places h.read bare grown (group_in row) h.journal adds in
+      record {
+        read = h.read ++ row ∷ [];
+        reading = reading;
+        journal = one_more h.read row bare grown h.journal adds some at;
+        left = subst (λ p. AreEntryRows p counts reading.left after) (sym place)
+            (subst (λ c. AreEntryRows (bare.places + length (group_in row)) c reading.left after) (sym same)
+            (subst (λ rows. AreEntryRows (bare.places + length (group_in row)) (next_entry next).0 rows after) (sym left)
+            (next_entry next).2));
+      }
+
+  -- all rows were read
+  pub all_counted : Advances old new 0 row false → before ≡ after
+  all_counted next =
+      sym (subst (λ rows. AreEntryRows bare.places before rows after) (left_is old new h.read h.reading [] next.0) h.left)
+
+-- ---- one row more
+
+flat_groups : (rows : List Row) → flat_map (λ (group : List Input). group) (map group_in rows) ≡ flat_map group_in rows
+flat_groups [] = refl
+flat_groups (row ∷ rows) = ap (λ more. group_in row ++ more) (flat_groups rows)
+
+-- the row of an entry at the next place keeps a file a file
+pub file_push : (rows : List Row) (bare : BareLedgerState) (before after : PacketCounts) (row : Row) → IsJournal rows bare
+    → IsLedgerFile rows before → IsEntryRow bare.places before row after → IsLedgerFile (rows ++ row ∷ []) after
+file_push rows bare before after row j file entry =
+    let all : IsLedgerFile (j.first ∷ j.entries) before = subst (λ rs. IsLedgerFile rs before) j.is file in
+    let place : bare.places ≡ 0 + length (flat_map group_in j.entries)
+    = j.committed.counted ∙ ap length (flat_groups j.entries) ∙ omega arith in
+    subst (λ rs. IsLedgerFile (rs ++ row ∷ []) after) (sym j.is) (
+      all.0,
+      rows_push 0 no_packets before after j.entries row all.1 (subst (λ p. IsEntryRow p before row after) place entry),
+    )
+
+-- whatever a crash leaves can be opened if the row that is being stored is an entry's at the next place
+pub crash_opens : (old : View) (row : Row) (bare : BareLedgerState) (before after : PacketCounts) (was now : Trees → Type 0)
+    → IsStored old bare → HasEntries old bare before → bare.stopped ≡ false → IsEntryRow bare.places before row after
+    → ((db : Trees) → now db → was db ⊎ IsAdded old row db) → CanBeOpened was → CanBeOpened now
+crash_opens old row bare before after was now stored has goes_on entry crash opens db left =
+    elim (crash db left) [
+      | inl there ↦ opens db there
+      | inr added ↦
+          let at_rest = stored added.clean goes_on in
+          let at = entry_place bare.places before after row entry in (
+            after,
+            subst (λ rows. IsLedgerFile rows after) (sym (left_last old row bare at_rest.0 at_rest.1 at db added))
+                (file_push (old.committed 0) bare before after row at_rest.1 (has added.clean goes_on) entry),
+          )
+    ]
+
+-- the table has the row after the others
+pub stored_file : (old new : View) (row : Row) (bare : BareLedgerState) (before after : PacketCounts) → IsSettled old
+    → IsJournal (old.committed 0) bare → IsLedgerFile (old.committed 0) before → IsEntryRow bare.places before row after
+    → Adds old new row → IsLedgerFile (new.committed 0) after
+stored_file old new row bare before after at_rest journal file entry adds =
+    subst (λ rows. IsLedgerFile rows after)
+    (sym (added_last old row bare at_rest journal (entry_place bare.places before after row entry) new adds))
+    (file_push (old.committed 0) bare before after row journal file entry)
+
+-- ---- the row of a parcel
+
+pub batch_entry : (place : ℕ) (before after : PacketCounts) (parts : Parts) → AreParts parts
+    → counted_all before parts.stubs.items ≡ Some after → IsEntryRow place before (jobs_row place parts.jobs.items) after
+batch_entry place before after parts are counted =
+    let jobs = parts.jobs.items in
+    inl (record {
+      jobs = jobs;
+      is = refl;
+      lawful = subst (λ o. IsLawful o jobs) (sym (operation_is parts.operation jobs are.lawful)) are.lawful;
+      follow = ap (counted_all before) (sym are.stubs) ∙ counted;
+    })
+
+pub pulse_entry : (place moment : ℕ) (counts : PacketCounts) → moment ≤ moment_max
+    → IsEntryRow place counts (pulse_row place moment) counts
+pulse_entry place moment counts low = inr (record { moment = moment; is = refl; low = low }, refl)

@@ -1,0 +1,109 @@
+use Rattle.std.proofs.Common.{◌≡◌, ◌∙◌, ◌+◌, ◌∷◌, [], ◌++◌, rules, sym, ap, subst, map, drop, length, true, false, append_assoc}
+use Rattle.std.specs.Prelude.{◌==◌, IsSome}
+use Rattle.std.proofs.lemmas.List.{drop_all, map-append}
+use Rattle.tb_work.specs.Packet.{input_of}
+use Rattle.tb_batch.specs.Grouping.{is_taken}
+use Rattle.tb_core.specs.Ledger.{batch_packets}
+use Rattle.tb_durable.specs.declared.fault.OpenFault.TheVariants.{NoMemory}
+use Rattle.tb_durable.specs.Counts.{counted_all}
+use Rattle.tb_durable.specs.Rows.{stub_at}
+use Rattle.tb_durable.proofs.BatchLemmas.{begins, next_part, next_taken, none_left, some_held}
+use Rattle.tb_durable.proofs.StubLemmas.{counted_follows, counted_none, counted_step, stubs_left}
+use Rattle.tb_durable.proofs.replaying.Replaying.batch_in.Goals as goal
+use Rattle.tb_durable.proofs.replaying.Replaying.batch_in.Goals.{in_default-seal-via-in-Some+then-is_empty+else-is_empty-2, in_default-seal-via-in-Some+else-is_empty, in_default-seal-via-in_default-seal}
+
+pub returns-in_err-job-clause-opens : goal.returns-in_err-job-clause-opens
+returns-in_err-job-clause-opens c = λ jobs columns follow.
+    let l = c.loop-chunk in
+    let chunks = c.as_chunks.result.0.now in
+    let same = ap (map stub_at) c.as_chunks.ensures.front ∙ columns.own_stubs in
+    let next = begins c.args.columns.operation jobs l.batcher.jobs chunks l.chunk-index l.body.now columns.lawful same
+    (l.invariant.part jobs columns) c.loop-chunk-test.true c.stub_at-stub.result _ c.stub_at-stub.ensures in
+    let none : c.in_err-job.field-0.0 ≡ NoMemory = (c.in_err-job.ensures.begins _ _ next).0 in
+    search rules
+
+pub returns-in_err-join-clause-opens : goal.returns-in_err-join-clause-opens
+returns-in_err-join-clause-opens c = λ jobs columns follow.
+    let l = c.loop-chunk in
+    let chunks = c.as_chunks.result.0.now in
+    let same = ap (map stub_at) c.as_chunks.ensures.front ∙ columns.own_stubs in
+    let part = l.invariant.part jobs columns in
+    let more = c.loop-chunk-test.true in
+    let next = begins c.args.columns.operation jobs l.batcher.jobs chunks l.chunk-index l.body.now columns.lawful same
+    part more c.stub_at-stub.result _ c.stub_at-stub.ensures in
+    let taken : is_taken l.batcher.limit l.batcher.jobs c.in_ok-job.job ≡ true =
+    rw (l.invariant.limit, (c.in_ok-job.ensures.begins _ _ next).1.0)
+    (next_taken c.args.columns.operation jobs l.batcher.jobs chunks l.chunk-index l.body.now columns.lawful same part more) in
+    let none : c.in_err-join.field-0.0 ≡ NoMemory = c.in_err-join.ensures.taken taken in
+    search rules
+
+pub returns-in_err-count-clause-opens : goal.returns-in_err-count-clause-opens
+returns-in_err-count-clause-opens c = λ jobs columns follow.
+    let l = c.loop-chunk in
+    let chunks = c.as_chunks.result.0.now in
+    let same = ap (map stub_at) c.as_chunks.ensures.front ∙ columns.own_stubs in
+    let left = stubs_left chunks l.chunk-index _ c.stub_at-stub.result c.loop-chunk-test.true c.stub_at-stub.ensures in
+    let some : IsSome (counted_all l.self.counts (c.stub_at-stub.result ∷ map stub_at (drop (l.chunk-index + 1) chunks))) =
+    subst IsSome (sym (sym (ap (counted_all l.self.counts) left) ∙ l.invariant.counted
+    ∙ ap (counted_all c.args.self.now.counts) same)) follow in
+    absurd (counted_follows l.self.counts c.stub_at-stub.result _ some c.in_err-count.ensures.follows)
+
+pub loop-chunk-preserved : goal.loop-chunk-preserved
+loop-chunk-preserved c =
+    let l = c.loop-chunk in
+    let before = l.invariant in
+    let chunks = c.as_chunks.result.0.now in
+    let stub = c.stub_at-stub.result in
+    let rest = map stub_at (drop (l.chunk-index + 1) chunks) in
+    let left = stubs_left chunks l.chunk-index _ stub c.loop-chunk-test.true c.stub_at-stub.ensures in
+    let operation = c.args.columns.operation in
+    let joined = c.in_ok-join.ensures.joined in
+    record {
+      ledger = c.in_ok-count.ensures.same ∙ before.ledger;
+      packets = ap (λ all. map input_of all ++ batch_packets operation c.in_ok-job.after.now rest) joined
+          ∙ ap (λ front. front ++ batch_packets operation c.in_ok-job.after.now rest)
+          (map-append input_of l.batcher.jobs (c.in_ok-job.job ∷ []))
+          ∙ append_assoc (map input_of l.batcher.jobs) (input_of c.in_ok-job.job ∷ [])
+          (batch_packets operation c.in_ok-job.after.now rest)
+          ∙ ap (λ packets. map input_of l.batcher.jobs ++ packets)
+          (sym (ap (batch_packets operation l.body.now) left ∙ c.in_ok-job.ensures.first rest)) ∙ before.packets;
+      limit = c.in_ok-join.ensures.limit ∙ before.limit;
+      counted = ap (λ counts. counted_all counts rest) c.in_ok-count.ensures.counted
+          ∙ sym (counted_step l.self.counts stub rest c.in_ok-count.ensures.follows)
+          ∙ sym (ap (counted_all l.self.counts) left) ∙ before.counted;
+      part = λ jobs columns.
+          let same = ap (map stub_at) c.as_chunks.ensures.front ∙ columns.own_stubs in
+          let part = before.part jobs columns in
+          let more = c.loop-chunk-test.true in
+          let next = begins operation jobs l.batcher.jobs chunks l.chunk-index l.body.now columns.lawful same
+          part more stub _ c.stub_at-stub.ensures in
+          let read = (c.in_ok-job.ensures.begins _ _ next).1 in
+          next_part operation jobs l.batcher.jobs chunks l.chunk-index l.body.now columns.lawful same part more
+          c.join.new.batcher.jobs c.in_ok-job.after.now (joined ∙ ap (λ job. l.batcher.jobs ++ job ∷ []) read.0) read.1;
+    }
+
+pub returns-in-Some-clause-counted : goal.returns-in-Some-clause-counted
+returns-in-Some-clause-counted c =
+    let l = c.loop-chunk in
+    let chunks = c.as_chunks.result.0.now in
+    ap (counted_all c.args.self.now.counts) (sym (ap (map stub_at) c.as_chunks.ensures.front))
+    ∙ sym l.invariant.counted
+    ∙ ap (λ cs. counted_all l.self.counts (map stub_at cs)) (drop_all l.chunk-index chunks c.loop-chunk-test.false)
+    ∙ counted_none l.self.counts
+
+pub returns-clause-opens : goal.returns-clause-opens
+returns-clause-opens c = λ jobs columns follow.
+    let l = c.loop-chunk in
+    let chunks = c.as_chunks.result.0.now in
+    let same = ap (map stub_at) c.as_chunks.ensures.front ∙ columns.own_stubs in
+    let part = l.invariant.part jobs columns in
+    let done = c.loop-chunk-test.false in
+    let empty = none_left c.args.columns.operation jobs l.batcher.jobs chunks l.chunk-index l.body.now columns.lawful same part done in
+    let some = some_held c.args.columns.operation jobs l.batcher.jobs chunks l.chunk-index l.body.now columns.lawful same part done in
+    elim c.in_default-seal.branch [
+      | in_default-seal-via-in-Some+then-is_empty+else-is_empty-2 w ↦
+          let none : false ≡ true = w.if-is_empty-2.ensures ∙ ap (λ bytes. length bytes == 0) empty in absurd cc
+      | in_default-seal-via-in-Some+else-is_empty w ↦
+          let none : false ≡ true = w.if-is_empty.ensures ∙ ap (λ n. n == 0) (c.as_chunks.ensures.back_len ∙ columns.whole) in absurd cc
+      | in_default-seal-via-in_default-seal w ↦ absurd (some w.in_default-seal.ensures.none)
+    ]

@@ -1,0 +1,23 @@
+use Rattle.std.proofs.Common.{◌∙◌, ◌*◌, sym, ap, take, drop}
+use Rattle.std.specs.Option.{is_some}
+use Rattle.tb_durable.proofs.BatchLemmas.{first_read, known_size, rest_bytes}
+use Rattle.tb_durable.proofs.replaying.Replaying.first_job.Goals as goal
+
+pub returns-in_default-clause-begins : goal.returns-in_default-clause-begins
+returns-in_default-clause-begins c = λ job more begins.
+    let known = known_size job more c.args.operation c.args.stub c.args.body.now begins in
+    let none = sym known ∙ ap is_some (sym c.event_size.ensures.exact ∙ c.in_default.is) in absurd cc
+
+pub returns-clause-begins : goal.returns-clause-begins
+returns-clause-begins c = λ job more begins.
+    let stub = c.args.stub in
+    let body = c.args.body.now in
+    let cut = c.in-Some-split_at_checked.ensures.cases in
+    let size = c.in-Some.ensures.size in
+    let bytes = c.from_vec.ensures ∙ c.in-Ok.ensures.items ∙ cut.1 ∙ ap (λ s. take (stub.count * s) body) size in (
+      tt,
+      (
+        c.in_ok-job.ensures.job ∙ first_read job more c.args.operation stub body begins c.from_vec.result bytes,
+        cut.2 ∙ ap (λ s. drop (stub.count * s) body) size ∙ rest_bytes job more c.args.operation stub body begins,
+      ),
+    )
