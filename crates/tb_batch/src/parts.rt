@@ -12,8 +12,8 @@ use std::alloc::Global;
 use tb_layout::{Account, Failure, NoMemory};
 use tb_work::{Job, Stub, looks_up};
 
-/// A group that others may join has room for at least these numbers of jobs and failures. A job has 120 bytes, and glibc allocates up to
-/// 1,032 bytes at a fraction of the cost of more.
+/// A group that others may join has room for at least this number of jobs and of failures. As many jobs take less than 1,032 bytes, up to
+/// which glibc allocates at a fraction of the cost of more.
 const FIRST_PACKETS: usize = 8;
 
 /// The parts of a batch: its packets' data one after the other, its jobs with their stubs, and an

@@ -166,25 +166,15 @@ impl Front {
         ensures memory { OnErr result (takes_memory self.old (PacketItem job) ≡ true) }
         ensures front { IsFront self.old }
     {
-        if self.closed {
-            parcels.push(Parcel::Return(job, Cause::Shutdown));
-            return Ok(());
-        }
-        if self.stopped {
-            parcels.push(Parcel::Return(job, Cause::Stopped));
-            return Ok(());
-        }
-        match self.batcher.offer(job) {
-            Offered::Joined => Ok(()),
-            Offered::Sealed(batch) => {
-                parcels.push(Parcel::Batch(batch));
-                Ok(())
-            }
-            Offered::Refused(job, refused) => {
+        match self.try_packet(job) {
+            Ok(Some(parcel)) => parcels.push(parcel),
+            Ok(None) => {}
+            Err(job) => {
                 *back = Item::Packet(job);
-                Err(refused)
+                return Err(NoMemory);
             }
         }
+        Ok(())
     }
 
     /// Takes a packet whose allocation fails.
