@@ -1,24 +1,12 @@
 //! An engine over a ledger in a store, and over one that stops.
 
-ghost use Rattle.std.specs.Prelude.{◌≡◌, ◌×◌, [], false, List};
-ghost use Rattle.tb_work.specs.Packet.{ReplyValue};
-ghost use Rattle.tb_work.specs.declared.item.Ticket.{Ticket as TicketValue};
-ghost use Rattle.tb_core.specs.BareLedger.{with_journal};
-ghost use Rattle.tb_core.specs.Journal.{LedgerState};
-ghost use Rattle.tb_core.specs.Report.{LawfulReport};
-ghost use Rattle.tb_embed.specs.AnyEngine.{ServesBy};
-ghost use Rattle.tb_embed.specs.Engine.{ended_run};
-ghost use Rattle.sqlite_trees.specs.View.{IsClean};
-ghost use Rattle.tb_durable.specs.Durable.{IsKept, groups_of};
-
 use crate::tests::{empty_store, facts, largest_packet, opened, two_accounts};
 use sqlite::MemStore;
-use sqlite_trees::store::Store;
 use std::alloc::Global;
 use std::process::Abort;
 use tb_core::{AnyLedger, BareLedger, Outcomes, Parcel, Seed};
 use tb_durable::DurableLedger;
-use tb_embed::{AnyEngine, any_serving_is_lawful};
+use tb_embed::AnyEngine;
 use tb_layout::MOMENT_MAX;
 use tb_test_makers::{account, accounts_packet, check, transfer, transfers_packet};
 use tb_work::{Outcome, Packet, Refusal};
@@ -176,17 +164,4 @@ fn an_engine_over_a_ledger_that_stops(rt: HostRuntime) {
     check!(&rt; engine.pulse(7) == Err(Refusal::Stopped));
     check!(&rt; engine.shut().is_ok() && read(&mut engine).is_none());
     drop(engine);
-}
-
-/// Establishes what an engine over rows reports once nothing is held or unread: a lawful run over the ledger with the journal in the
-/// rows from which it began. The journal of the run's ledger is in the rows too, unless that has stopped or the disk didn't return
-/// what was written.
-fn reports_its_rows<S: Store + Drop>(engine: &AnyEngine<DurableLedger<S>>)
-    ensures { (start : LedgerState) (queue : List TicketValue) (read : List ReplyValue)
-        → ServesBy DurableLedger<S>.AnyLedger.is start queue read engine.now → engine.now.front.held ≡ [] → engine.now.unread ≡ []
-        → (ledger : LedgerState) × IsKept (S.Store.view engine.now.ledger.table.store) engine.now.ledger.bare ledger
-        × LawfulReport (ended_run start queue read engine.now.front engine.now.shut ledger) }
-{
-    let _ = engine;
-    any_serving_is_lawful::<DurableLedger<S>>();
 }
