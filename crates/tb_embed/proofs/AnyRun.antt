@@ -112,8 +112,8 @@ module _ {L : Type 0} (is : L → LedgerState → Type 0) (old new : AnyEngineSt
       (record new { numbers = slice_set new.numbers submitter (number + 1) })
   packet_by submitter number packet is_number takes steps sound numbers shut same among long =
       more_by (packet_ticket submitter number packet) (slice_set new.numbers submitter (number + 1)) new.shut takes steps sound
-      (omega (arith, among)) same (λ queue are. packet_queued_as old.front.submitters queue new.numbers old.numbers new.shut
-      old.shut submitter packet number are is_number numbers shut among long)
+      (omega (arith, among)) same
+      (λ queue are. packet_queued_as new.numbers new.shut submitter number packet are is_number numbers shut among long)
 
   pub control_by : (x : Item) → TakesBy x → Steps old.front (ticket_of old.front.submitters x) new.front
       → IsFront old.front → new.numbers ≡ old.numbers

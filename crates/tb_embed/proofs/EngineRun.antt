@@ -68,8 +68,8 @@ pub packet_serves : (old new : EngineState) (submitter number : ℕ) (packet : P
     (record new { numbers = slice_set new.numbers submitter (number + 1) })
 packet_serves old new submitter number packet is takes steps stopped front numbers shut same among long =
     serves_more old new (packet_ticket submitter number packet) (slice_set new.numbers submitter (number + 1)) new.shut takes
-    steps stopped front (omega (arith, among)) same (λ queue are. packet_queued_as old.front.submitters queue new.numbers
-    old.numbers new.shut old.shut submitter packet number are is numbers shut among long)
+    steps stopped front (omega (arith, among)) same
+    (λ queue are. packet_queued_as new.numbers new.shut submitter number packet are is numbers shut among long)
 
 pub control_serves : (old new : EngineState) (x : Item) → Takes old x new
     → Steps old.front (ticket_of old.front.submitters x) new.front → Stops old (ticket_of old.front.submitters x) new

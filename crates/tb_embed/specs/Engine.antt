@@ -177,6 +177,7 @@ refusal_of_pulse stopped shut moment =
 abbrev pub refusal_of_close : Bool → Option Refusal
 refusal_of_close shut = if shut then Some Shutdown else None
 
+-- the same of an engine in memory
 abbrev pub sender_refusal : EngineState → ℕ → Option Refusal
 sender_refusal engine submitter = refusal_of_sender (has_stopped engine) engine.front engine.numbers submitter
 

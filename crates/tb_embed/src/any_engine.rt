@@ -18,7 +18,7 @@ use tb_core::{AnyLedger, Front, Parcel};
 use tb_layout::MOMENT_MAX;
 use tb_work::{Item, Job, Moment, Packet, Refusal, Reply, Ticket};
 
-/// An engine over any ledger, such as one whose journal is in a file. It has the calls of `Engine`.
+/// An engine over any ledger, such as one whose journal is in a file. It queues, commits and reads as `Engine` does.
 ///
 /// A ledger stops if its store or memory fails as it commits, or if its places are used up. Then the replies to the packets that it
 /// was to commit say Stopped, and later packets and pulses are refused.

@@ -12,7 +12,7 @@
 //!
 //! An engine that holds nothing yields its ledger (`Engine::into_ledger`), and another goes on with it (`Engine::over`).
 //!
-//! An `AnyEngine` has the same calls over any ledger, such as one in a file (`any_serving_is_lawful`).
+//! An `AnyEngine` queues, commits and reads so over any ledger, such as one in a file (`any_serving_is_lawful`).
 //!
 //! `calls_in_a_row` in tb_core_tests is an example that the gate compiles.
 #![tactic(auto)]
