@@ -73,6 +73,9 @@ opened_by is ledger limit submitters engine front engine_is front_is passes begi
       limited = ap (λ (f : FrontState). f.limit) front_is;
       counted = ap (λ (f : FrontState). f.submitters) front_is;
       nothing = (ap (λ (f : FrontState). f.held) front_is, refl);
+      numbers = refl;
+      unclosed = ap (λ (f : FrontState). f.closed) front_is;
+      goes = ap (λ (f : FrontState). f.stopped) front_is;
       unshut = refl;
     })
 

@@ -1,6 +1,6 @@
 -- An engine over any ledger: what was queued in it, which replies were read, and what follows. Its ledger's journal may be in a
 -- file. So definitions speak of each ledger that it may be, by `is`.
-use Rattle.std.specs.Prelude.{◌≡◌, ℕ, Bool, false, List, [], ◌∷◌, ◌++◌}
+use Rattle.std.specs.Prelude.{◌≡◌, ℕ, Bool, false, List, [], ◌∷◌, ◌++◌, replicate}
 use Rattle.tb_machine.specs.Replay.{replay}
 use Rattle.tb_work.specs.Ahead.{ahead, items_in}
 use Rattle.tb_work.specs.Packet.{ReplyValue}
@@ -56,6 +56,9 @@ pub record IsOpenedBy {L : Type 0} (is : L → LedgerState → Type 0) (ledger :
   pub limited : engine.front.limit ≡ limit
   pub counted : engine.front.submitters ≡ submitters
   pub nothing : HoldsNothingBy engine
+  pub numbers : engine.numbers ≡ replicate 16 0
+  pub unclosed : engine.front.closed ≡ false
+  pub goes : engine.front.stopped ≡ false
   pub unshut : engine.shut ≡ false
 
 -- the call added this ticket to what was queued, and the front took it

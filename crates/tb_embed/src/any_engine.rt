@@ -18,7 +18,8 @@ use tb_core::{AnyLedger, Front, Parcel};
 use tb_layout::MOMENT_MAX;
 use tb_work::{Item, Job, Moment, Packet, Refusal, Reply, Ticket};
 
-/// An engine over any ledger, such as one whose journal is in a file. It queues, commits and reads as `Engine` does.
+/// An engine over any ledger, such as one whose journal is in a file. It queues, commits and reads by the calls of `Engine`. Look-ups are
+/// those of its ledger, and capacity is reserved before `over`. Calls that commit wait for what the ledger waits for, as a disk.
 ///
 /// A ledger stops if its store or memory fails as it commits, or if its places are used up. Then the replies to the packets that it
 /// was to commit say Stopped, and later packets and pulses are refused.
@@ -290,8 +291,8 @@ impl<L: AnyLedger> AnyEngine<L> {
     ///
     /// Returns the packet with the first refusal that applies, and nothing has changed: `BadSubmitters` if there is no
     /// such submitter, `Stopped` if the ledger stopped, `Full` if the submitter has no number left, the refusal of
-    /// `admit`, `NoMemory`. If memory runs out only as the group that the packet seals is committed, the packet is queued, and
-    /// the ledger stops.
+    /// `admit`, `NoMemory`. If memory or the store fails only as the group that the packet seals is committed, the packet is queued,
+    /// and the ledger stops.
     pub fn submit(
         &mut self,
         alloc: Global,
@@ -320,7 +321,7 @@ impl<L: AnyLedger> AnyEngine<L> {
         }
     }
 
-    /// Queues a pulse, as `Engine::pulse` does.
+    /// Queues a pulse, as `Engine::pulse` does. It returns Ok also if the ledger stops at it, and no reply shows that: ask `stopped`.
     ///
     /// # Errors
     ///
@@ -348,7 +349,8 @@ impl<L: AnyLedger> AnyEngine<L> {
         Ok(())
     }
 
-    /// Queues the Close: packets after it aren't committed, and their replies say Shutdown.
+    /// Queues the Close: packets after it aren't committed, and their replies say Shutdown. It returns Ok also if the ledger stops at the
+    /// packets held: their replies say so.
     ///
     /// # Errors
     ///
