@@ -1,17 +1,21 @@
 //! The checks of an event that asks for an account, in their order.
 
-ghost use Rattle.std.specs.Prelude.{◌≡◌, None};
-ghost use Rattle.tb_layout.specs.declared.account_code.AccountCode.TheVariants.{Exists, Ok};
+ghost use Rattle.std.specs.Prelude.{◌≡◌, ◌≢◌, None, IfNone, IfSome, MatchOption};
+ghost use Rattle.tb_layout.specs.declared.account_code.AccountCode.{AccountCode as Code};
+ghost use Rattle.tb_layout.specs.declared.account_code.AccountCode.TheVariants.{Exists};
+ghost use Rattle.tb_layout.specs.AccountCode.{number_of};
+ghost use Rattle.tb_tables.specs.Facts.{account_with};
 ghost use Rattle.tb_machine.specs.AccountVerdict as spec;
 ghost use Rattle.tb_machine.specs.Checks.{first_row};
-ghost use Rattle.tb_machine.specs.Examining.{new_account_verdict as new_verdict_of};
+ghost use Rattle.tb_machine.specs.Examining.{account_id_verdict};
 
 use tb_layout::{Account, AccountCode};
 use tb_tables::Tables;
 
 /// Returns how an event differs from the stored account that has its id, or that it doesn't.
 fn compare_with_stored(stored: &Account, event: &Account) -> AccountCode
-    ensures { result ≡ first_row (spec.stored_checks stored.now event.now) Exists }
+    ensures first { result ≡ first_row (spec.stored_checks stored.now event.now) Exists }
+    ensures not_ok { number_of result ≢ 0 }
 {
     if event.flags != stored.flags {
         return AccountCode::ExistsWithDifferentFlags;
@@ -34,10 +38,10 @@ fn compare_with_stored(stored: &Account, event: &Account) -> AccountCode
     AccountCode::Exists
 }
 
-/// Returns the first check that an event with a new id fails, or Ok.
+/// Returns the first check that an event with a new id fails, or Ok, if it passes the checks of any event.
 #[inline(always)]
-fn check_new_id(event: &Account) -> AccountCode
-    ensures { result ≡ first_row (spec.new_id_checks event.now) Ok }
+pub(crate) fn new_account_verdict(event: &Account) -> AccountCode
+    ensures { result ≡ spec.against_id None event.now }
 {
     if event.debits_must_not_exceed_credits() && event.credits_must_not_exceed_debits() {
         return AccountCode::FlagsAreMutuallyExclusive;
@@ -63,44 +67,40 @@ fn check_new_id(event: &Account) -> AccountCode
     AccountCode::Ok
 }
 
-/// Returns the first check that an event fails, or Ok; `found` is the account with its id, if there is one.
+/// Returns the first check that any event fails, if it fails one. It decides alone, whatever is stored.
 #[inline(always)]
-fn verdict_given(found: Option<Account>, event: &Account) -> AccountCode
-    ensures { result ≡ first_row (spec.event_checks event.now) (spec.against_id found event.now) }
+pub(crate) fn account_fault(event: &Account) -> Option<AccountCode>
+    ensures rest { MatchOption result
+        ((rest : Code) → first_row (spec.event_checks event.now) rest ≡ rest)
+        (λ code. (rest : Code) → first_row (spec.event_checks event.now) rest ≡ code) }
+    ensures not_ok { MatchOption result Unit (λ code. number_of code ≢ 0) }
 {
     if event.timestamp != 0 {
-        return AccountCode::TimestampMustBeZero;
+        return Some(AccountCode::TimestampMustBeZero);
     }
     if event.reserved != 0 {
-        return AccountCode::ReservedField;
+        return Some(AccountCode::ReservedField);
     }
     if event.has_reserved_flag() {
-        return AccountCode::ReservedFlag;
+        return Some(AccountCode::ReservedFlag);
     }
     if event.id == 0 {
-        return AccountCode::IdMustNotBeZero;
+        return Some(AccountCode::IdMustNotBeZero);
     }
     if event.id == u128::MAX {
-        return AccountCode::IdMustNotBeIntMax;
+        return Some(AccountCode::IdMustNotBeIntMax);
     }
-    match found {
-        Some(stored) => compare_with_stored(&stored, event),
-        None => check_new_id(event),
-    }
+    None
 }
 
-/// Returns the first check that the event fails if no account has its id, or Ok.
-#[inline(always)]
-pub(crate) fn new_account_verdict(event: &Account) -> AccountCode
-    ensures { result ≡ new_verdict_of event.now }
-{
-    verdict_given(None, event)
-}
-
-/// Returns the first check that the event fails, or Ok.
+/// Returns how an event that passes the checks of any event differs from the account with its id, or that it doesn't,
+/// if there is one.
 #[inline(never)]
-pub(crate) fn account_verdict(tables: &Tables, event: &Account) -> AccountCode
-    ensures { result ≡ spec.account_verdict tables.now.now event.now }
+pub(crate) fn stored_account_verdict(tables: &Tables, event: &Account) -> Option<AccountCode>
+    ensures new { IfNone result (account_with tables.now.now event.now.id ≡ None) }
+    ensures stored { IfSome result (λ code. code ≡ account_id_verdict tables.now.now event.now) }
+    ensures not_ok { IfSome result (λ code. number_of code ≢ 0) }
 {
-    verdict_given(tables.account(event.id), event)
+    let stored = tables.account(event.id)?;
+    Some(compare_with_stored(&stored, event))
 }

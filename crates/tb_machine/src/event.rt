@@ -1,23 +1,27 @@
 //! What the two operations that change the facts make of their events.
 
-ghost use Rattle.std.specs.Prelude.{◌≡◌, ◌≢◌, ◌≤◌, ◌==◌, ◌&&◌, ◌||◌, ℕ, Bool, List, Ok, IfOk, is_some, not, true};
+ghost use Rattle.std.specs.Prelude.{◌≡◌, ◌≢◌, ◌≤◌, ◌&&◌, ◌||◌, ℕ, Bool, List, Ok, IfOk, is_some, not, true};
 ghost use Rattle.tb_layout.specs.Account.{account_of};
 ghost use Rattle.tb_layout.specs.Transfer.{transfer_of, is_resolving as is_resolving_event};
 ghost use Rattle.tb_layout.specs.TransferCode.{number_of};
 ghost use Rattle.tb_tables.specs.Facts.{Facts, account_with, add_transfer, transfer_with};
 ghost use Rattle.tb_tables.specs.History.{with_change, Extends};
+ghost use Rattle.tb_tables.specs.Conditions.{MayResolve};
+ghost use Rattle.tb_tables.specs.inside.Indices.{IsIndexOfTransfer};
 ghost use Rattle.tb_layout.specs.Limits.{clock_max};
 ghost use Rattle.tb_machine.specs.Chain.{Operation};
-ghost use Rattle.tb_machine.specs.TransferVerdict.{stored_transfer, transfer_verdict as verdict_of};
-ghost use Rattle.tb_machine.specs.Examining.{new_transfer_verdict as new_verdict_of};
+ghost use Rattle.tb_machine.specs.TransferVerdict.{stored_transfer, new_id_verdict};
+ghost use Rattle.tb_machine.specs.Examining.{transfer_id_verdict};
 ghost use Rattle.tb_machine.specs.Prefetch.{IsTarget};
 ghost use Rattle.tb_machine.specs.declared.prefetch.Target.TheVariants.{Between, Named};
 ghost use Rattle.tb_machine.specs.Operations as spec;
 
-use crate::account_verdict::{account_verdict, new_account_verdict};
+use crate::account_verdict::{account_fault, new_account_verdict, stored_account_verdict};
 use crate::prefetch::{Sides, Target};
 use crate::resolved::is_resolving;
-use crate::transfer_verdict::{new_resolving, new_transfer_verdict, transfer_verdict};
+use crate::transfer_verdict::{
+    new_moving_verdict, new_resolving, stored_transfer_verdict, transfer_fault,
+};
 use tb_layout::{
     Account, NoMemory, Transfer, TransferCode, is_chunk_linked, read_account, read_transfer,
 };
@@ -89,11 +93,18 @@ impl CreateEvent for Account {
     }
 
     fn examine(&self, tables: &mut Tables, timestamp: u64) -> Result<u32, NoMemory> {
-        let code = new_account_verdict(self).number();
-        if code == 0 && tables.add_new_account(self, timestamp)? {
+        if let Some(code) = account_fault(self) {
+            return Ok(code.number());
+        }
+        let code = new_account_verdict(self);
+        if code.number() == 0 && tables.add_new_account(self, timestamp)? {
             return Ok(0);
         }
-        Ok(account_verdict(tables, self).number())
+        Ok(
+            stored_account_verdict(tables, self)
+                .unwrap_or(code)
+                .number(),
+        )
     }
 
     fn remember(&self, _tables: &mut Tables, _code: u32) -> Result<(), NoMemory> {
@@ -131,6 +142,9 @@ impl CreateEvent for Transfer {
     }
 
     fn examine(&self, tables: &mut Tables, timestamp: u64) -> Result<u32, NoMemory> {
+        if let Some(code) = transfer_fault(self) {
+            return Ok(code.number());
+        }
         match Target::of(tables, self) {
             Target::Between(sides) => examine_moving(tables, sides, timestamp, self),
             Target::Named(pending) => examine_resolving(tables, pending, timestamp, self),
@@ -168,7 +182,7 @@ fn store_new(
 ) -> Result<bool, NoMemory>
     requires target { IsTarget tables.old.now event.now (Between sides) }
     requires clock { timestamp ≤ clock_max }
-    requires ok { number_of (new_verdict_of tables.old.now timestamp event.now) ≡ 0 }
+    requires ok { number_of (new_id_verdict tables.old.now timestamp event.now) ≡ 0 }
     ensures new { IfOk result (λ added. added ≡ not (is_some (transfer_with tables.old.now event.now.id))) }
     ensures added { result ≡ Ok true → tables.new
         ≡ with_change tables.old (add_transfer tables.old.now
@@ -184,8 +198,8 @@ fn store_new(
     tables.add_new_between(event, timestamp, debit, credit)
 }
 
-/// Stores a plain or pending transfer if its checks find nothing, and returns the number of its result. Its id is
-/// looked up only as it is stored: most are new. Only an event whose id is there is checked again.
+/// Stores a plain or pending transfer that passes the checks of any event, if its other checks find nothing, and
+/// returns the number of its result. Its id is looked up only as it is stored: most are new.
 #[inline(always)]
 fn examine_moving(
     tables: &mut Tables,
@@ -195,46 +209,41 @@ fn examine_moving(
 ) -> Result<u32, NoMemory>
     requires target { IsTarget tables.old.now event.now (Between sides) }
     requires clock { timestamp ≤ clock_max }
-    ensures code { IfOk result (λ code. code ≡ number_of (verdict_of tables.old.now timestamp event.now)) }
+    ensures code { IfOk result (λ code. code
+        ≡ number_of (transfer_id_verdict tables.old.now timestamp event.now)) }
     ensures stored { result ≡ Ok 0 → tables.new ≡ with_change tables.old
         (add_transfer tables.old.now (stored_transfer tables.old.now timestamp event.now)) }
     ensures same { result ≢ Ok 0 → tables.new ≡ tables.old }
 {
-    let code = new_transfer_verdict(tables, Target::Between(sides), timestamp, event).number();
-    if code == 0 {
-        if store_new(tables, sides, timestamp, event)? {
-            return Ok(0);
-        }
-    } else if !event.is_stored(tables) {
-        return Ok(code);
+    let code = new_moving_verdict(tables, sides, timestamp, event);
+    if code.number() == 0 && store_new(tables, sides, timestamp, event)? {
+        return Ok(0);
     }
-    Ok(transfer_verdict(tables, Target::Between(sides), timestamp, event).number())
+    let code = stored_transfer_verdict(tables, event).unwrap_or(code);
+    Ok(code.number())
 }
 
-/// Stores a post or a void, with its fields resolved, if its checks find nothing; whether it is stored. Its id is
-/// looked up where it is stored, as that of a plain or pending transfer, and the transfer that it names is read once.
+/// Stores a post or a void, with its fields resolved, if its id is new; whether it is. The id is looked up as it is
+/// stored, as that of a plain or pending transfer.
 #[inline(always)]
 fn store_resolved(
     tables: &mut Tables,
     pending: Option<usize>,
-    timestamp: u64,
-    event: &Transfer,
+    transfer: &Transfer,
 ) -> Result<bool, NoMemory>
-    requires { IsTarget tables.old.now event.now (Named pending) }
-    ensures passes { IfOk result (λ passes. passes
-        ≡ (number_of (verdict_of tables.old.now timestamp event.now) == 0)) }
-    ensures stored { result ≡ Ok true → tables.new ≡ with_change tables.old
-        (add_transfer tables.old.now (stored_transfer tables.old.now timestamp event.now)) }
+    requires at { IsIndexOfTransfer tables.old.now transfer.now.pending_id pending }
+    requires may { MayResolve tables.old.now transfer.now }
+    ensures new { IfOk result (λ added. added ≡ not (is_some (transfer_with tables.old.now transfer.now.id))) }
+    ensures added { result ≡ Ok true → tables.new
+        ≡ with_change tables.old (add_transfer tables.old.now transfer.now) }
     ensures same { result ≢ Ok true → tables.new ≡ tables.old }
 {
-    let Some(transfer) = new_resolving(tables, pending, timestamp, event) else {
-        return Ok(false);
-    };
     let Some(index) = pending else { unreachable!() };
-    tables.resolve_new_at(&transfer, index)
+    tables.resolve_new_at(transfer, index)
 }
 
-/// Stores a post or a void if its checks find nothing, and returns the number of its result.
+/// Stores a post or a void that passes the checks of any event, if its other checks find nothing, and returns the
+/// number of its result. The transfer that it names is read once.
 #[inline(never)]
 fn examine_resolving(
     tables: &mut Tables,
@@ -243,13 +252,22 @@ fn examine_resolving(
     event: &Transfer,
 ) -> Result<u32, NoMemory>
     requires { IsTarget tables.old.now event.now (Named pending) }
-    ensures code { IfOk result (λ code. code ≡ number_of (verdict_of tables.old.now timestamp event.now)) }
+    ensures code { IfOk result (λ code. code
+        ≡ number_of (transfer_id_verdict tables.old.now timestamp event.now)) }
     ensures stored { result ≡ Ok 0 → tables.new ≡ with_change tables.old
         (add_transfer tables.old.now (stored_transfer tables.old.now timestamp event.now)) }
     ensures same { result ≢ Ok 0 → tables.new ≡ tables.old }
 {
-    if store_resolved(tables, pending, timestamp, event)? {
+    let transfer = match new_resolving(tables, pending, timestamp, event) {
+        Ok(transfer) => transfer,
+        Err(code) => {
+            let code = stored_transfer_verdict(tables, event).unwrap_or(code);
+            return Ok(code.number());
+        }
+    };
+    if store_resolved(tables, pending, &transfer)? {
         return Ok(0);
     }
-    Ok(transfer_verdict(tables, Target::Named(pending), timestamp, event).number())
+    let code = stored_transfer_verdict(tables, event).unwrap_or(TransferCode::Ok);
+    Ok(code.number())
 }
