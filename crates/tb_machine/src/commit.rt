@@ -29,7 +29,12 @@ const CACHED_ACCOUNTS: usize = 1 << 13;
 /// Stores the event, at the timestamp after the clock, if its checks find nothing, and returns the number of its
 /// result. An event for which the clock can't be raised isn't checked.
 #[inline(always)]
-fn examine_at<E: CreateEvent>(clock: u64, tables: &mut Tables, event: E) -> Result<u32, NoMemory>
+fn examine_at<E: CreateEvent>(
+    clock: u64,
+    seems_stored: bool,
+    tables: &mut Tables,
+    event: E,
+) -> Result<u32, NoMemory>
     requires { clock ≤ clock_max }
     ensures extends { Extends tables.old tables.new }
     ensures code { IfOk result (λ code. code ≡ verdict_at E.operation tables.old.now
@@ -39,7 +44,7 @@ fn examine_at<E: CreateEvent>(clock: u64, tables: &mut Tables, event: E) -> Resu
     ensures same { result ≢ Ok 0 → tables.new ≡ tables.old }
 {
     match next_timestamp(clock) {
-        Some(timestamp) => event.examine(tables, timestamp),
+        Some(timestamp) => event.examine(tables, timestamp, seems_stored),
         None => Ok(CLOCK_EXHAUSTED),
     }
 }
@@ -60,7 +65,7 @@ fn examine_all<'a, E: CreateEvent>(
 {
     let mut clock = clock;
     for (index, chunk) in chunks.iter().enumerate() {
-        let code = examine_at(clock, tables, E::read(chunk))?;
+        let code = examine_at(clock, false, tables, E::read(chunk))?;
         if code != 0 {
             return Ok(Some(ChainFault {
                 index,
@@ -123,7 +128,7 @@ fn commit_event<E: CreateEvent>(
     ensures len { vec_len out.new ≤ vec_len out.old + 1 }
     ensures capacity { vec_capacity out.new ≡ vec_capacity out.old }
 {
-    let code = examine_at(start.clock, tables, E::read(chunk))?;
+    let code = examine_at(start.clock, start.seems_stored, tables, E::read(chunk))?;
     if code != 0 {
         E::read(chunk).remember(tables, code)?;
         out.push_reserved(Failure {
@@ -284,20 +289,33 @@ fn count_with_accounts<E: CreateEvent>(tables: &Tables, chunks: &[[u8; 128]]) ->
     chunks.len()
 }
 
+/// How far events were looked up ahead.
+#[derive(Clone, Copy)]
+struct Ahead {
+    /// The index of the first event that wasn't looked up whole.
+    index: usize,
+
+    /// Whether its id was found.
+    is_stored: bool,
+}
+
 /// Looks up the ids of the events after the one at `index`, so that memory is asked for all of them at once: with one
-/// look-up at a time each would wait. If there are many accounts it looks up those too. Returns the index of the first
-/// event that wasn't looked up whole.
-fn look_ahead<E: CreateEvent>(tables: &Tables, chunks: &[[u8; 128]], index: usize) -> usize
+/// look-up at a time each would wait. If there are many accounts it looks up those too.
+fn look_ahead<E: CreateEvent>(tables: &Tables, chunks: &[[u8; 128]], index: usize) -> Ahead
     requires { index < length chunks.now }
 {
     let end = chunks.len().min(index.saturating_add(BLOCK));
     let next = index + 1;
     let block = &chunks[next..end];
     let new = count_new::<E>(tables, block);
-    if tables.accounts() > CACHED_ACCOUNTS {
-        next + count_with_accounts::<E>(tables, &block[..new])
+    let count = if tables.accounts() > CACHED_ACCOUNTS {
+        count_with_accounts::<E>(tables, &block[..new])
     } else {
-        next + new
+        new
+    };
+    Ahead {
+        index: next + count,
+        is_stored: count == new && new < block.len(),
     }
 }
 
@@ -320,13 +338,25 @@ pub(crate) fn commit_chains<E: CreateEvent>(
         ≡ failures_from 0 (events_results E.operation clock tables.old.now (map E.event_of chunks.now)).results) }
     ensures capacity { vec_capacity out.new ≡ vec_capacity out.old }
 {
-    let mut start = ChainStart { clock, index: 0 };
-    let mut ahead = 0;
+    let mut start = ChainStart {
+        clock,
+        index: 0,
+        seems_stored: false,
+    };
+    let mut ahead = Ahead {
+        index: 0,
+        is_stored: false,
+    };
     while start.index < chunks.len() {
-        if start.index >= ahead {
+        let seems_stored = ahead.is_stored && start.index == ahead.index;
+        if start.index >= ahead.index {
             ahead = look_ahead::<E>(tables, chunks, start.index);
         }
-        let count = commit_first::<E>(start, tables, &chunks[start.index..], out)?;
+        let first = ChainStart {
+            seems_stored,
+            ..start
+        };
+        let count = commit_first::<E>(first, tables, &chunks[start.index..], out)?;
         start = start.next(count);
     }
     Ok(())

@@ -53,8 +53,14 @@ pub(crate) trait CreateEvent: Copy {
     fn has_accounts(&self, tables: &Tables) -> bool
         ensures { result ≡ has_accounts tables.now.now self.now };
 
-    /// Stores the event with this timestamp if its checks find nothing, and returns the number of its result.
-    fn examine(&self, tables: &mut Tables, timestamp: u64) -> Result<u32, NoMemory>
+    /// Stores the event with this timestamp if its checks find nothing, and returns the number of its result. If its id
+    /// seems stored, it is looked up before all else: then one that is stored costs less, and the result is the same.
+    fn examine(
+        &self,
+        tables: &mut Tables,
+        timestamp: u64,
+        seems_stored: bool,
+    ) -> Result<u32, NoMemory>
         requires { timestamp ≤ clock_max }
         ensures code { IfOk result (λ code. code ≡ operation.verdict tables.old.now timestamp self.now) }
         ensures stored { result ≡ Ok 0 → tables.new ≡ with_change tables.old
@@ -92,9 +98,19 @@ impl CreateEvent for Account {
         true
     }
 
-    fn examine(&self, tables: &mut Tables, timestamp: u64) -> Result<u32, NoMemory> {
+    fn examine(
+        &self,
+        tables: &mut Tables,
+        timestamp: u64,
+        seems_stored: bool,
+    ) -> Result<u32, NoMemory> {
         if let Some(code) = account_fault(self) {
             return Ok(code.number());
+        }
+        if seems_stored {
+            if let Some(code) = stored_account_verdict(tables, self) {
+                return Ok(code.number());
+            }
         }
         let code = new_account_verdict(self);
         if code.number() == 0 && tables.add_new_account(self, timestamp)? {
@@ -141,9 +157,19 @@ impl CreateEvent for Transfer {
                 && tables.account_index(self.credit_account_id).is_some()
     }
 
-    fn examine(&self, tables: &mut Tables, timestamp: u64) -> Result<u32, NoMemory> {
+    fn examine(
+        &self,
+        tables: &mut Tables,
+        timestamp: u64,
+        seems_stored: bool,
+    ) -> Result<u32, NoMemory> {
         if let Some(code) = transfer_fault(self) {
             return Ok(code.number());
+        }
+        if seems_stored {
+            if let Some(code) = stored_transfer_verdict(tables, self) {
+                return Ok(code.number());
+            }
         }
         match Target::of(tables, self) {
             Target::Between(sides) => examine_moving(tables, sides, timestamp, self),
