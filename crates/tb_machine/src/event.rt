@@ -286,8 +286,8 @@ fn examine_resolving(
 {
     let transfer = match new_resolving(tables, pending, timestamp, event) {
         Ok(transfer) => transfer,
-        Err(code) => {
-            let code = stored_transfer_verdict(tables, event).unwrap_or(code);
+        Err(fault) => {
+            let code = stored_transfer_verdict(tables, event).unwrap_or(fault);
             return Ok(code.number());
         }
     };

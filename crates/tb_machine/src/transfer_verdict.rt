@@ -13,7 +13,7 @@ ghost use Rattle.tb_machine.specs.declared.prefetch.Target.TheVariants.{Between,
 
 use crate::moving_verdict::moving_verdict;
 use crate::prefetch::Sides;
-use crate::resolved::resolved_by;
+use crate::resolved::{is_resolving, resolved_against};
 use crate::resolving_verdict::resolve;
 use tb_layout::{Transfer, TransferCode};
 use tb_tables::Tables;
@@ -70,8 +70,12 @@ pub(crate) fn stored_transfer_verdict(tables: &Tables, event: &Transfer) -> Opti
     ensures not_ok { IfSome result (λ code. number_of code ≢ 0) }
 {
     let stored = tables.transfer(event.id)?;
-    let event = resolved_by(tables, stored.pending_id, event);
-    Some(compare_with_stored(&stored, &event))
+    Some(if is_resolving(event) {
+        let resolved = resolved_against(tables, stored.pending_id, event);
+        compare_with_stored(&stored, &resolved)
+    } else {
+        compare_with_stored(&stored, event)
+    })
 }
 
 /// Returns whether more than one of pending, post and void is set.
