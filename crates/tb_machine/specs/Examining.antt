@@ -1,6 +1,6 @@
 -- Words of the functions that take a packet's chains one by one.
 use Rattle.std.specs.Prelude.{◌≢◌, ◌<◌, ℕ, suc, Bool, List, [], ◌∷◌, ◌++◌, length, Option, Some, None, if◌then◌else◌}
-use Rattle.tb_tables.specs.Facts.{Facts, account_with, transfer_with}
+use Rattle.tb_tables.specs.Facts.{Facts, transfer_with}
 use Rattle.tb_machine.specs.declared.fault.ChainFault.{ChainFault}
 use Rattle.tb_machine.specs.Chain.{Operation, Results, clock_after}
 use Rattle.tb_machine.specs.inside.Faults.{closed_results, first_fault}
@@ -9,6 +9,7 @@ use Rattle.tb_layout.specs.declared.transfer_code.TransferCode.{TransferCode}
 use Rattle.tb_layout.specs.declared.account.Account.{Account}
 use Rattle.tb_layout.specs.declared.account_code.AccountCode.{AccountCode}
 use Rattle.tb_machine.specs.AccountVerdict as account
+use Rattle.tb_machine.specs.Checks.{first_row}
 use Rattle.tb_machine.specs.Replay.{State}
 use Rattle.tb_machine.specs.TransferVerdict as transfer
 
@@ -40,11 +41,11 @@ event_results operation clock facts event =
 abbrev pub then_results : Results → Results → Results
 then_results first next = record { results = first.results ++ next.results; facts = next.facts }
 
--- ---- the verdict on an event that passes the checks of any event
+-- the verdict on an event, if no account has its id
+abbrev pub new_account_verdict : Account → AccountCode
+new_account_verdict event = first_row (account.event_checks event) (account.against_id None event)
 
-abbrev pub account_id_verdict : Facts → Account → AccountCode
-account_id_verdict facts event = account.against_id (account_with facts event.id) event
-
+-- the verdict on a transfer that passes the checks of any event
 abbrev pub transfer_id_verdict : Facts → ℕ → Transfer → TransferCode
 transfer_id_verdict facts timestamp event =
     transfer.against_id facts timestamp (transfer_with facts event.id) event

@@ -1,13 +1,12 @@
 //! The checks of an event that asks for an account, in their order.
 
-ghost use Rattle.std.specs.Prelude.{◌≡◌, ◌≢◌, None, IfNone, IfSome, MatchOption};
+ghost use Rattle.std.specs.Prelude.{◌≡◌, ◌≢◌, None, MatchOption};
 ghost use Rattle.tb_layout.specs.declared.account_code.AccountCode.{AccountCode as Code};
-ghost use Rattle.tb_layout.specs.declared.account_code.AccountCode.TheVariants.{Exists};
+ghost use Rattle.tb_layout.specs.declared.account_code.AccountCode.TheVariants.{Exists, Ok};
 ghost use Rattle.tb_layout.specs.AccountCode.{number_of};
-ghost use Rattle.tb_tables.specs.Facts.{account_with};
 ghost use Rattle.tb_machine.specs.AccountVerdict as spec;
 ghost use Rattle.tb_machine.specs.Checks.{first_row};
-ghost use Rattle.tb_machine.specs.Examining.{account_id_verdict};
+ghost use Rattle.tb_machine.specs.Examining.{new_account_verdict as new_verdict_of};
 
 use tb_layout::{Account, AccountCode};
 use tb_tables::Tables;
@@ -38,10 +37,10 @@ fn compare_with_stored(stored: &Account, event: &Account) -> AccountCode
     AccountCode::Exists
 }
 
-/// Returns the first check that an event with a new id fails, or Ok, if it passes the checks of any event.
+/// Returns the first check that an event with a new id fails, or Ok.
 #[inline(always)]
-pub(crate) fn new_account_verdict(event: &Account) -> AccountCode
-    ensures { result ≡ spec.against_id None event.now }
+fn check_new_id(event: &Account) -> AccountCode
+    ensures { result ≡ first_row (spec.new_id_checks event.now) Ok }
 {
     if event.debits_must_not_exceed_credits() && event.credits_must_not_exceed_debits() {
         return AccountCode::FlagsAreMutuallyExclusive;
@@ -69,7 +68,7 @@ pub(crate) fn new_account_verdict(event: &Account) -> AccountCode
 
 /// Returns the first check that any event fails, if it fails one. It decides alone, whatever is stored.
 #[inline(always)]
-pub(crate) fn account_fault(event: &Account) -> Option<AccountCode>
+fn account_fault(event: &Account) -> Option<AccountCode>
     ensures rest { MatchOption result
         ((rest : Code) → first_row (spec.event_checks event.now) rest ≡ rest)
         (λ code. (rest : Code) → first_row (spec.event_checks event.now) rest ≡ code) }
@@ -93,14 +92,28 @@ pub(crate) fn account_fault(event: &Account) -> Option<AccountCode>
     None
 }
 
-/// Returns how an event that passes the checks of any event differs from the account with its id, or that it doesn't,
-/// if there is one.
-#[inline(never)]
-pub(crate) fn stored_account_verdict(tables: &Tables, event: &Account) -> Option<AccountCode>
-    ensures new { IfNone result (account_with tables.now.now event.now.id ≡ None) }
-    ensures stored { IfSome result (λ code. code ≡ account_id_verdict tables.now.now event.now) }
-    ensures not_ok { IfSome result (λ code. number_of code ≢ 0) }
+/// Returns the first check that the event fails if no account has its id, or Ok.
+#[inline(always)]
+pub(crate) fn new_account_verdict(event: &Account) -> AccountCode
+    ensures { result ≡ new_verdict_of event.now }
 {
-    let stored = tables.account(event.id)?;
-    Some(compare_with_stored(&stored, event))
+    match account_fault(event) {
+        Some(code) => code,
+        None => check_new_id(event),
+    }
+}
+
+/// Returns the first check that the event fails, or Ok. Only an event that passes the checks of any event is looked up.
+#[inline(never)]
+pub(crate) fn account_verdict(tables: &Tables, event: &Account) -> AccountCode
+    ensures first { result ≡ spec.account_verdict tables.now.now event.now }
+    ensures ok { number_of result ≡ 0 → number_of (new_verdict_of event.now) ≡ 0 }
+{
+    if let Some(code) = account_fault(event) {
+        return code;
+    }
+    match tables.account(event.id) {
+        Some(stored) => compare_with_stored(&stored, event),
+        None => check_new_id(event),
+    }
 }

@@ -263,13 +263,27 @@ fn commit_first<E: CreateEvent>(
     Ok(count)
 }
 
-/// Looks ids up until one is stored; how many aren't.
+/// Looks ids up until one is stored; how many aren't. An event with a timestamp needs no look-up.
 #[inline(never)]
 fn count_new<E: CreateEvent>(tables: &Tables, chunks: &[[u8; 128]]) -> usize
     ensures { result ≤ length chunks.now }
 {
     for (index, chunk) in chunks.iter().enumerate() {
-        if E::read(chunk).is_stored(tables) {
+        let event = E::read(chunk);
+        if event.own_timestamp() == 0 && event.is_stored(tables) {
+            return index;
+        }
+    }
+    chunks.len()
+}
+
+/// Looks ids up until one isn't stored; how many are.
+#[inline(never)]
+fn count_stored<E: CreateEvent>(tables: &Tables, chunks: &[[u8; 128]]) -> usize
+    ensures { result ≤ length chunks.now }
+{
+    for (index, chunk) in chunks.iter().enumerate() {
+        if !E::read(chunk).is_stored(tables) {
             return index;
         }
     }
@@ -289,14 +303,28 @@ fn count_with_accounts<E: CreateEvent>(tables: &Tables, chunks: &[[u8; 128]]) ->
     chunks.len()
 }
 
-/// How far events were looked up ahead.
+/// How far events were looked up ahead, and what was found.
 #[derive(Clone, Copy)]
 struct Ahead {
     /// The index of the first event that wasn't looked up whole.
-    index: usize,
+    end: usize,
 
-    /// Whether its id was found.
-    is_stored: bool,
+    /// Whether the ids of those before it are stored.
+    are_stored: bool,
+
+    /// Whether its own id is.
+    is_end_stored: bool,
+}
+
+impl Ahead {
+    /// Returns whether the id of the event at an index was found.
+    fn found(self, index: usize) -> bool {
+        if index < self.end {
+            self.are_stored
+        } else {
+            self.is_end_stored && index == self.end
+        }
+    }
 }
 
 /// Looks up the ids of the events after the one at `index`, so that memory is asked for all of them at once: with one
@@ -308,14 +336,22 @@ fn look_ahead<E: CreateEvent>(tables: &Tables, chunks: &[[u8; 128]], index: usiz
     let next = index + 1;
     let block = &chunks[next..end];
     let new = count_new::<E>(tables, block);
+    if new == 0 && !block.is_empty() {
+        return Ahead {
+            end: next + count_stored::<E>(tables, block),
+            are_stored: true,
+            is_end_stored: false,
+        };
+    }
     let count = if tables.accounts() > CACHED_ACCOUNTS {
         count_with_accounts::<E>(tables, &block[..new])
     } else {
         new
     };
     Ahead {
-        index: next + count,
-        is_stored: count == new && new < block.len(),
+        end: next + count,
+        are_stored: false,
+        is_end_stored: count == new && new < block.len(),
     }
 }
 
@@ -344,12 +380,13 @@ pub(crate) fn commit_chains<E: CreateEvent>(
         seems_stored: false,
     };
     let mut ahead = Ahead {
-        index: 0,
-        is_stored: false,
+        end: 0,
+        are_stored: false,
+        is_end_stored: false,
     };
     while start.index < chunks.len() {
-        let seems_stored = ahead.is_stored && start.index == ahead.index;
-        if start.index >= ahead.index {
+        let seems_stored = ahead.found(start.index);
+        if start.index >= ahead.end {
             ahead = look_ahead::<E>(tables, chunks, start.index);
         }
         let first = ChainStart {

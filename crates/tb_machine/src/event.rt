@@ -1,6 +1,6 @@
 //! What the two operations that change the facts make of their events.
 
-ghost use Rattle.std.specs.Prelude.{◌≡◌, ◌≢◌, ◌≤◌, ◌&&◌, ◌||◌, ℕ, Bool, List, Ok, IfOk, is_some, not, true};
+ghost use Rattle.std.specs.Prelude.{◌≡◌, ◌≢◌, ◌≤◌, ◌&&◌, ◌||◌, ℕ, Bool, List, Ok, IfOk, OnOk, is_some, not, true};
 ghost use Rattle.tb_layout.specs.Account.{account_of};
 ghost use Rattle.tb_layout.specs.Transfer.{transfer_of, is_resolving as is_resolving_event};
 ghost use Rattle.tb_layout.specs.TransferCode.{number_of};
@@ -16,7 +16,7 @@ ghost use Rattle.tb_machine.specs.Prefetch.{IsTarget};
 ghost use Rattle.tb_machine.specs.declared.prefetch.Target.TheVariants.{Between, Named};
 ghost use Rattle.tb_machine.specs.Operations as spec;
 
-use crate::account_verdict::{account_fault, new_account_verdict, stored_account_verdict};
+use crate::account_verdict::{account_verdict, new_account_verdict};
 use crate::prefetch::{Sides, Target};
 use crate::resolved::is_resolving;
 use crate::transfer_verdict::{
@@ -33,6 +33,8 @@ pub(crate) trait CreateEvent: Copy {
 
     ghost operation: { Operation Self };
 
+    ghost own_timestamp: { Self → ℕ };
+
     ghost is_stored: { Facts → Self → Bool };
 
     ghost has_accounts: { Facts → Self → Bool };
@@ -44,6 +46,10 @@ pub(crate) trait CreateEvent: Copy {
     /// Returns whether the event in a chunk is linked, without reading the rest of it.
     fn is_chunk_linked(chunk: &[u8; 128]) -> bool
         ensures { result ≡ operation.is_linked (event_of chunk.now) };
+
+    /// Returns the event's own timestamp: with another one than 0 it fails its first check.
+    fn own_timestamp(&self) -> u64
+        ensures { result ≡ own_timestamp self.now };
 
     /// Returns whether an event with the id of this one is stored.
     fn is_stored(&self, tables: &Tables) -> bool
@@ -78,6 +84,8 @@ impl CreateEvent for Account {
 
     ghost operation = { spec.accounts_operation };
 
+    ghost own_timestamp = { λ event. event.timestamp };
+
     ghost is_stored = { λ facts event. is_some (account_with facts event.id) };
 
     ghost has_accounts = { λ _ _. true };
@@ -88,6 +96,10 @@ impl CreateEvent for Account {
 
     fn is_chunk_linked(chunk: &[u8; 128]) -> bool {
         is_chunk_linked(chunk)
+    }
+
+    fn own_timestamp(&self) -> u64 {
+        self.timestamp
     }
 
     fn is_stored(&self, tables: &Tables) -> bool {
@@ -104,23 +116,17 @@ impl CreateEvent for Account {
         timestamp: u64,
         seems_stored: bool,
     ) -> Result<u32, NoMemory> {
-        if let Some(code) = account_fault(self) {
-            return Ok(code.number());
-        }
         if seems_stored {
-            if let Some(code) = stored_account_verdict(tables, self) {
-                return Ok(code.number());
+            let code = account_verdict(tables, self).number();
+            if code != 0 {
+                return Ok(code);
             }
         }
-        let code = new_account_verdict(self);
-        if code.number() == 0 && tables.add_new_account(self, timestamp)? {
+        let code = new_account_verdict(self).number();
+        if code == 0 && tables.add_new_account(self, timestamp)? {
             return Ok(0);
         }
-        Ok(
-            stored_account_verdict(tables, self)
-                .unwrap_or(code)
-                .number(),
-        )
+        Ok(account_verdict(tables, self).number())
     }
 
     fn remember(&self, _tables: &mut Tables, _code: u32) -> Result<(), NoMemory> {
@@ -132,6 +138,8 @@ impl CreateEvent for Transfer {
     ghost event_of = { transfer_of };
 
     ghost operation = { spec.transfers_operation };
+
+    ghost own_timestamp = { λ event. event.timestamp };
 
     ghost is_stored = { λ facts event. is_some (transfer_with facts event.id) };
 
@@ -145,6 +153,10 @@ impl CreateEvent for Transfer {
 
     fn is_chunk_linked(chunk: &[u8; 128]) -> bool {
         is_chunk_linked(chunk)
+    }
+
+    fn own_timestamp(&self) -> u64 {
+        self.timestamp
     }
 
     fn is_stored(&self, tables: &Tables) -> bool {
@@ -177,12 +189,25 @@ impl CreateEvent for Transfer {
         }
     }
 
+    #[inline(always)]
     fn remember(&self, tables: &mut Tables, code: u32) -> Result<(), NoMemory> {
-        if is_transient(code) && !tables.failed(self.id) {
-            tables.add_failed(self.id)?;
+        if is_transient(code) {
+            remember_id(tables, self.id)?;
         }
         Ok(())
     }
+}
+
+/// Adds an id to those that failed, unless it is there.
+#[inline(never)]
+fn remember_id(tables: &mut Tables, id: u128) -> Result<(), NoMemory>
+    ensures facts { OnOk result (tables.new.now ≡ spec.with_failed tables.old.now id) }
+    ensures extends { Extends tables.old tables.new }
+{
+    if !tables.failed(id) {
+        tables.add_failed(id)?;
+    }
+    Ok(())
 }
 
 /// Returns whether the same event could find no fault later: an account or a pending transfer wasn't there, or a limit

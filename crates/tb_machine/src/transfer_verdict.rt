@@ -4,6 +4,7 @@ ghost use Rattle.std.specs.Prelude.{◌≡◌, ◌≢◌, ℕ, Some, None, IfNon
 ghost use Rattle.tb_layout.specs.declared.transfer_code.TransferCode.{TransferCode as Code};
 ghost use Rattle.tb_layout.specs.declared.transfer_code.TransferCode.TheVariants.{Exists};
 ghost use Rattle.tb_layout.specs.TransferCode.{number_of};
+ghost use Rattle.tb_tables.specs.inside.Indices.{IsIndexOfTransfer};
 ghost use Rattle.tb_tables.specs.Facts.{transfer_with};
 ghost use Rattle.tb_machine.specs.TransferVerdict as spec;
 ghost use Rattle.tb_machine.specs.Examining.{transfer_id_verdict};
@@ -60,22 +61,36 @@ fn compare_with_stored(stored: &Transfer, event: &Transfer) -> TransferCode
     TransferCode::Exists
 }
 
+/// Returns how an event that passes the checks of any event differs from the transfer at an index, which has its id, or
+/// that it doesn't.
+#[inline(never)]
+fn compare_with_stored_at(tables: &Tables, index: usize, event: &Transfer) -> TransferCode
+    requires { IsIndexOfTransfer tables.now.now event.now.id (Some index) }
+    ensures code { (timestamp : ℕ) → result ≡ transfer_id_verdict tables.now.now timestamp event.now }
+    ensures not_ok { number_of result ≢ 0 }
+{
+    let Some(stored) = tables.transfer_at(index) else {
+        unreachable!()
+    };
+    if is_resolving(event) {
+        let resolved = resolved_against(tables, stored.pending_id, event);
+        compare_with_stored(&stored, &resolved)
+    } else {
+        compare_with_stored(&stored, event)
+    }
+}
+
 /// Returns how an event that passes the checks of any event differs from the transfer with its id, or that it doesn't,
 /// if there is one.
-#[inline(never)]
+#[inline(always)]
 pub(crate) fn stored_transfer_verdict(tables: &Tables, event: &Transfer) -> Option<TransferCode>
     ensures new { IfNone result (transfer_with tables.now.now event.now.id ≡ None) }
     ensures stored { IfSome result (λ code. (timestamp : ℕ)
         → code ≡ transfer_id_verdict tables.now.now timestamp event.now) }
     ensures not_ok { IfSome result (λ code. number_of code ≢ 0) }
 {
-    let stored = tables.transfer(event.id)?;
-    Some(if is_resolving(event) {
-        let resolved = resolved_against(tables, stored.pending_id, event);
-        compare_with_stored(&stored, &resolved)
-    } else {
-        compare_with_stored(&stored, event)
-    })
+    let index = tables.transfer_index(event.id)?;
+    Some(compare_with_stored_at(tables, index, event))
 }
 
 /// Returns whether more than one of pending, post and void is set.
