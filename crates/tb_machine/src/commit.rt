@@ -263,14 +263,13 @@ fn commit_first<E: CreateEvent>(
     Ok(count)
 }
 
-/// Looks ids up until one is stored; how many aren't. An event with a timestamp needs no look-up.
+/// Looks ids up until one is stored; how many aren't.
 #[inline(never)]
 fn count_new<E: CreateEvent>(tables: &Tables, chunks: &[[u8; 128]]) -> usize
     ensures { result ≤ length chunks.now }
 {
     for (index, chunk) in chunks.iter().enumerate() {
-        let event = E::read(chunk);
-        if event.own_timestamp() == 0 && event.is_stored(tables) {
+        if E::read(chunk).is_stored(tables) {
             return index;
         }
     }
@@ -303,55 +302,38 @@ fn count_with_accounts<E: CreateEvent>(tables: &Tables, chunks: &[[u8; 128]]) ->
     chunks.len()
 }
 
-/// How far events were looked up ahead, and what was found.
+/// How far events were looked up ahead: some that are new, and then some that are stored.
 #[derive(Clone, Copy)]
 struct Ahead {
-    /// The index of the first event that wasn't looked up whole.
-    end: usize,
+    /// The index after those that are new.
+    new: usize,
 
-    /// Whether the ids of those before it are stored.
-    are_stored: bool,
-
-    /// Whether its own id is.
-    is_end_stored: bool,
-}
-
-impl Ahead {
-    /// Returns whether the id of the event at an index was found.
-    fn found(self, index: usize) -> bool {
-        if index < self.end {
-            self.are_stored
-        } else {
-            self.is_end_stored && index == self.end
-        }
-    }
+    /// The index after those that are stored.
+    stored: usize,
 }
 
 /// Looks up the ids of the events after the one at `index`, so that memory is asked for all of them at once: with one
-/// look-up at a time each would wait. If there are many accounts it looks up those too.
+/// look-up at a time each would wait. If there are many accounts it looks up those of new events too.
 fn look_ahead<E: CreateEvent>(tables: &Tables, chunks: &[[u8; 128]], index: usize) -> Ahead
     requires { index < length chunks.now }
 {
     let end = chunks.len().min(index.saturating_add(BLOCK));
     let next = index + 1;
     let block = &chunks[next..end];
-    let new = count_new::<E>(tables, block);
-    if new == 0 && !block.is_empty() {
-        return Ahead {
-            end: next + count_stored::<E>(tables, block),
-            are_stored: true,
-            is_end_stored: false,
-        };
-    }
-    let count = if tables.accounts() > CACHED_ACCOUNTS {
-        count_with_accounts::<E>(tables, &block[..new])
+    let ids = count_new::<E>(tables, block);
+    let new = if tables.accounts() > CACHED_ACCOUNTS {
+        count_with_accounts::<E>(tables, &block[..ids])
     } else {
-        new
+        ids
+    };
+    let stored = if new < ids || ids == block.len() {
+        0
+    } else {
+        1 + count_stored::<E>(tables, &block[ids + 1..])
     };
     Ahead {
-        end: next + count,
-        are_stored: false,
-        is_end_stored: count == new && new < block.len(),
+        new: next + new,
+        stored: next + new + stored,
     }
 }
 
@@ -379,15 +361,14 @@ pub(crate) fn commit_chains<E: CreateEvent>(
         index: 0,
         seems_stored: false,
     };
-    let mut ahead = Ahead {
-        end: 0,
-        are_stored: false,
-        is_end_stored: false,
-    };
+    let mut ahead = Ahead { new: 0, stored: 0 };
     while start.index < chunks.len() {
-        let seems_stored = ahead.found(start.index);
-        if start.index >= ahead.end {
-            ahead = look_ahead::<E>(tables, chunks, start.index);
+        let mut seems_stored = false;
+        if start.index >= ahead.new {
+            seems_stored = start.index < ahead.stored;
+            if !seems_stored {
+                ahead = look_ahead::<E>(tables, chunks, start.index);
+            }
         }
         let first = ChainStart {
             seems_stored,

@@ -33,8 +33,6 @@ pub(crate) trait CreateEvent: Copy {
 
     ghost operation: { Operation Self };
 
-    ghost own_timestamp: { Self → ℕ };
-
     ghost is_stored: { Facts → Self → Bool };
 
     ghost has_accounts: { Facts → Self → Bool };
@@ -47,10 +45,6 @@ pub(crate) trait CreateEvent: Copy {
     fn is_chunk_linked(chunk: &[u8; 128]) -> bool
         ensures { result ≡ operation.is_linked (event_of chunk.now) };
 
-    /// Returns the event's own timestamp: with another one than 0 it fails its first check.
-    fn own_timestamp(&self) -> u64
-        ensures { result ≡ own_timestamp self.now };
-
     /// Returns whether an event with the id of this one is stored.
     fn is_stored(&self, tables: &Tables) -> bool
         ensures { result ≡ is_stored tables.now.now self.now };
@@ -59,8 +53,8 @@ pub(crate) trait CreateEvent: Copy {
     fn has_accounts(&self, tables: &Tables) -> bool
         ensures { result ≡ has_accounts tables.now.now self.now };
 
-    /// Stores the event with this timestamp if its checks find nothing, and returns the number of its result. If its id
-    /// seems stored, it is looked up before all else: then one that is stored costs less, and the result is the same.
+    /// Stores the event with this timestamp if its checks find nothing, and returns the number of its result. It is the
+    /// same whether the id seems stored or not: a transfer's id that does is looked up first, and costs less if it is.
     fn examine(
         &self,
         tables: &mut Tables,
@@ -84,8 +78,6 @@ impl CreateEvent for Account {
 
     ghost operation = { spec.accounts_operation };
 
-    ghost own_timestamp = { λ event. event.timestamp };
-
     ghost is_stored = { λ facts event. is_some (account_with facts event.id) };
 
     ghost has_accounts = { λ _ _. true };
@@ -96,10 +88,6 @@ impl CreateEvent for Account {
 
     fn is_chunk_linked(chunk: &[u8; 128]) -> bool {
         is_chunk_linked(chunk)
-    }
-
-    fn own_timestamp(&self) -> u64 {
-        self.timestamp
     }
 
     fn is_stored(&self, tables: &Tables) -> bool {
@@ -114,14 +102,8 @@ impl CreateEvent for Account {
         &self,
         tables: &mut Tables,
         timestamp: u64,
-        seems_stored: bool,
+        _seems_stored: bool,
     ) -> Result<u32, NoMemory> {
-        if seems_stored {
-            let code = account_verdict(tables, self).number();
-            if code != 0 {
-                return Ok(code);
-            }
-        }
         let code = new_account_verdict(self).number();
         if code == 0 && tables.add_new_account(self, timestamp)? {
             return Ok(0);
@@ -139,8 +121,6 @@ impl CreateEvent for Transfer {
 
     ghost operation = { spec.transfers_operation };
 
-    ghost own_timestamp = { λ event. event.timestamp };
-
     ghost is_stored = { λ facts event. is_some (transfer_with facts event.id) };
 
     ghost has_accounts = { λ facts event. is_resolving_event event
@@ -153,10 +133,6 @@ impl CreateEvent for Transfer {
 
     fn is_chunk_linked(chunk: &[u8; 128]) -> bool {
         is_chunk_linked(chunk)
-    }
-
-    fn own_timestamp(&self) -> u64 {
-        self.timestamp
     }
 
     fn is_stored(&self, tables: &Tables) -> bool {
@@ -189,7 +165,7 @@ impl CreateEvent for Transfer {
         }
     }
 
-    #[inline(always)]
+    #[inline(never)]
     fn remember(&self, tables: &mut Tables, code: u32) -> Result<(), NoMemory> {
         if is_transient(code) {
             remember_id(tables, self.id)?;
