@@ -130,7 +130,7 @@ fn commit_event<E: CreateEvent>(
 {
     let code = examine_at(start.clock, start.seems_stored, tables, E::read(chunk))?;
     if code != 0 {
-        E::read(chunk).remember(tables, code)?;
+        E::read(chunk).remember_checked(tables, code)?;
         out.push_reserved(Failure {
             index: start.index as u32,
             code,

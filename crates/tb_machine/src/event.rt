@@ -1,15 +1,16 @@
 //! What the two operations that change the facts make of their events.
 
-ghost use Rattle.std.specs.Prelude.{◌≡◌, ◌≢◌, ◌≤◌, ◌&&◌, ◌||◌, ℕ, Bool, List, Ok, IfOk, OnOk, is_some, not, true};
+ghost use Rattle.std.specs.Prelude.{◌≡◌, ◌≢◌, ◌≤◌, ◌&&◌, ◌||◌, ℕ, Bool, List, Option, Ok, IfOk, OnOk, is_some, not, true, false};
 ghost use Rattle.tb_layout.specs.Account.{account_of};
 ghost use Rattle.tb_layout.specs.Transfer.{transfer_of, is_resolving as is_resolving_event};
 ghost use Rattle.tb_layout.specs.TransferCode.{number_of};
-ghost use Rattle.tb_tables.specs.Facts.{Facts, account_with, add_transfer, transfer_with};
+ghost use Rattle.tb_tables.specs.Facts.{Facts, account_with, add_transfer, is_failed, transfer_with};
 ghost use Rattle.tb_tables.specs.History.{with_change, Extends};
 ghost use Rattle.tb_tables.specs.Conditions.{MayResolve};
 ghost use Rattle.tb_tables.specs.inside.Indices.{IsIndexOfTransfer};
 ghost use Rattle.tb_layout.specs.Limits.{clock_max};
 ghost use Rattle.tb_machine.specs.Chain.{Operation};
+ghost use Rattle.tb_machine.specs.inside.Faults.{verdict_at};
 ghost use Rattle.tb_machine.specs.TransferVerdict.{stored_transfer, new_id_verdict};
 ghost use Rattle.tb_machine.specs.Examining.{transfer_id_verdict};
 ghost use Rattle.tb_machine.specs.Prefetch.{IsTarget};
@@ -71,6 +72,13 @@ pub(crate) trait CreateEvent: Copy {
     fn remember(&self, tables: &mut Tables, code: u32) -> Result<(), NoMemory>
         ensures facts { IfOk result (λ _. tables.new.now ≡ operation.remembered tables.old.now code self.now) }
         ensures extends { Extends tables.old tables.new };
+
+    /// Does the same if the event's checks found this code on the facts as they are. Nothing is looked up that they
+    /// looked up.
+    fn remember_checked(&self, tables: &mut Tables, code: u32) -> Result<(), NoMemory>
+        requires { (timestamp : Option ℕ) × (code ≡ verdict_at operation tables.old.now timestamp self.now) }
+        ensures facts { IfOk result (λ _. tables.new.now ≡ operation.remembered tables.old.now code self.now) }
+        ensures extends { Extends tables.old tables.new };
 }
 
 impl CreateEvent for Account {
@@ -112,6 +120,10 @@ impl CreateEvent for Account {
     }
 
     fn remember(&self, _tables: &mut Tables, _code: u32) -> Result<(), NoMemory> {
+        Ok(())
+    }
+
+    fn remember_checked(&self, _tables: &mut Tables, _code: u32) -> Result<(), NoMemory> {
         Ok(())
     }
 }
@@ -165,25 +177,30 @@ impl CreateEvent for Transfer {
         }
     }
 
-    #[inline(never)]
     fn remember(&self, tables: &mut Tables, code: u32) -> Result<(), NoMemory> {
+        if is_transient(code) && !tables.failed(self.id) {
+            add_failed(tables, self.id)?;
+        }
+        Ok(())
+    }
+
+    #[inline(never)]
+    fn remember_checked(&self, tables: &mut Tables, code: u32) -> Result<(), NoMemory> {
         if is_transient(code) {
-            remember_id(tables, self.id)?;
+            add_failed(tables, self.id)?;
         }
         Ok(())
     }
 }
 
-/// Adds an id to those that failed, unless it is there.
+/// Adds an id to those that failed. Few events fail so, and what others cost is less if this isn't part of it.
 #[inline(never)]
-fn remember_id(tables: &mut Tables, id: u128) -> Result<(), NoMemory>
+fn add_failed(tables: &mut Tables, id: u128) -> Result<(), NoMemory>
+    requires { is_failed tables.old.now id ≡ false }
     ensures facts { OnOk result (tables.new.now ≡ spec.with_failed tables.old.now id) }
     ensures extends { Extends tables.old tables.new }
 {
-    if !tables.failed(id) {
-        tables.add_failed(id)?;
-    }
-    Ok(())
+    tables.add_failed(id)
 }
 
 /// Returns whether the same event could find no fault later: an account or a pending transfer wasn't there, or a limit
