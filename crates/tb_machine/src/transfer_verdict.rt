@@ -1,6 +1,7 @@
 //! The checks of an event that asks for a transfer, in their order.
 
-ghost use Rattle.std.specs.Prelude.{◌≡◌, ◌≢◌, ℕ, Some, None, IfNone, IfSome, IfOk, OnOk, IfErr, MatchOption};
+ghost use Rattle.std.specs.Prelude.{◌≡◌, ◌≢◌, ℕ, Some, None, IfNone, IfSome, IfOk, OnOk, IfErr, MatchOption, true};
+ghost use Rattle.tb_layout.specs.Transfer.{is_resolving as is_resolving_event};
 ghost use Rattle.tb_layout.specs.declared.transfer_code.TransferCode.{TransferCode as Code};
 ghost use Rattle.tb_layout.specs.declared.transfer_code.TransferCode.TheVariants.{Exists};
 ghost use Rattle.tb_layout.specs.TransferCode.{number_of};
@@ -61,6 +62,22 @@ fn compare_with_stored(stored: &Transfer, event: &Transfer) -> TransferCode
     TransferCode::Exists
 }
 
+/// Returns how a post or a void, with its fields resolved, differs from the transfer at an index, which has its id, or
+/// that it doesn't.
+#[inline(never)]
+fn compare_resolved_at(tables: &Tables, index: usize, event: &Transfer) -> TransferCode
+    requires at { IsIndexOfTransfer tables.now.now event.now.id (Some index) }
+    requires resolves { is_resolving_event event.now ≡ true }
+    ensures code { (timestamp : ℕ) → result ≡ transfer_id_verdict tables.now.now timestamp event.now }
+    ensures not_ok { number_of result ≢ 0 }
+{
+    let Some(stored) = tables.transfer_at(index) else {
+        unreachable!()
+    };
+    let resolved = resolved_against(tables, stored.pending_id, event);
+    compare_with_stored(&stored, &resolved)
+}
+
 /// Returns how an event that passes the checks of any event differs from the transfer at an index, which has its id, or
 /// that it doesn't.
 #[inline(never)]
@@ -69,15 +86,13 @@ fn compare_with_stored_at(tables: &Tables, index: usize, event: &Transfer) -> Tr
     ensures code { (timestamp : ℕ) → result ≡ transfer_id_verdict tables.now.now timestamp event.now }
     ensures not_ok { number_of result ≢ 0 }
 {
+    if is_resolving(event) {
+        return compare_resolved_at(tables, index, event);
+    }
     let Some(stored) = tables.transfer_at(index) else {
         unreachable!()
     };
-    if is_resolving(event) {
-        let resolved = resolved_against(tables, stored.pending_id, event);
-        compare_with_stored(&stored, &resolved)
-    } else {
-        compare_with_stored(&stored, event)
-    }
+    compare_with_stored(&stored, event)
 }
 
 /// Returns how an event that passes the checks of any event differs from the transfer with its id, or that it doesn't,
