@@ -263,6 +263,19 @@ fn commit_first<E: CreateEvent>(
     Ok(count)
 }
 
+/// Returns how many of the first events have a timestamp.
+#[inline(never)]
+fn count_with_timestamp<E: CreateEvent>(chunks: &[[u8; 128]]) -> usize
+    ensures { result ≤ length chunks.now }
+{
+    for (index, chunk) in chunks.iter().enumerate() {
+        if !E::read(chunk).has_timestamp() {
+            return index;
+        }
+    }
+    chunks.len()
+}
+
 /// Looks ids up until one is stored; how many aren't.
 #[inline(never)]
 fn count_new<E: CreateEvent>(tables: &Tables, chunks: &[[u8; 128]]) -> usize
@@ -302,10 +315,11 @@ fn count_with_accounts<E: CreateEvent>(tables: &Tables, chunks: &[[u8; 128]]) ->
     chunks.len()
 }
 
-/// How far events were looked up ahead: some that are new, and then some that are stored.
+/// How far was looked ahead: over events whose ids are new, or that fail their first check, and then over some that are
+/// stored.
 #[derive(Clone, Copy)]
 struct Ahead {
-    /// The index after those that are new.
+    /// The index after the first ones.
     new: usize,
 
     /// The index after those that are stored.
@@ -313,13 +327,21 @@ struct Ahead {
 }
 
 /// Looks up the ids of the events after the one at `index`, so that memory is asked for all of them at once: with one
-/// look-up at a time each would wait. If there are many accounts it looks up those of new events too.
+/// look-up at a time each would wait. If there are many accounts it looks up those of new events too. Events with a
+/// timestamp fail without a look-up: if some are first it goes no further.
 fn look_ahead<E: CreateEvent>(tables: &Tables, chunks: &[[u8; 128]], index: usize) -> Ahead
     requires { index < length chunks.now }
 {
     let end = chunks.len().min(index.saturating_add(BLOCK));
     let next = index + 1;
     let block = &chunks[next..end];
+    let faulty = count_with_timestamp::<E>(block);
+    if faulty > 0 || block.is_empty() {
+        return Ahead {
+            new: next + faulty,
+            stored: next + faulty,
+        };
+    }
     let ids = count_new::<E>(tables, block);
     let new = if tables.accounts() > CACHED_ACCOUNTS {
         count_with_accounts::<E>(tables, &block[..ids])

@@ -10,6 +10,7 @@ ghost use Rattle.tb_tables.specs.Conditions.{MayResolve};
 ghost use Rattle.tb_tables.specs.inside.Indices.{IsIndexOfTransfer};
 ghost use Rattle.tb_layout.specs.Limits.{clock_max};
 ghost use Rattle.tb_machine.specs.Chain.{Operation};
+ghost use Rattle.tb_machine.specs.Checks.{differ};
 ghost use Rattle.tb_machine.specs.inside.Faults.{verdict_at};
 ghost use Rattle.tb_machine.specs.TransferVerdict.{stored_transfer, new_id_verdict};
 ghost use Rattle.tb_machine.specs.Examining.{transfer_id_verdict};
@@ -34,6 +35,8 @@ pub(crate) trait CreateEvent: Copy {
 
     ghost operation: { Operation Self };
 
+    ghost has_timestamp: { Self → Bool };
+
     ghost is_stored: { Facts → Self → Bool };
 
     ghost has_accounts: { Facts → Self → Bool };
@@ -45,6 +48,10 @@ pub(crate) trait CreateEvent: Copy {
     /// Returns whether the event in a chunk is linked, without reading the rest of it.
     fn is_chunk_linked(chunk: &[u8; 128]) -> bool
         ensures { result ≡ operation.is_linked (event_of chunk.now) };
+
+    /// Returns whether the event has a timestamp: it then fails its first check, whatever is stored.
+    fn has_timestamp(&self) -> bool
+        ensures { result ≡ has_timestamp self.now };
 
     /// Returns whether an event with the id of this one is stored.
     fn is_stored(&self, tables: &Tables) -> bool
@@ -86,6 +93,8 @@ impl CreateEvent for Account {
 
     ghost operation = { spec.accounts_operation };
 
+    ghost has_timestamp = { λ event. differ event.timestamp 0 };
+
     ghost is_stored = { λ facts event. is_some (account_with facts event.id) };
 
     ghost has_accounts = { λ _ _. true };
@@ -96,6 +105,10 @@ impl CreateEvent for Account {
 
     fn is_chunk_linked(chunk: &[u8; 128]) -> bool {
         is_chunk_linked(chunk)
+    }
+
+    fn has_timestamp(&self) -> bool {
+        self.timestamp != 0
     }
 
     fn is_stored(&self, tables: &Tables) -> bool {
@@ -133,6 +146,8 @@ impl CreateEvent for Transfer {
 
     ghost operation = { spec.transfers_operation };
 
+    ghost has_timestamp = { λ event. differ event.timestamp 0 };
+
     ghost is_stored = { λ facts event. is_some (transfer_with facts event.id) };
 
     ghost has_accounts = { λ facts event. is_resolving_event event
@@ -145,6 +160,10 @@ impl CreateEvent for Transfer {
 
     fn is_chunk_linked(chunk: &[u8; 128]) -> bool {
         is_chunk_linked(chunk)
+    }
+
+    fn has_timestamp(&self) -> bool {
+        self.timestamp != 0
     }
 
     fn is_stored(&self, tables: &Tables) -> bool {
