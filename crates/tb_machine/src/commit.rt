@@ -335,7 +335,11 @@ fn look_ahead<E: CreateEvent>(tables: &Tables, chunks: &[[u8; 128]], index: usiz
     let end = chunks.len().min(index.saturating_add(BLOCK));
     let next = index + 1;
     let block = &chunks[next..end];
-    let faulty = count_with_timestamp::<E>(block);
+    let faulty = if block.is_empty() {
+        0
+    } else {
+        count_with_timestamp::<E>(block)
+    };
     if faulty > 0 || block.is_empty() {
         return Ahead {
             new: next + faulty,

@@ -175,7 +175,7 @@ pub(crate) fn new_moving_verdict(
     moving_verdict(tables, sides, timestamp, event)
 }
 
-/// Returns a post or a void as it is stored, or the first check that it fails, if its id is that of no transfer and it
+/// Returns a post or a void as it is stored, or the first check that it fails, if its id is that of no transfer. It
 /// passes the checks of any event.
 #[inline(always)]
 pub(crate) fn new_resolving(
