@@ -4,3 +4,4 @@ pub mod FirstChain
 mod StoredEvents
 pub mod Joined
 mod Examples
+mod FailedIds

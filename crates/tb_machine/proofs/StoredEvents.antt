@@ -1,6 +1,6 @@
 -- An event whose checks find nothing may be stored.
-use Rattle.std.proofs.Common.{refl, sym, ap, subst, ◌∙◌, arith, ◌≡◌, ◌≢◌, ℕ, ◌+◌, ◌*◌, ◌<◌, ◌≤◌, ◌^◌, Bool, true, false, not, List, [], ◌∷◌, Option, Some, None}
-use Rattle.std.specs.Prelude.{◌==◌, ◌&&◌, ◌||◌, nat_lt, IsSome, is_some, if◌then◌else◌}
+use Rattle.std.proofs.Common.{refl, sym, ap, subst, ◌∙◌, arith, ◌≡◌, ℕ, ◌+◌, ◌*◌, ◌<◌, ◌≤◌, ◌^◌, Bool, true, false, not, List, [], ◌∷◌, Option, Some, None}
+use Rattle.std.specs.Prelude.{◌==◌, ◌&&◌, ◌||◌, nat_lt, IsSome, if◌then◌else◌}
 use Rattle.std.specs.List.{AllByRecursion, list_all}
 use Rattle.std.specs.Option.{option_map}
 use Rattle.std.proofs.lemmas.Bool.{eqb-true}
@@ -8,7 +8,7 @@ use Rattle.std.proofs.lemmas.Bool.Decides.{nat_tests}
 use Rattle.tb_layout.specs.declared.account.Account.{Account}
 use Rattle.tb_layout.specs.declared.transfer.Transfer.{Transfer}
 use Rattle.tb_layout.specs.declared.transfer_code.TransferCode.{TransferCode}
-use Rattle.tb_layout.specs.declared.transfer_code.TransferCode.TheVariants.{Ok, Exists}
+use Rattle.tb_layout.specs.declared.transfer_code.TransferCode.TheVariants.{Ok}
 use Rattle.tb_layout.specs.TransferCode.{number_of}
 use Rattle.tb_layout.specs.Transfer.{is_pending, is_post, is_void, is_resolving}
 use Rattle.tb_tables.specs.Facts.{Facts, account_with, transfer_with, is_expired}
@@ -21,9 +21,7 @@ use Rattle.tb_tables.specs.Conditions.{MayAdd, MayResolve}
 use Rattle.tb_tables.proofs.FoundById.{found-id}
 use Rattle.tb_layout.specs.Limits.{clock_max, nanoseconds_per_second}
 use Rattle.tb_machine.specs.Checks.{u128_max, first_row}
-use Rattle.tb_machine.specs.TransferVerdict.{transfer_verdict, event_checks, stored_checks, against_id, new_id_verdict, new_id_checks, resolving_checks, resolving_verdict, against_named, pending_checks, status_checks, moving_checks, moving_verdict, against_accounts, balance_checks, resolved_transfer, resolved_transfer_of, stored_transfer, has_exclusive_flags}
-use Rattle.tb_machine.specs.Examining.{new_transfer_verdict}
-use Rattle.tb_machine.proofs.Faults.{eqb-false}
+use Rattle.tb_machine.specs.TransferVerdict.{new_id_verdict, new_id_checks, resolving_checks, resolving_verdict, against_named, pending_checks, status_checks, moving_checks, moving_verdict, against_accounts, balance_checks, resolved_transfer, resolved_transfer_of, stored_transfer, has_exclusive_flags}
 
 -- ---- if a table doesn't end in a failure, none of its checks applies
 
@@ -70,37 +68,11 @@ record IsFine (facts : Facts) (timestamp : ℕ) (event : Transfer) : Type 0 wher
       else moving_verdict facts timestamp event) ≡ 0
 
 fine : (facts : Facts) (timestamp : ℕ) (event : Transfer)
-    → number_of (new_transfer_verdict facts timestamp event) ≡ 0 → IsFine facts timestamp event
+    → number_of (new_id_verdict facts timestamp event) ≡ 0 → IsFine facts timestamp event
 fine facts timestamp event ok =
-    let new_ok = (passes (event_checks event) (new_id_verdict facts timestamp event) refl ok).rest in
     let p = passes (new_id_checks facts event) (if is_resolving event then resolving_verdict facts timestamp event
-    else moving_verdict facts timestamp event) refl new_ok in
+    else moving_verdict facts timestamp event) refl ok in
     record { apart = p.none.1.0; rest = p.rest }
-
--- if its id is new, the verdict is that on a new one
-pub verdict_if_new : (facts : Facts) (timestamp : ℕ) (event : Transfer) → transfer_with facts event.id ≡ None
-    → transfer_verdict facts timestamp event ≡ new_transfer_verdict facts timestamp event
-verdict_if_new facts timestamp event new =
-    ap (λ found. first_row (event_checks event) (against_id facts timestamp found event)) new
-
--- if its id is there, it fails
-stored_fails : (facts : Facts) (timestamp : ℕ) (stored event : Transfer)
-    → number_of (first_row (event_checks event) (against_id facts timestamp (Some stored) event)) ≢ 0
-stored_fails facts timestamp stored event = λ ok.
-    let kept = resolved_transfer_of (transfer_with facts stored.pending_id) event in
-    let there = (passes (event_checks event) (against_id facts timestamp (Some stored) event) refl ok).rest in
-    let e : 46 ≡ 0 = (passes (stored_checks stored kept) Exists refl there).rest in absurd (omega (arith, e))
-
--- so one that passes the checks of a new one passes if its id is new
-pub passes_if_new : (facts : Facts) (timestamp : ℕ) (event : Transfer)
-    → number_of (new_transfer_verdict facts timestamp event) ≡ 0
-    → not (is_some (transfer_with facts event.id)) ≡ (number_of (transfer_verdict facts timestamp event) == 0)
-passes_if_new facts timestamp event ok = by (transfer_with facts event.id)
-  where
-    by : (found : Option Transfer) → not (is_some found)
-        ≡ (number_of (first_row (event_checks event) (against_id facts timestamp found event)) == 0)
-    by None = sym (ap (λ n. n == 0) ok)
-    by (Some stored) = sym (eqb-false _ 0 (stored_fails facts timestamp stored event))
 
 -- ---- a plain or pending transfer
 
@@ -159,7 +131,7 @@ resolves_nothing (Some pending) event plain = ap (λ b. if b then resolved_trans
 
 -- a plain or pending transfer whose checks find nothing is between two accounts
 stands_between : (facts : Facts) (timestamp : ℕ) (event : Transfer)
-    → number_of (new_transfer_verdict facts timestamp event) ≡ 0 → is_resolving event ≡ false
+    → number_of (new_id_verdict facts timestamp event) ≡ 0 → is_resolving event ≡ false
     → IsBetween facts timestamp event
 stands_between facts timestamp event ok plain =
     is_between facts timestamp event
@@ -168,7 +140,7 @@ stands_between facts timestamp event ok plain =
 
 -- so that each has an index
 pub has_debit : (facts : Facts) (timestamp : ℕ) (event : Transfer)
-    → number_of (new_transfer_verdict facts timestamp event) ≡ 0 → is_resolving event ≡ false →
+    → number_of (new_id_verdict facts timestamp event) ≡ 0 → is_resolving event ≡ false →
     (index : Option ℕ) → index ≡ None → IsIndexOf facts event.debit_account_id index → ⊥
 has_debit facts timestamp event ok plain None is none = let there =
     (stands_between facts timestamp event ok plain).debit_there in cc
@@ -176,7 +148,7 @@ has_debit facts timestamp event ok plain (Some index) is at = cc
 
 -- when it expires can be written down
 pub fits : (facts : Facts) (timestamp : ℕ) (event : Transfer) → timestamp ≤ clock_max
-    → number_of (new_transfer_verdict facts timestamp event) ≡ 0 → is_resolving event ≡ false
+    → number_of (new_id_verdict facts timestamp event) ≡ 0 → is_resolving event ≡ false
     → expires_at (record event { timestamp = timestamp }) < 2 ^ 64
 fits facts timestamp event clock ok plain =
     omega (
@@ -186,7 +158,7 @@ fits facts timestamp event clock ok plain =
     )
 
 pub may_add : (facts : Facts) (timestamp : ℕ) (event : Transfer) → timestamp ≤ clock_max
-    → number_of (new_transfer_verdict facts timestamp event) ≡ 0 → is_resolving event ≡ false
+    → number_of (new_id_verdict facts timestamp event) ≡ 0 → is_resolving event ≡ false
     → transfer_with facts event.id ≡ None →
     MayAdd facts (stored_transfer facts timestamp event)
 may_add facts timestamp event clock ok plain new =
@@ -287,7 +259,7 @@ stored_id facts timestamp event = by (transfer_with facts event.pending_id) (is_
     by (Some pending) false is = ap (λ b. (if b then resolved_transfer pending event else event).id) is
 
 pub may_resolve : (facts : Facts) (timestamp : ℕ) (event : Transfer)
-    → number_of (new_transfer_verdict facts timestamp event) ≡ 0 → is_resolving event ≡ true
+    → number_of (new_id_verdict facts timestamp event) ≡ 0 → is_resolving event ≡ true
     → MayResolve facts (stored_transfer facts timestamp event)
 may_resolve facts timestamp event ok resolves =
     let id = fine facts timestamp event ok in

@@ -1,6 +1,6 @@
 -- Words of the functions that take a packet's chains one by one.
 use Rattle.std.specs.Prelude.{◌≢◌, ◌<◌, ℕ, suc, Bool, List, [], ◌∷◌, ◌++◌, length, Option, Some, None, if◌then◌else◌}
-use Rattle.tb_tables.specs.Facts.{Facts}
+use Rattle.tb_tables.specs.Facts.{Facts, transfer_with}
 use Rattle.tb_machine.specs.declared.fault.ChainFault.{ChainFault}
 use Rattle.tb_machine.specs.Chain.{Operation, Results, clock_after}
 use Rattle.tb_machine.specs.inside.Faults.{closed_results, first_fault}
@@ -41,11 +41,11 @@ event_results operation clock facts event =
 abbrev pub then_results : Results → Results → Results
 then_results first next = record { results = first.results ++ next.results; facts = next.facts }
 
--- ---- the verdict on an event, if its id is new
-
+-- the verdict on an event, if no account has its id
 abbrev pub new_account_verdict : Account → AccountCode
 new_account_verdict event = first_row (account.event_checks event) (account.against_id None event)
 
-abbrev pub new_transfer_verdict : Facts → ℕ → Transfer → TransferCode
-new_transfer_verdict facts timestamp event =
-    first_row (transfer.event_checks event) (transfer.new_id_verdict facts timestamp event)
+-- the verdict on a transfer that passes the checks of any event
+abbrev pub transfer_id_verdict : Facts → ℕ → Transfer → TransferCode
+transfer_id_verdict facts timestamp event =
+    transfer.against_id facts timestamp (transfer_with facts event.id) event

@@ -1,7 +1,9 @@
 //! The checks of an event that asks for an account, in their order.
 
-ghost use Rattle.std.specs.Prelude.{◌≡◌, None};
+ghost use Rattle.std.specs.Prelude.{◌≡◌, ◌≢◌, None, MatchOption};
+ghost use Rattle.tb_layout.specs.declared.account_code.AccountCode.{AccountCode as Code};
 ghost use Rattle.tb_layout.specs.declared.account_code.AccountCode.TheVariants.{Exists, Ok};
+ghost use Rattle.tb_layout.specs.AccountCode.{number_of};
 ghost use Rattle.tb_machine.specs.AccountVerdict as spec;
 ghost use Rattle.tb_machine.specs.Checks.{first_row};
 ghost use Rattle.tb_machine.specs.Examining.{new_account_verdict as new_verdict_of};
@@ -11,7 +13,8 @@ use tb_tables::Tables;
 
 /// Returns how an event differs from the stored account that has its id, or that it doesn't.
 fn compare_with_stored(stored: &Account, event: &Account) -> AccountCode
-    ensures { result ≡ first_row (spec.stored_checks stored.now event.now) Exists }
+    ensures first { result ≡ first_row (spec.stored_checks stored.now event.now) Exists }
+    ensures not_ok { number_of result ≢ 0 }
 {
     if event.flags != stored.flags {
         return AccountCode::ExistsWithDifferentFlags;
@@ -63,30 +66,30 @@ fn check_new_id(event: &Account) -> AccountCode
     AccountCode::Ok
 }
 
-/// Returns the first check that an event fails, or Ok; `found` is the account with its id, if there is one.
+/// Returns the first check that any event fails, if it fails one. It decides alone, whatever is stored.
 #[inline(always)]
-fn verdict_given(found: Option<Account>, event: &Account) -> AccountCode
-    ensures { result ≡ first_row (spec.event_checks event.now) (spec.against_id found event.now) }
+fn account_fault(event: &Account) -> Option<AccountCode>
+    ensures rest { MatchOption result
+        ((rest : Code) → first_row (spec.event_checks event.now) rest ≡ rest)
+        (λ code. (rest : Code) → first_row (spec.event_checks event.now) rest ≡ code) }
+    ensures not_ok { MatchOption result Unit (λ code. number_of code ≢ 0) }
 {
     if event.timestamp != 0 {
-        return AccountCode::TimestampMustBeZero;
+        return Some(AccountCode::TimestampMustBeZero);
     }
     if event.reserved != 0 {
-        return AccountCode::ReservedField;
+        return Some(AccountCode::ReservedField);
     }
     if event.has_reserved_flag() {
-        return AccountCode::ReservedFlag;
+        return Some(AccountCode::ReservedFlag);
     }
     if event.id == 0 {
-        return AccountCode::IdMustNotBeZero;
+        return Some(AccountCode::IdMustNotBeZero);
     }
     if event.id == u128::MAX {
-        return AccountCode::IdMustNotBeIntMax;
+        return Some(AccountCode::IdMustNotBeIntMax);
     }
-    match found {
-        Some(stored) => compare_with_stored(&stored, event),
-        None => check_new_id(event),
-    }
+    None
 }
 
 /// Returns the first check that the event fails if no account has its id, or Ok.
@@ -94,13 +97,23 @@ fn verdict_given(found: Option<Account>, event: &Account) -> AccountCode
 pub(crate) fn new_account_verdict(event: &Account) -> AccountCode
     ensures { result ≡ new_verdict_of event.now }
 {
-    verdict_given(None, event)
+    match account_fault(event) {
+        Some(code) => code,
+        None => check_new_id(event),
+    }
 }
 
-/// Returns the first check that the event fails, or Ok.
+/// Returns the first check that the event fails, or Ok. Only an event that passes the checks of any event is looked up.
 #[inline(never)]
 pub(crate) fn account_verdict(tables: &Tables, event: &Account) -> AccountCode
-    ensures { result ≡ spec.account_verdict tables.now.now event.now }
+    ensures first { result ≡ spec.account_verdict tables.now.now event.now }
+    ensures ok { number_of result ≡ 0 → number_of (new_verdict_of event.now) ≡ 0 }
 {
-    verdict_given(tables.account(event.id), event)
+    if let Some(code) = account_fault(event) {
+        return code;
+    }
+    match tables.account(event.id) {
+        Some(stored) => compare_with_stored(&stored, event),
+        None => check_new_id(event),
+    }
 }

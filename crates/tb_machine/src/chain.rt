@@ -16,6 +16,9 @@ pub(crate) struct ChainStart {
 
     /// The index of its first event in the packet.
     pub(crate) index: usize,
+
+    /// Whether a look-up ahead found the id of its first event. No result depends on it.
+    pub(crate) seems_stored: bool,
 }
 
 impl ChainStart {
@@ -30,6 +33,7 @@ impl ChainStart {
         ChainStart {
             clock: clock_after(self.clock, count),
             index: self.index + count,
+            seems_stored: false,
         }
     }
 }

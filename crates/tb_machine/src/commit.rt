@@ -29,7 +29,12 @@ const CACHED_ACCOUNTS: usize = 1 << 13;
 /// Stores the event, at the timestamp after the clock, if its checks find nothing, and returns the number of its
 /// result. An event for which the clock can't be raised isn't checked.
 #[inline(always)]
-fn examine_at<E: CreateEvent>(clock: u64, tables: &mut Tables, event: E) -> Result<u32, NoMemory>
+fn examine_at<E: CreateEvent>(
+    clock: u64,
+    seems_stored: bool,
+    tables: &mut Tables,
+    event: E,
+) -> Result<u32, NoMemory>
     requires { clock ≤ clock_max }
     ensures extends { Extends tables.old tables.new }
     ensures code { IfOk result (λ code. code ≡ verdict_at E.operation tables.old.now
@@ -39,7 +44,7 @@ fn examine_at<E: CreateEvent>(clock: u64, tables: &mut Tables, event: E) -> Resu
     ensures same { result ≢ Ok 0 → tables.new ≡ tables.old }
 {
     match next_timestamp(clock) {
-        Some(timestamp) => event.examine(tables, timestamp),
+        Some(timestamp) => event.examine(tables, timestamp, seems_stored),
         None => Ok(CLOCK_EXHAUSTED),
     }
 }
@@ -60,7 +65,7 @@ fn examine_all<'a, E: CreateEvent>(
 {
     let mut clock = clock;
     for (index, chunk) in chunks.iter().enumerate() {
-        let code = examine_at(clock, tables, E::read(chunk))?;
+        let code = examine_at(clock, false, tables, E::read(chunk))?;
         if code != 0 {
             return Ok(Some(ChainFault {
                 index,
@@ -123,9 +128,9 @@ fn commit_event<E: CreateEvent>(
     ensures len { vec_len out.new ≤ vec_len out.old + 1 }
     ensures capacity { vec_capacity out.new ≡ vec_capacity out.old }
 {
-    let code = examine_at(start.clock, tables, E::read(chunk))?;
+    let code = examine_at(start.clock, start.seems_stored, tables, E::read(chunk))?;
     if code != 0 {
-        E::read(chunk).remember(tables, code)?;
+        E::read(chunk).remember_checked(tables, code)?;
         out.push_reserved(Failure {
             index: start.index as u32,
             code,
@@ -258,6 +263,19 @@ fn commit_first<E: CreateEvent>(
     Ok(count)
 }
 
+/// Returns how many of the first events have a timestamp.
+#[inline(never)]
+fn count_with_timestamp<E: CreateEvent>(chunks: &[[u8; 128]]) -> usize
+    ensures { result ≤ length chunks.now }
+{
+    for (index, chunk) in chunks.iter().enumerate() {
+        if !E::read(chunk).has_timestamp() {
+            return index;
+        }
+    }
+    chunks.len()
+}
+
 /// Looks ids up until one is stored; how many aren't.
 #[inline(never)]
 fn count_new<E: CreateEvent>(tables: &Tables, chunks: &[[u8; 128]]) -> usize
@@ -265,6 +283,19 @@ fn count_new<E: CreateEvent>(tables: &Tables, chunks: &[[u8; 128]]) -> usize
 {
     for (index, chunk) in chunks.iter().enumerate() {
         if E::read(chunk).is_stored(tables) {
+            return index;
+        }
+    }
+    chunks.len()
+}
+
+/// Looks ids up until one isn't stored; how many are.
+#[inline(never)]
+fn count_stored<E: CreateEvent>(tables: &Tables, chunks: &[[u8; 128]]) -> usize
+    ensures { result ≤ length chunks.now }
+{
+    for (index, chunk) in chunks.iter().enumerate() {
+        if !E::read(chunk).is_stored(tables) {
             return index;
         }
     }
@@ -284,20 +315,51 @@ fn count_with_accounts<E: CreateEvent>(tables: &Tables, chunks: &[[u8; 128]]) ->
     chunks.len()
 }
 
+/// How far was looked ahead: over events whose ids are new, or that fail their first check, and then over some that are
+/// stored.
+#[derive(Clone, Copy)]
+struct Ahead {
+    /// The index after the first ones.
+    new: usize,
+
+    /// The index after those that are stored.
+    stored: usize,
+}
+
 /// Looks up the ids of the events after the one at `index`, so that memory is asked for all of them at once: with one
-/// look-up at a time each would wait. If there are many accounts it looks up those too. Returns the index of the first
-/// event that wasn't looked up whole.
-fn look_ahead<E: CreateEvent>(tables: &Tables, chunks: &[[u8; 128]], index: usize) -> usize
+/// look-up at a time each would wait. If there are many accounts it looks up those of new events too. Events with a
+/// timestamp fail without a look-up: if some are first it goes no further.
+fn look_ahead<E: CreateEvent>(tables: &Tables, chunks: &[[u8; 128]], index: usize) -> Ahead
     requires { index < length chunks.now }
 {
     let end = chunks.len().min(index.saturating_add(BLOCK));
     let next = index + 1;
     let block = &chunks[next..end];
-    let new = count_new::<E>(tables, block);
-    if tables.accounts() > CACHED_ACCOUNTS {
-        next + count_with_accounts::<E>(tables, &block[..new])
+    let faulty = if block.is_empty() {
+        0
     } else {
-        next + new
+        count_with_timestamp::<E>(block)
+    };
+    if faulty > 0 || block.is_empty() {
+        return Ahead {
+            new: next + faulty,
+            stored: next + faulty,
+        };
+    }
+    let ids = count_new::<E>(tables, block);
+    let new = if tables.accounts() > CACHED_ACCOUNTS {
+        count_with_accounts::<E>(tables, &block[..ids])
+    } else {
+        ids
+    };
+    let stored = if new < ids || ids == block.len() {
+        0
+    } else {
+        1 + count_stored::<E>(tables, &block[ids + 1..])
+    };
+    Ahead {
+        new: next + new,
+        stored: next + new + stored,
     }
 }
 
@@ -320,13 +382,25 @@ pub(crate) fn commit_chains<E: CreateEvent>(
         ≡ failures_from 0 (events_results E.operation clock tables.old.now (map E.event_of chunks.now)).results) }
     ensures capacity { vec_capacity out.new ≡ vec_capacity out.old }
 {
-    let mut start = ChainStart { clock, index: 0 };
-    let mut ahead = 0;
+    let mut start = ChainStart {
+        clock,
+        index: 0,
+        seems_stored: false,
+    };
+    let mut ahead = Ahead { new: 0, stored: 0 };
     while start.index < chunks.len() {
-        if start.index >= ahead {
-            ahead = look_ahead::<E>(tables, chunks, start.index);
+        let mut seems_stored = false;
+        if start.index >= ahead.new {
+            seems_stored = start.index < ahead.stored;
+            if !seems_stored {
+                ahead = look_ahead::<E>(tables, chunks, start.index);
+            }
         }
-        let count = commit_first::<E>(start, tables, &chunks[start.index..], out)?;
+        let first = ChainStart {
+            seems_stored,
+            ..start
+        };
+        let count = commit_first::<E>(first, tables, &chunks[start.index..], out)?;
         start = start.next(count);
     }
     Ok(())

@@ -1,15 +1,19 @@
 //! What the two operations that change the facts make of their events.
 
-ghost use Rattle.std.specs.Prelude.{◌≡◌, ◌≢◌, ◌≤◌, ◌==◌, ◌&&◌, ◌||◌, ℕ, Bool, List, Ok, IfOk, is_some, not, true};
+ghost use Rattle.std.specs.Prelude.{◌≡◌, ◌≢◌, ◌≤◌, ◌&&◌, ◌||◌, ℕ, Bool, List, Option, Ok, IfOk, OnOk, is_some, not, true, false};
 ghost use Rattle.tb_layout.specs.Account.{account_of};
 ghost use Rattle.tb_layout.specs.Transfer.{transfer_of, is_resolving as is_resolving_event};
 ghost use Rattle.tb_layout.specs.TransferCode.{number_of};
-ghost use Rattle.tb_tables.specs.Facts.{Facts, account_with, add_transfer, transfer_with};
+ghost use Rattle.tb_tables.specs.Facts.{Facts, account_with, add_transfer, is_failed, transfer_with};
 ghost use Rattle.tb_tables.specs.History.{with_change, Extends};
+ghost use Rattle.tb_tables.specs.Conditions.{MayResolve};
+ghost use Rattle.tb_tables.specs.inside.Indices.{IsIndexOfTransfer};
 ghost use Rattle.tb_layout.specs.Limits.{clock_max};
 ghost use Rattle.tb_machine.specs.Chain.{Operation};
-ghost use Rattle.tb_machine.specs.TransferVerdict.{stored_transfer, transfer_verdict as verdict_of};
-ghost use Rattle.tb_machine.specs.Examining.{new_transfer_verdict as new_verdict_of};
+ghost use Rattle.tb_machine.specs.Checks.{differ};
+ghost use Rattle.tb_machine.specs.inside.Faults.{verdict_at};
+ghost use Rattle.tb_machine.specs.TransferVerdict.{stored_transfer, new_id_verdict};
+ghost use Rattle.tb_machine.specs.Examining.{transfer_id_verdict};
 ghost use Rattle.tb_machine.specs.Prefetch.{IsTarget};
 ghost use Rattle.tb_machine.specs.declared.prefetch.Target.TheVariants.{Between, Named};
 ghost use Rattle.tb_machine.specs.Operations as spec;
@@ -17,7 +21,9 @@ ghost use Rattle.tb_machine.specs.Operations as spec;
 use crate::account_verdict::{account_verdict, new_account_verdict};
 use crate::prefetch::{Sides, Target};
 use crate::resolved::is_resolving;
-use crate::transfer_verdict::{new_resolving, new_transfer_verdict, transfer_verdict};
+use crate::transfer_verdict::{
+    new_moving_verdict, new_resolving, stored_transfer_verdict, transfer_fault,
+};
 use tb_layout::{
     Account, NoMemory, Transfer, TransferCode, is_chunk_linked, read_account, read_transfer,
 };
@@ -28,6 +34,8 @@ pub(crate) trait CreateEvent: Copy {
     ghost event_of: { List ℕ → Self };
 
     ghost operation: { Operation Self };
+
+    ghost has_timestamp: { Self → Bool };
 
     ghost is_stored: { Facts → Self → Bool };
 
@@ -41,6 +49,10 @@ pub(crate) trait CreateEvent: Copy {
     fn is_chunk_linked(chunk: &[u8; 128]) -> bool
         ensures { result ≡ operation.is_linked (event_of chunk.now) };
 
+    /// Returns whether the event has a timestamp: it then fails its first check, whatever is stored.
+    fn has_timestamp(&self) -> bool
+        ensures { result ≡ has_timestamp self.now };
+
     /// Returns whether an event with the id of this one is stored.
     fn is_stored(&self, tables: &Tables) -> bool
         ensures { result ≡ is_stored tables.now.now self.now };
@@ -49,8 +61,14 @@ pub(crate) trait CreateEvent: Copy {
     fn has_accounts(&self, tables: &Tables) -> bool
         ensures { result ≡ has_accounts tables.now.now self.now };
 
-    /// Stores the event with this timestamp if its checks find nothing, and returns the number of its result.
-    fn examine(&self, tables: &mut Tables, timestamp: u64) -> Result<u32, NoMemory>
+    /// Stores the event with this timestamp if its checks find nothing, and returns the number of its result. It is the
+    /// same whether the id seems stored or not: a transfer's id that does is looked up first, and costs less if it is.
+    fn examine(
+        &self,
+        tables: &mut Tables,
+        timestamp: u64,
+        seems_stored: bool,
+    ) -> Result<u32, NoMemory>
         requires { timestamp ≤ clock_max }
         ensures code { IfOk result (λ code. code ≡ operation.verdict tables.old.now timestamp self.now) }
         ensures stored { result ≡ Ok 0 → tables.new ≡ with_change tables.old
@@ -61,12 +79,21 @@ pub(crate) trait CreateEvent: Copy {
     fn remember(&self, tables: &mut Tables, code: u32) -> Result<(), NoMemory>
         ensures facts { IfOk result (λ _. tables.new.now ≡ operation.remembered tables.old.now code self.now) }
         ensures extends { Extends tables.old tables.new };
+
+    /// Does the same if the event's checks found this code on the facts as they are. Nothing is looked up that they
+    /// looked up.
+    fn remember_checked(&self, tables: &mut Tables, code: u32) -> Result<(), NoMemory>
+        requires { (timestamp : Option ℕ) × (code ≡ verdict_at operation tables.old.now timestamp self.now) }
+        ensures facts { IfOk result (λ _. tables.new.now ≡ operation.remembered tables.old.now code self.now) }
+        ensures extends { Extends tables.old tables.new };
 }
 
 impl CreateEvent for Account {
     ghost event_of = { account_of };
 
     ghost operation = { spec.accounts_operation };
+
+    ghost has_timestamp = { λ event. differ event.timestamp 0 };
 
     ghost is_stored = { λ facts event. is_some (account_with facts event.id) };
 
@@ -80,6 +107,10 @@ impl CreateEvent for Account {
         is_chunk_linked(chunk)
     }
 
+    fn has_timestamp(&self) -> bool {
+        self.timestamp != 0
+    }
+
     fn is_stored(&self, tables: &Tables) -> bool {
         tables.account_index(self.id).is_some()
     }
@@ -88,7 +119,12 @@ impl CreateEvent for Account {
         true
     }
 
-    fn examine(&self, tables: &mut Tables, timestamp: u64) -> Result<u32, NoMemory> {
+    fn examine(
+        &self,
+        tables: &mut Tables,
+        timestamp: u64,
+        _seems_stored: bool,
+    ) -> Result<u32, NoMemory> {
         let code = new_account_verdict(self).number();
         if code == 0 && tables.add_new_account(self, timestamp)? {
             return Ok(0);
@@ -99,12 +135,18 @@ impl CreateEvent for Account {
     fn remember(&self, _tables: &mut Tables, _code: u32) -> Result<(), NoMemory> {
         Ok(())
     }
+
+    fn remember_checked(&self, _tables: &mut Tables, _code: u32) -> Result<(), NoMemory> {
+        Ok(())
+    }
 }
 
 impl CreateEvent for Transfer {
     ghost event_of = { transfer_of };
 
     ghost operation = { spec.transfers_operation };
+
+    ghost has_timestamp = { λ event. differ event.timestamp 0 };
 
     ghost is_stored = { λ facts event. is_some (transfer_with facts event.id) };
 
@@ -120,6 +162,10 @@ impl CreateEvent for Transfer {
         is_chunk_linked(chunk)
     }
 
+    fn has_timestamp(&self) -> bool {
+        self.timestamp != 0
+    }
+
     fn is_stored(&self, tables: &Tables) -> bool {
         tables.transfer_index(self.id).is_some()
     }
@@ -130,7 +176,20 @@ impl CreateEvent for Transfer {
                 && tables.account_index(self.credit_account_id).is_some()
     }
 
-    fn examine(&self, tables: &mut Tables, timestamp: u64) -> Result<u32, NoMemory> {
+    fn examine(
+        &self,
+        tables: &mut Tables,
+        timestamp: u64,
+        seems_stored: bool,
+    ) -> Result<u32, NoMemory> {
+        if let Some(code) = transfer_fault(self) {
+            return Ok(code.number());
+        }
+        if seems_stored {
+            if let Some(code) = stored_transfer_verdict(tables, self) {
+                return Ok(code.number());
+            }
+        }
         match Target::of(tables, self) {
             Target::Between(sides) => examine_moving(tables, sides, timestamp, self),
             Target::Named(pending) => examine_resolving(tables, pending, timestamp, self),
@@ -139,10 +198,28 @@ impl CreateEvent for Transfer {
 
     fn remember(&self, tables: &mut Tables, code: u32) -> Result<(), NoMemory> {
         if is_transient(code) && !tables.failed(self.id) {
-            tables.add_failed(self.id)?;
+            add_failed(tables, self.id)?;
         }
         Ok(())
     }
+
+    #[inline(never)]
+    fn remember_checked(&self, tables: &mut Tables, code: u32) -> Result<(), NoMemory> {
+        if is_transient(code) {
+            add_failed(tables, self.id)?;
+        }
+        Ok(())
+    }
+}
+
+/// Adds an id to those that failed. Few events fail so, and what others cost is less if this isn't part of it.
+#[inline(never)]
+fn add_failed(tables: &mut Tables, id: u128) -> Result<(), NoMemory>
+    requires { is_failed tables.old.now id ≡ false }
+    ensures facts { OnOk result (tables.new.now ≡ spec.with_failed tables.old.now id) }
+    ensures extends { Extends tables.old tables.new }
+{
+    tables.add_failed(id)
 }
 
 /// Returns whether the same event could find no fault later: an account or a pending transfer wasn't there, or a limit
@@ -168,7 +245,7 @@ fn store_new(
 ) -> Result<bool, NoMemory>
     requires target { IsTarget tables.old.now event.now (Between sides) }
     requires clock { timestamp ≤ clock_max }
-    requires ok { number_of (new_verdict_of tables.old.now timestamp event.now) ≡ 0 }
+    requires ok { number_of (new_id_verdict tables.old.now timestamp event.now) ≡ 0 }
     ensures new { IfOk result (λ added. added ≡ not (is_some (transfer_with tables.old.now event.now.id))) }
     ensures added { result ≡ Ok true → tables.new
         ≡ with_change tables.old (add_transfer tables.old.now
@@ -184,8 +261,8 @@ fn store_new(
     tables.add_new_between(event, timestamp, debit, credit)
 }
 
-/// Stores a plain or pending transfer if its checks find nothing, and returns the number of its result. Its id is
-/// looked up only as it is stored: most are new. Only an event whose id is there is checked again.
+/// Stores a plain or pending transfer that passes the checks of any event, if its other checks find nothing, and
+/// returns the number of its result. Its id is looked up only as it is stored: most are new.
 #[inline(always)]
 fn examine_moving(
     tables: &mut Tables,
@@ -195,46 +272,41 @@ fn examine_moving(
 ) -> Result<u32, NoMemory>
     requires target { IsTarget tables.old.now event.now (Between sides) }
     requires clock { timestamp ≤ clock_max }
-    ensures code { IfOk result (λ code. code ≡ number_of (verdict_of tables.old.now timestamp event.now)) }
+    ensures code { IfOk result (λ code. code
+        ≡ number_of (transfer_id_verdict tables.old.now timestamp event.now)) }
     ensures stored { result ≡ Ok 0 → tables.new ≡ with_change tables.old
         (add_transfer tables.old.now (stored_transfer tables.old.now timestamp event.now)) }
     ensures same { result ≢ Ok 0 → tables.new ≡ tables.old }
 {
-    let code = new_transfer_verdict(tables, Target::Between(sides), timestamp, event).number();
-    if code == 0 {
-        if store_new(tables, sides, timestamp, event)? {
-            return Ok(0);
-        }
-    } else if !event.is_stored(tables) {
-        return Ok(code);
+    let code = new_moving_verdict(tables, sides, timestamp, event);
+    if code.number() == 0 && store_new(tables, sides, timestamp, event)? {
+        return Ok(0);
     }
-    Ok(transfer_verdict(tables, Target::Between(sides), timestamp, event).number())
+    let code = stored_transfer_verdict(tables, event).unwrap_or(code);
+    Ok(code.number())
 }
 
-/// Stores a post or a void, with its fields resolved, if its checks find nothing; whether it is stored. Its id is
-/// looked up where it is stored, as that of a plain or pending transfer, and the transfer that it names is read once.
+/// Stores a post or a void, with its fields resolved, if its id is new; whether it is. The id is looked up as it is
+/// stored, as that of a plain or pending transfer.
 #[inline(always)]
 fn store_resolved(
     tables: &mut Tables,
     pending: Option<usize>,
-    timestamp: u64,
-    event: &Transfer,
+    transfer: &Transfer,
 ) -> Result<bool, NoMemory>
-    requires { IsTarget tables.old.now event.now (Named pending) }
-    ensures passes { IfOk result (λ passes. passes
-        ≡ (number_of (verdict_of tables.old.now timestamp event.now) == 0)) }
-    ensures stored { result ≡ Ok true → tables.new ≡ with_change tables.old
-        (add_transfer tables.old.now (stored_transfer tables.old.now timestamp event.now)) }
+    requires at { IsIndexOfTransfer tables.old.now transfer.now.pending_id pending }
+    requires may { MayResolve tables.old.now transfer.now }
+    ensures new { IfOk result (λ added. added ≡ not (is_some (transfer_with tables.old.now transfer.now.id))) }
+    ensures added { result ≡ Ok true → tables.new
+        ≡ with_change tables.old (add_transfer tables.old.now transfer.now) }
     ensures same { result ≢ Ok true → tables.new ≡ tables.old }
 {
-    let Some(transfer) = new_resolving(tables, pending, timestamp, event) else {
-        return Ok(false);
-    };
     let Some(index) = pending else { unreachable!() };
-    tables.resolve_new_at(&transfer, index)
+    tables.resolve_new_at(transfer, index)
 }
 
-/// Stores a post or a void if its checks find nothing, and returns the number of its result.
+/// Stores a post or a void that passes the checks of any event, if its other checks find nothing, and returns the
+/// number of its result. The transfer that it names is read once.
 #[inline(never)]
 fn examine_resolving(
     tables: &mut Tables,
@@ -243,13 +315,22 @@ fn examine_resolving(
     event: &Transfer,
 ) -> Result<u32, NoMemory>
     requires { IsTarget tables.old.now event.now (Named pending) }
-    ensures code { IfOk result (λ code. code ≡ number_of (verdict_of tables.old.now timestamp event.now)) }
+    ensures code { IfOk result (λ code. code
+        ≡ number_of (transfer_id_verdict tables.old.now timestamp event.now)) }
     ensures stored { result ≡ Ok 0 → tables.new ≡ with_change tables.old
         (add_transfer tables.old.now (stored_transfer tables.old.now timestamp event.now)) }
     ensures same { result ≢ Ok 0 → tables.new ≡ tables.old }
 {
-    if store_resolved(tables, pending, timestamp, event)? {
+    let transfer = match new_resolving(tables, pending, timestamp, event) {
+        Ok(transfer) => transfer,
+        Err(fault) => {
+            let code = stored_transfer_verdict(tables, event).unwrap_or(fault);
+            return Ok(code.number());
+        }
+    };
+    if store_resolved(tables, pending, &transfer)? {
         return Ok(0);
     }
-    Ok(transfer_verdict(tables, Target::Named(pending), timestamp, event).number())
+    let code = stored_transfer_verdict(tables, event).unwrap_or(TransferCode::Ok);
+    Ok(code.number())
 }

@@ -72,25 +72,13 @@ pub(crate) fn resolved(pending: &Transfer, event: &Transfer) -> Transfer
     }
 }
 
-/// Returns a post or a void with its fields resolved against the transfer with an id. It is passed by value, so that a
-/// transfer that is neither isn't put into memory for it.
-fn resolved_against(tables: &Tables, pending_id: u128, event: Transfer) -> Transfer
-    requires { is_resolving_event event ≡ true }
-    ensures { result ≡ spec.resolved_transfer_of (transfer_with tables.now.now pending_id) event }
-{
-    match tables.transfer(pending_id) {
-        Some(pending) => resolved(&pending, &event),
-        None => event,
-    }
-}
-
-/// Returns an event with its fields resolved against the transfer with an id, if it is a post or a void.
-pub(crate) fn resolved_by(tables: &Tables, pending_id: u128, event: &Transfer) -> Transfer
+/// Returns a post or a void with its fields resolved against the transfer with an id.
+pub(crate) fn resolved_against(tables: &Tables, pending_id: u128, event: &Transfer) -> Transfer
+    requires { is_resolving_event event.now ≡ true }
     ensures { result ≡ spec.resolved_transfer_of (transfer_with tables.now.now pending_id) event.now }
 {
-    if is_resolving(event) {
-        resolved_against(tables, pending_id, *event)
-    } else {
-        *event
+    match tables.transfer(pending_id) {
+        Some(pending) => resolved(&pending, event),
+        None => *event,
     }
 }

@@ -137,20 +137,3 @@ pub(crate) fn resolve(
         Err(code)
     }
 }
-
-/// Returns the first check that a post or a void fails, or Ok.
-#[inline(never)]
-pub(crate) fn resolving_verdict(
-    tables: &Tables,
-    pending: Option<usize>,
-    timestamp: u64,
-    event: &Transfer,
-) -> TransferCode
-    requires { IsTarget tables.now.now event.now (Named pending) }
-    ensures { result ≡ spec.resolving_verdict tables.now.now timestamp event.now }
-{
-    match resolve(tables, pending, timestamp, event) {
-        Ok(_) => TransferCode::Ok,
-        Err(code) => code,
-    }
-}

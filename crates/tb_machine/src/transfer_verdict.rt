@@ -1,28 +1,30 @@
 //! The checks of an event that asks for a transfer, in their order.
 
-ghost use Rattle.std.specs.Prelude.{◌≡◌, ◌≢◌, ℕ, Some, None, IfNone, IfSome, MatchOption};
+ghost use Rattle.std.specs.Prelude.{◌≡◌, ◌≢◌, ℕ, Some, None, IfNone, IfSome, IfOk, OnOk, IfErr, MatchOption, true};
+ghost use Rattle.tb_layout.specs.Transfer.{is_resolving as is_resolving_event};
 ghost use Rattle.tb_layout.specs.declared.transfer_code.TransferCode.{TransferCode as Code};
 ghost use Rattle.tb_layout.specs.declared.transfer_code.TransferCode.TheVariants.{Exists};
 ghost use Rattle.tb_layout.specs.TransferCode.{number_of};
 ghost use Rattle.tb_tables.specs.inside.Indices.{IsIndexOfTransfer};
 ghost use Rattle.tb_tables.specs.Facts.{transfer_with};
 ghost use Rattle.tb_machine.specs.TransferVerdict as spec;
-ghost use Rattle.tb_machine.specs.Examining.{new_transfer_verdict as new_verdict_of};
+ghost use Rattle.tb_machine.specs.Examining.{transfer_id_verdict};
 ghost use Rattle.tb_machine.specs.Checks.{first_row};
 ghost use Rattle.tb_machine.specs.Prefetch.{IsTarget};
-ghost use Rattle.tb_machine.specs.declared.prefetch.Target.TheVariants.{Named};
+ghost use Rattle.tb_machine.specs.declared.prefetch.Target.TheVariants.{Between, Named};
 
 use crate::moving_verdict::moving_verdict;
-use crate::prefetch::Target;
-use crate::resolved::resolved_by;
-use crate::resolving_verdict::{resolve, resolving_verdict};
+use crate::prefetch::Sides;
+use crate::resolved::{is_resolving, resolved_against};
+use crate::resolving_verdict::resolve;
 use tb_layout::{Transfer, TransferCode};
 use tb_tables::Tables;
 
 /// Returns how an event, with its fields resolved, differs from the stored transfer that has its id, or that it
 /// doesn't.
 fn compare_with_stored(stored: &Transfer, event: &Transfer) -> TransferCode
-    ensures { result ≡ first_row (spec.stored_checks stored.now event.now) Exists }
+    ensures first { result ≡ first_row (spec.stored_checks stored.now event.now) Exists }
+    ensures not_ok { number_of result ≢ 0 }
 {
     if event.flags != stored.flags {
         return TransferCode::ExistsWithDifferentFlags;
@@ -60,17 +62,50 @@ fn compare_with_stored(stored: &Transfer, event: &Transfer) -> TransferCode
     TransferCode::Exists
 }
 
-/// Returns how an event differs from the transfer at an index, which has its id, or that it doesn't.
+/// Returns how a post or a void, with its fields resolved, differs from the transfer at an index, which has its id, or
+/// that it doesn't.
 #[inline(never)]
-fn compare_with_stored_at(tables: &Tables, index: usize, event: &Transfer) -> TransferCode
-    requires { IsIndexOfTransfer tables.now.now event.now.id (Some index) }
-    ensures { (timestamp : ℕ) → result ≡ spec.against_id tables.now.now timestamp
-        (transfer_with tables.now.now event.now.id) event.now }
+fn compare_resolved_at(tables: &Tables, index: usize, event: &Transfer) -> TransferCode
+    requires at { IsIndexOfTransfer tables.now.now event.now.id (Some index) }
+    requires resolves { is_resolving_event event.now ≡ true }
+    ensures code { (timestamp : ℕ) → result ≡ transfer_id_verdict tables.now.now timestamp event.now }
+    ensures not_ok { number_of result ≢ 0 }
 {
     let Some(stored) = tables.transfer_at(index) else {
         unreachable!()
     };
-    compare_with_stored(&stored, &resolved_by(tables, stored.pending_id, event))
+    let resolved = resolved_against(tables, stored.pending_id, event);
+    compare_with_stored(&stored, &resolved)
+}
+
+/// Returns how an event that passes the checks of any event differs from the transfer at an index, which has its id, or
+/// that it doesn't.
+#[inline(never)]
+fn compare_with_stored_at(tables: &Tables, index: usize, event: &Transfer) -> TransferCode
+    requires { IsIndexOfTransfer tables.now.now event.now.id (Some index) }
+    ensures code { (timestamp : ℕ) → result ≡ transfer_id_verdict tables.now.now timestamp event.now }
+    ensures not_ok { number_of result ≢ 0 }
+{
+    if is_resolving(event) {
+        return compare_resolved_at(tables, index, event);
+    }
+    let Some(stored) = tables.transfer_at(index) else {
+        unreachable!()
+    };
+    compare_with_stored(&stored, event)
+}
+
+/// Returns how an event that passes the checks of any event differs from the transfer with its id, or that it doesn't,
+/// if there is one.
+#[inline(always)]
+pub(crate) fn stored_transfer_verdict(tables: &Tables, event: &Transfer) -> Option<TransferCode>
+    ensures new { IfNone result (transfer_with tables.now.now event.now.id ≡ None) }
+    ensures stored { IfSome result (λ code. (timestamp : ℕ)
+        → code ≡ transfer_id_verdict tables.now.now timestamp event.now) }
+    ensures not_ok { IfSome result (λ code. number_of code ≢ 0) }
+{
+    let index = tables.transfer_index(event.id)?;
+    Some(compare_with_stored_at(tables, index, event))
 }
 
 /// Returns whether more than one of pending, post and void is set.
@@ -82,9 +117,9 @@ fn has_exclusive_flags(event: &Transfer) -> bool
         || event.is_post() && event.is_void()
 }
 
-/// Returns the first check that any event fails, if it fails one.
+/// Returns the first check that any event fails, if it fails one. It decides alone, whatever is stored.
 #[inline(always)]
-fn event_fault(event: &Transfer) -> Option<TransferCode>
+pub(crate) fn transfer_fault(event: &Transfer) -> Option<TransferCode>
     ensures rest { MatchOption result
         ((rest : Code) → first_row (spec.event_checks event.now) rest ≡ rest)
         (λ code. (rest : Code) → first_row (spec.event_checks event.now) rest ≡ code) }
@@ -122,75 +157,41 @@ fn new_id_fault(tables: &Tables, event: &Transfer) -> Option<TransferCode>
     None
 }
 
-/// Returns the first check that an event fails whose id is that of no transfer, or Ok. The accounts, or the pending
-/// transfer, were looked up before.
+/// Returns the first check that a plain or pending transfer fails, or Ok, if its id is that of no transfer and it passes
+/// the checks of any event. Its accounts were looked up before.
 #[inline(always)]
-fn check_new_id(tables: &Tables, target: Target, timestamp: u64, event: &Transfer) -> TransferCode
-    requires { IsTarget tables.now.now event.now target }
+pub(crate) fn new_moving_verdict(
+    tables: &Tables,
+    sides: Sides,
+    timestamp: u64,
+    event: &Transfer,
+) -> TransferCode
+    requires { IsTarget tables.now.now event.now (Between sides) }
     ensures { result ≡ spec.new_id_verdict tables.now.now timestamp event.now }
 {
     if let Some(code) = new_id_fault(tables, event) {
         return code;
     }
-    match target {
-        Target::Between(sides) => moving_verdict(tables, sides, timestamp, event),
-        Target::Named(pending) => resolving_verdict(tables, pending, timestamp, event),
-    }
+    moving_verdict(tables, sides, timestamp, event)
 }
 
-/// Returns the first check that the event fails if no transfer has its id, or Ok.
-#[inline(always)]
-pub(crate) fn new_transfer_verdict(
-    tables: &Tables,
-    target: Target,
-    timestamp: u64,
-    event: &Transfer,
-) -> TransferCode
-    requires { IsTarget tables.now.now event.now target }
-    ensures { result ≡ new_verdict_of tables.now.now timestamp event.now }
-{
-    if let Some(code) = event_fault(event) {
-        return code;
-    }
-    check_new_id(tables, target, timestamp, event)
-}
-
-/// Returns a post or a void as it is stored, if it passes its checks, apart from those against a transfer with its id.
+/// Returns a post or a void as it is stored, or the first check that it fails, if its id is that of no transfer. It
+/// passes the checks of any event.
 #[inline(always)]
 pub(crate) fn new_resolving(
     tables: &Tables,
     pending: Option<usize>,
     timestamp: u64,
     event: &Transfer,
-) -> Option<Transfer>
+) -> Result<Transfer, TransferCode>
     requires { IsTarget tables.now.now event.now (Named pending) }
-    ensures stored { IfSome result (λ transfer. transfer ≡ spec.stored_transfer tables.now.now timestamp event.now) }
-    ensures ok { IfSome result (λ _. number_of (new_verdict_of tables.now.now timestamp event.now) ≡ 0) }
-    ensures faulty { IfNone result (number_of (new_verdict_of tables.now.now timestamp event.now) ≢ 0) }
+    ensures ok { OnOk result (number_of (spec.new_id_verdict tables.now.now timestamp event.now) ≡ 0) }
+    ensures stored { IfOk result (λ transfer. transfer ≡ spec.stored_transfer tables.now.now timestamp event.now) }
+    ensures faulty { IfErr result (λ code. code ≡ spec.new_id_verdict tables.now.now timestamp event.now) }
+    ensures not_ok { IfErr result (λ code. number_of code ≢ 0) }
 {
-    if event_fault(event).is_some() || new_id_fault(tables, event).is_some() {
-        return None;
+    if let Some(code) = new_id_fault(tables, event) {
+        return Err(code);
     }
-    resolve(tables, pending, timestamp, event).ok()
-}
-
-/// Returns the first check that the event fails, or Ok.
-#[inline(never)]
-pub(crate) fn transfer_verdict(
-    tables: &Tables,
-    target: Target,
-    timestamp: u64,
-    event: &Transfer,
-) -> TransferCode
-    requires { IsTarget tables.now.now event.now target }
-    ensures { result ≡ spec.transfer_verdict tables.now.now timestamp event.now }
-{
-    let found = tables.transfer_index(event.id);
-    if let Some(code) = event_fault(event) {
-        return code;
-    }
-    match found {
-        Some(index) => compare_with_stored_at(tables, index, event),
-        None => check_new_id(tables, target, timestamp, event),
-    }
+    resolve(tables, pending, timestamp, event)
 }

@@ -1,6 +1,19 @@
--- Found by the prover itself; on file since the check of an edit then costs less.
-use Rattle.std.proofs.Common.{rules}
+use Rattle.std.proofs.Common.{sym, ap, ◌∙◌}
+use Rattle.tb_layout.specs.declared.transfer_code.TransferCode.TheVariants.{Exists}
+use Rattle.tb_tables.specs.Facts.{transfer_with}
+use Rattle.tb_machine.specs.Checks.{first_row}
+use Rattle.tb_machine.specs.TransferVerdict.{against_id, stored_checks}
+use Rattle.tb_machine.proofs.StoredEvents.{resolves_nothing}
 use Rattle.tb_machine.proofs.transfer_verdict.compare_with_stored_at.Goals as goal
 
-pub returns : goal.returns
-returns c = search rules
+pub returns-clause-code : goal.returns-clause-code
+returns-clause-code c = λ timestamp.
+    let facts = c.args.tables.now.now in
+    let event = c.args.event.now in
+    let stored = c.in-Some.stored in
+    let there = c.requires.2 ∙ sym c.requires.1 ∙ sym c.transfer_at.ensures ∙ c.in-Some.is in
+    let plain = sym c.is_resolving.ensures ∙ c.if-is_resolving.false in
+    c.compare_with_stored.ensures.first
+    ∙ ap (λ e. first_row (stored_checks stored e) Exists)
+    (sym (resolves_nothing (transfer_with facts stored.pending_id) event plain))
+    ∙ ap (λ found. against_id facts timestamp found event) (sym there)

@@ -1,0 +1,60 @@
+-- A transient code is only that of an event whose id isn't among those that failed.
+use Rattle.std.proofs.Common.{refl, ◌≡◌, ℕ, Bool, true, false, not, List, [], ◌∷◌, Option, Some, None}
+use Rattle.std.specs.Prelude.{◌&&◌, if◌then◌else◌}
+use Rattle.std.specs.List.{list_all}
+use Rattle.tb_layout.specs.declared.transfer.Transfer.{Transfer}
+use Rattle.tb_layout.specs.declared.transfer_code.TransferCode.{TransferCode}
+use Rattle.tb_layout.specs.declared.transfer_code.TransferCode.TheVariants.{Exists, IdAlreadyFailed, FlagsAreMutuallyExclusive}
+use Rattle.tb_layout.specs.TransferCode.{number_of}
+use Rattle.tb_layout.specs.Transfer.{is_resolving}
+use Rattle.tb_tables.specs.Facts.{Facts, transfer_with, is_failed}
+use Rattle.tb_machine.specs.Checks.{first_row}
+use Rattle.tb_machine.specs.Operations.{is_transient, transfers_operation}
+use Rattle.tb_machine.specs.TransferVerdict.{event_checks, stored_checks, against_id, new_id_verdict, resolving_verdict, moving_verdict, resolved_transfer_of, has_exclusive_flags}
+use Rattle.tb_machine.specs.inside.Faults.{verdict_at}
+
+-- no code of the table is transient
+abbrev lasts : List (Bool × TransferCode) → Bool
+lasts checks = list_all (λ (check : Bool × TransferCode). not (is_transient (number_of check.1))) checks
+
+-- so a transient code comes after it
+after : (checks : List (Bool × TransferCode)) (otherwise : TransferCode) → lasts checks ≡ true
+    → is_transient (number_of (first_row checks otherwise)) ≡ true → is_transient (number_of otherwise) ≡ true
+after [] otherwise all is = is
+after ((applies, code) ∷ checks) otherwise all is =
+    by applies (is_transient (number_of code)) refl all is (after checks otherwise)
+  where
+    by : (b transient : Bool) → is_transient (number_of code) ≡ transient → (not transient && lasts checks) ≡ true
+        → is_transient (number_of (if b then code else first_row checks otherwise)) ≡ true
+        → (lasts checks ≡ true → is_transient (number_of (first_row checks otherwise)) ≡ true
+        → is_transient (number_of otherwise) ≡ true)
+        → is_transient (number_of otherwise) ≡ true
+    by b true it all is rest = cc
+    by true false it all is rest = cc
+    by false false it all is rest = rest all is
+
+new_id : (facts : Facts) (timestamp : ℕ) (event : Transfer)
+    → is_transient (number_of (new_id_verdict facts timestamp event)) ≡ true → is_failed facts event.id ≡ false
+new_id facts timestamp event is = by (is_failed facts event.id) is
+  where
+    by : (failed : Bool) → is_transient (number_of (if failed then IdAlreadyFailed
+        else if has_exclusive_flags event then FlagsAreMutuallyExclusive
+        else if is_resolving event then resolving_verdict facts timestamp event
+        else moving_verdict facts timestamp event)) ≡ true → failed ≡ false
+    by true is = cc
+    by false is = refl
+
+pub transient_is_new : (facts : Facts) (timestamp : Option ℕ) (event : Transfer)
+    → is_transient (verdict_at transfers_operation facts timestamp event) ≡ true → is_failed facts event.id ≡ false
+transient_is_new facts None event is = cc
+transient_is_new facts (Some timestamp) event is =
+    by (transfer_with facts event.id)
+    (after (event_checks event) (against_id facts timestamp (transfer_with facts event.id) event) refl is)
+  where
+    by : (found : Option Transfer) → is_transient (number_of (against_id facts timestamp found event)) ≡ true
+        → is_failed facts event.id ≡ false
+    by None is = new_id facts timestamp event is
+    by (Some stored) is =
+        let kept = resolved_transfer_of (transfer_with facts stored.pending_id) event in
+        let e : false ≡ true = after (stored_checks stored kept) Exists refl is in
+        cc
