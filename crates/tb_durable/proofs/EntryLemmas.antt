@@ -1,18 +1,19 @@
 -- Rows of entries, and their columns.
 use Rattle.std.proofs.Common.{◌≡◌, ◌+◌, ◌<◌, ◌≤◌, ◌%◌, ℕ, pos, List, [], ◌∷◌, ◌++◌, refl, sym, ap, subst, ◌∙◌, arith, length, length-append, map, inl, inr, Some}
-use Rattle.std.specs.Prelude.{IsSome}
+use Rattle.std.specs.Prelude.{IsSome, OnOk, Result, Ok, Err}
 use Rattle.std.specs.Option.{is_some}
 use Rattle.std.specs.List.{flat_map}
 use Rattle.sqlite_value.specs.declared.value.Value.TheVariants.{Int}
-use Rattle.sqlite_value.specs.Order.{Row, bytes, column}
+use Rattle.sqlite_value.specs.Order.{Row, bytes}
 use Rattle.sqlite_trees.specs.Tree.{rowid}
 use Rattle.tb_layout.specs.inside.Limits.{moment_max}
+use Rattle.tb_work.specs.Packet.{Numbered}
 use Rattle.tb_work.specs.Job.{stub_of}
 use Rattle.tb_batch.specs.Batch.{IsLawful, body_of, operation_of}
 use Rattle.tb_durable.specs.declared.counts.PacketCounts.{PacketCounts}
 use Rattle.tb_durable.specs.Counts.{counted_all}
 use Rattle.tb_durable.specs.Entries.{AreColumnsOf, AreEntryRows, IsBatchRow, IsEntryRow, IsPulseRow}
-use Rattle.tb_durable.specs.Rows.{HasColumns, group_in, stubs_bytes, stubs_in, whole_number}
+use Rattle.tb_durable.specs.Rows.{HasColumns, group_in, jobs_row, pulse_row, stubs_bytes, stubs_in, whole_number}
 use Rattle.tb_durable.proofs.Cutting.{Kind, OfAccounts, OfIds, OfTransfers, kind_of_batch, not_zero}
 use Rattle.tb_durable.proofs.StubLemmas.{counted_in_range, stubs_read, stubs_whole}
 
@@ -24,30 +25,28 @@ below_256 operation OfTransfers = omega arith
 below_256 operation OfIds = omega arith
 
 pub entry_place : (place : ℕ) (before after : PacketCounts) (row : Row) → IsEntryRow place before row after → rowid row ≡ Int (pos place)
-entry_place place before after row (inl batch) = ap rowid batch.is
-entry_place place before after row (inr pulse) = ap rowid pulse.0.is
+entry_place place before after row (inl batch) = batch.at
+entry_place place before after row (inr pulse) = pulse.0.at
 
 module _ (place : ℕ) (before after : PacketCounts) (row : Row) (operation moment : ℕ) (stubs body : List ℕ)
     (has : HasColumns row operation moment stubs body) where
   module _ (batch : IsBatchRow place before row after) where
+    same_stubs : stubs ≡ batch.stubs
+    same_stubs = sym (ap bytes has.has_stubs) ∙ ap bytes batch.has.has_stubs
+
     -- the columns of a batch's row are those of its packets
     pub batch_columns : AreColumnsOf batch.jobs operation stubs body
     batch_columns =
-        let jobs = batch.jobs in
-        let same : operation ≡ operation_of jobs = sym (ap whole_number has.has_operation) ∙ ap (λ r. whole_number (column r 2)) batch.is in
-        let laid : stubs ≡ stubs_bytes (map stub_of jobs) = sym (ap bytes has.has_stubs) ∙ ap (λ r. bytes (column r 4)) batch.is in
+        let same : operation ≡ batch.operation = sym (ap whole_number has.has_operation) ∙ ap whole_number batch.has.has_operation in
         record {
-          lawful = subst (λ o. IsLawful o jobs) (sym same) batch.lawful;
-          whole = ap (λ all. length all % 16) laid ∙ stubs_whole (map stub_of jobs);
-          own_stubs = ap stubs_in laid
-              ∙ stubs_read (map stub_of jobs) (counted_in_range before after jobs batch.lawful.all_admitted batch.follow);
-          own_body = sym (ap bytes has.has_body) ∙ ap (λ r. bytes (column r 5)) batch.is;
+          lawful = subst (λ o. IsLawful o batch.jobs) (sym same) batch.are.lawful;
+          whole = ap (λ all. length all % 16) same_stubs ∙ batch.are.whole;
+          own_stubs = ap stubs_in same_stubs ∙ batch.are.own_stubs;
+          own_body = sym (ap bytes has.has_body) ∙ ap bytes batch.has.has_body ∙ batch.are.own_body;
         }
 
     pub is_no_pulse : operation ≡ 0 → ⊥
-    is_no_pulse zero =
-        let columns = batch_columns in
-        not_zero operation (kind_of_batch operation batch.jobs columns.lawful) zero
+    is_no_pulse zero = not_zero operation (kind_of_batch operation batch.jobs batch_columns.lawful) zero
 
     pub small_operation : operation < 256
     small_operation = below_256 operation (kind_of_batch operation batch.jobs batch_columns.lawful)
@@ -62,32 +61,84 @@ module _ (place : ℕ) (before after : PacketCounts) (row : Row) (operation mome
 
   module _ (pulse : IsPulseRow place row) where
     pub is_no_batch : operation ≡ 0
-    is_no_batch = sym (ap whole_number has.has_operation) ∙ ap (λ r. whole_number (column r 2)) pulse.is
+    is_no_batch = sym (ap whole_number has.has_operation) ∙ ap whole_number pulse.has.has_operation
 
     pub low_moment : moment ≤ moment_max
     low_moment =
-        subst (λ m. m ≤ moment_max)
-        (sym (sym (ap whole_number has.has_moment) ∙ ap (λ r. whole_number (column r 3)) pulse.is)) pulse.low
+        subst (λ m. m ≤ moment_max) (sym (sym (ap whole_number has.has_moment) ∙ ap whole_number pulse.has.has_moment)) pulse.low
 
 -- a row of an entry has the columns of one
 pub entry_columns : (place : ℕ) (before after : PacketCounts) (row : Row) → IsEntryRow place before row after
     → ((operation moment : ℕ) (stubs body : List ℕ) → HasColumns row operation moment stubs body → ⊥) → ⊥
-entry_columns place before after row (inl batch) none =
-    none (operation_of batch.jobs) 0 (stubs_bytes (map stub_of batch.jobs)) (body_of batch.jobs)
-    (record {
-      has_operation = ap (λ r. column r 2) batch.is;
-      has_moment = ap (λ r. column r 3) batch.is;
-      has_stubs = ap (λ r. column r 4) batch.is;
-      has_body = ap (λ r. column r 5) batch.is;
-    })
-entry_columns place before after row (inr pulse) none =
-    none 0 pulse.0.moment [] []
-    (record {
-      has_operation = ap (λ r. column r 2) pulse.0.is;
-      has_moment = ap (λ r. column r 3) pulse.0.is;
-      has_stubs = ap (λ r. column r 4) pulse.0.is;
-      has_body = ap (λ r. column r 5) pulse.0.is;
-    })
+entry_columns place before after row (inl batch) none = none batch.operation batch.moment batch.stubs batch.body batch.has
+entry_columns place before after row (inr pulse) none = none 0 pulse.0.moment pulse.0.stubs pulse.0.body pulse.0.has
+
+-- the row that is written of a batch
+pub batch_row_is : (place : ℕ) (before after : PacketCounts) (jobs : List Numbered) → IsLawful (operation_of jobs) jobs
+    → counted_all before (map stub_of jobs) ≡ Some after → IsBatchRow place before (jobs_row place jobs) after
+batch_row_is place before after jobs lawful follow = record {
+  operation = operation_of jobs;
+  moment = 0;
+  stubs = stubs_bytes (map stub_of jobs);
+  body = body_of jobs;
+  jobs = jobs;
+  at = refl;
+  has = record { has_operation = refl; has_moment = refl; has_stubs = refl; has_body = refl };
+  are = record {
+    lawful = lawful;
+    whole = stubs_whole (map stub_of jobs);
+    own_stubs = stubs_read (map stub_of jobs) (counted_in_range before after jobs lawful.all_admitted follow);
+    own_body = refl;
+  };
+  follow = follow;
+}
+
+-- and that of a pulse
+pub pulse_row_is : (place moment : ℕ) → moment ≤ moment_max → IsPulseRow place (pulse_row place moment)
+pulse_row_is place moment low = record {
+  moment = moment;
+  stubs = [];
+  body = [];
+  at = refl;
+  has = record { has_operation = refl; has_moment = refl; has_stubs = refl; has_body = refl };
+  low = low;
+}
+
+-- ---- a row that was accepted
+
+pub both_ok : {T E P Q R : Type 0} (r : Result T E) → (P → Q → R) → OnOk r P → OnOk r Q → OnOk r R
+both_ok (Ok x) f p q = f p q
+both_ok (Err e) f p q = tt
+
+module _ (place : ℕ) (row : Row) (operation moment : ℕ) (stubs body : List ℕ) (has : HasColumns row operation moment stubs body)
+    (at : rowid row ≡ Int (pos place)) where
+  pub batch_accepted : (before after : PacketCounts) → (jobs : List Numbered) × AreColumnsOf jobs operation stubs body
+      → counted_all before (stubs_in stubs) ≡ Some after → IsEntryRow place before row after
+  batch_accepted before after are follow = inl (record {
+    operation = operation;
+    moment = moment;
+    stubs = stubs;
+    body = body;
+    jobs = are.0;
+    at = at;
+    has = has;
+    are = are.1;
+    follow = ap (counted_all before) (sym are.1.own_stubs) ∙ follow;
+  })
+
+  pub pulse_accepted : (before after : PacketCounts) → operation ≡ 0 → moment ≤ moment_max → after ≡ before
+      → IsEntryRow place before row after
+  pulse_accepted before after zero low same = inr (
+    record {
+      moment = moment;
+      stubs = stubs;
+      body = body;
+      at = at;
+      has = subst (λ o. HasColumns row o moment stubs body) zero has;
+      low = low;
+    },
+    same,
+  )
 
 -- ---- rows in order
 

@@ -1,5 +1,5 @@
 -- A ledger's file, read row by row and with one row more.
-use Rattle.std.proofs.Common.{◌≡◌, ◌⊎◌, inl, inr, Some, ◌<◌, ◌≤◌, ◌+◌, ◌^◌, ℕ, pos, true, false, List, [], ◌∷◌, ◌++◌, refl, sym, ap, subst, ◌∙◌, arith, length, map}
+use Rattle.std.proofs.Common.{◌≡◌, ◌⊎◌, inl, inr, Some, ◌<◌, ◌≤◌, ◌+◌, ℕ, pos, true, false, List, [], ◌∷◌, ◌++◌, refl, sym, ap, subst, ◌∙◌, arith, length, map}
 use Rattle.std.specs.List.{flat_map}
 use Rattle.sqlite_value.specs.declared.value.Value.TheVariants.{Int}
 use Rattle.sqlite_value.specs.Order.{Row}
@@ -17,33 +17,47 @@ use Rattle.tb_durable.specs.declared.fault.OpenFault.TheVariants as fault
 use Rattle.tb_durable.specs.declared.settings.Settings.{Settings}
 use Rattle.tb_durable.specs.Counts.{counted_all, no_packets}
 use Rattle.tb_durable.specs.Durable.{Adds, AddsGroup, IsAdded, IsFirst, IsJournal, IsReading, IsSettled, IsStored, opened_rows}
-use Rattle.tb_durable.specs.Entries.{AreEntryRows, CanBeOpened, HasEntries, IsEntryRow, IsFailure, IsFirstRow, IsHalfway, IsLedgerFile}
-use Rattle.tb_durable.specs.Rows.{group_in, jobs_row, pulse_row, settings_row}
+use Rattle.tb_durable.specs.Entries.{AreEntryRows, CanBeOpened, HasEntries, HasReadFile, IsEntryRow, IsFailure, IsFirstRow, IsHalfway, IsLedgerFile}
+use Rattle.tb_durable.specs.Rows.{group_in, jobs_row, pulse_row, settings_row, settings_stub, stub_bytes}
 use Rattle.tb_durable.proofs.Cutting.{operation_is}
-use Rattle.tb_durable.proofs.EntryLemmas.{entry_place, rows_push}
+use Rattle.tb_durable.proofs.EntryLemmas.{batch_row_is, entry_place, pulse_row_is, rows_push}
 use Rattle.tb_durable.proofs.Journals.{added_last, left_last, more_places, new_journal, one_more}
-use Rattle.tb_durable.proofs.StoreLemmas.{left_is, reads_one}
+use Rattle.tb_durable.proofs.StoreLemmas.{left_is, reads_all, reads_one}
+use Rattle.tb_durable.proofs.StubLemmas.{stub_length}
 
 pub no_memory_fails : (error : OpenFault) → error ≡ fault.NoMemory → IsFailure error
 no_memory_fails error is = subst IsFailure (sym is) tt
 
 -- ---- the first row
 
--- these are settings of the types that a caller gives
-pub record AreSettings (settings : Settings) : Type 0 where
-  pub clock : settings.clock ≤ clock_max
-  pub limit : settings.limit < 2 ^ 32
-  pub submitters : settings.submitters < 2 ^ 32
+pub is_first_row : (settings : Settings) → settings.clock ≤ clock_max → IsFirstRow (settings_row settings)
+is_first_row settings low = record {
+  clock = settings.clock;
+  stubs = stub_bytes (settings_stub settings);
+  at = refl;
+  version = refl;
+  starts = refl;
+  low = low;
+  has_stubs = refl;
+  long = omega (arith, stub_length (settings_stub settings));
+}
 
-pub is_first_row : (settings : Settings) → AreSettings settings → IsFirstRow (settings_row settings)
-is_first_row settings are =
-    record { settings = settings; is = refl; clock = are.clock; limit = are.limit; submitters = are.submitters }
+first_of : List Row → Row
+first_of [] = []
+first_of (row ∷ rows) = row
+
+-- the settings that were written are read
+pub written_first : (view : View) (row : Row) (settings : Settings) → settings.clock ≤ clock_max → IsReading view (row ∷ [])
+    → view.committed 0 ≡ settings_row settings ∷ [] → IsFirstRow row
+unfolding first_of
+written_first view row settings low reading rows =
+    subst IsFirstRow (ap first_of (sym rows ∙ reading.all)) (is_first_row settings low)
 
 -- the rows that opening finds are a file's, too
-pub opened_file : (settings : Settings) (rows : List Row) (counts : PacketCounts) → AreSettings settings
+pub opened_file : (settings : Settings) (rows : List Row) (counts : PacketCounts) → settings.clock ≤ clock_max
     → IsLedgerFile rows counts → IsLedgerFile (opened_rows settings rows) counts
-opened_file settings [] counts are is = (is_first_row settings are, is)
-opened_file settings (row ∷ rows) counts are is = is
+opened_file settings [] counts low is = (is_first_row settings low, is)
+opened_file settings (row ∷ rows) counts low is = is
 
 module _ (view : View) (row : Row) (counts : PacketCounts) (reading : IsReading view (row ∷ []))
     (file : IsLedgerFile (view.committed 0) counts) where
@@ -139,19 +153,45 @@ stored_file old new row bare before after at_rest journal file entry adds =
     (sym (added_last old row bare at_rest journal (entry_place bare.places before after row entry) new adds))
     (file_push (old.committed 0) bare before after row journal file entry)
 
+-- ---- rows that were accepted
+
+-- a first row that was read is a file
+pub first_file : (view : View) (row : Row) (clock : ℕ) (bare : BareLedgerState) → IsReading view (row ∷ []) → IsFirst row clock
+    → IsFirstRow row → bare ≡ new_bare_ledger clock → HasReadFile view bare no_packets
+first_file view row clock bare reading first is new = record {
+  read = row ∷ [];
+  reading = reading;
+  journal = new_journal row clock bare first new;
+  file = (is, refl);
+}
+
+-- with one entry more it still is one
+pub read_file_on : (old new : View) (bare grown : BareLedgerState) (before after : PacketCounts) (row : Row)
+    → HasReadFile old bare before → Advances old new 0 row true → IsEntryRow bare.places before row after
+    → AddsGroup bare grown (group_in row) → 0 < length (group_in row) → HasReadFile new grown after
+read_file_on old new bare grown before after row has next entry adds some = record {
+  read = has.read ++ row ∷ [];
+  reading = reads_one old new has.read has.reading row next;
+  journal = one_more has.read row bare grown has.journal adds some (entry_place bare.places before after row entry);
+  file = file_push has.read bare before after row has.journal has.file entry;
+}
+
+-- all rows were read
+pub whole_file : (old new : View) (bare : BareLedgerState) (counts : PacketCounts) (row : Row) → HasReadFile old bare counts
+    → Advances old new 0 row false → IsLedgerFile (new.committed 0) counts
+whole_file old new bare counts row has next =
+    subst (λ rows. IsLedgerFile rows counts) (sym (reads_all old new has.read has.reading row next).1) has.file
+
 -- ---- the row of a parcel
 
 pub batch_entry : (place : ℕ) (before after : PacketCounts) (parts : Parts) → AreParts parts
     → counted_all before parts.stubs.items ≡ Some after → IsEntryRow place before (jobs_row place parts.jobs.items) after
 batch_entry place before after parts are counted =
     let jobs = parts.jobs.items in
-    inl (record {
-      jobs = jobs;
-      is = refl;
-      lawful = subst (λ o. IsLawful o jobs) (sym (operation_is parts.operation jobs are.lawful)) are.lawful;
-      follow = ap (counted_all before) (sym are.stubs) ∙ counted;
-    })
+    inl (batch_row_is place before after jobs
+    (subst (λ o. IsLawful o jobs) (sym (operation_is parts.operation jobs are.lawful)) are.lawful)
+    (ap (counted_all before) (sym are.stubs) ∙ counted))
 
 pub pulse_entry : (place moment : ℕ) (counts : PacketCounts) → moment ≤ moment_max
     → IsEntryRow place counts (pulse_row place moment) counts
-pulse_entry place moment counts low = inr (record { moment = moment; is = refl; low = low }, refl)
+pulse_entry place moment counts low = inr (pulse_row_is place moment low, refl)

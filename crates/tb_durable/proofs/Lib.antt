@@ -10,3 +10,4 @@ mod StubLemmas
 mod BatchLemmas
 mod EntryLemmas
 mod FileLemmas
+mod Example

@@ -1,36 +1,52 @@
 -- Which rows are entries, and which rows are a ledger's file.
-use Rattle.std.specs.Prelude.{◌≡◌, ◌⊎◌, ◌≤◌, ◌<◌, ◌+◌, ◌%◌, ◌^◌, ℕ, List, [], ◌∷◌, ◌++◌, length, map, false, Some, IsOk}
+use Rattle.std.specs.Prelude.{◌≡◌, ◌⊎◌, ◌≤◌, ◌+◌, ◌%◌, ℕ, pos, negsuc, List, [], ◌∷◌, ◌++◌, length, map, false, Some, IsOk}
 use Rattle.tb_layout.specs.Limits.{clock_max}
 use Rattle.tb_layout.specs.inside.Limits.{batch_max, moment_max}
 use Rattle.tb_work.specs.Admission.{admission_of}
 use Rattle.tb_work.specs.Packet.{Numbered}
 use Rattle.tb_work.specs.Job.{numbered_packet, stub_of}
 use Rattle.tb_work.specs.declared.stub.Stub.{Stub}
-use Rattle.tb_batch.specs.Batch.{IsLawful, body_of, operation_of}
+use Rattle.tb_batch.specs.Batch.{IsLawful, body_of}
 use Rattle.tb_core.specs.BareLedger.{BareLedgerState}
-use Rattle.sqlite_value.specs.Order.{Row}
-use Rattle.sqlite_trees.specs.Tree.{Trees}
+use Rattle.sqlite_value.specs.declared.value.Value.TheVariants.{Int, Blob}
+use Rattle.sqlite_value.specs.Order.{Row, column}
+use Rattle.sqlite_trees.specs.Tree.{Trees, rowid}
 use Rattle.sqlite_trees.specs.View.{View, IsClean}
 use Rattle.tb_durable.specs.declared.counts.PacketCounts.{PacketCounts}
 use Rattle.tb_durable.specs.declared.fault.OpenFault.{OpenFault}
 use Rattle.tb_durable.specs.declared.fault.OpenFault.TheVariants as fault
-use Rattle.tb_durable.specs.declared.settings.Settings.{Settings}
 use Rattle.tb_durable.specs.Counts.{counted_all, no_packets}
 use Rattle.tb_durable.specs.Durable.{IsJournal, IsReading}
-use Rattle.tb_durable.specs.Rows.{group_in, jobs_row, pulse_row, settings_row, stubs_in}
+use Rattle.tb_durable.specs.Rows.{HasColumns, format_version, group_in, stubs_in}
 
 -- ---- rows
 
--- the row of a batch at a place: the packets may share a batch, and follow those that are counted before
+-- columns are those of packets that may share a batch
+pub record AreColumnsOf (jobs : List Numbered) (operation : ℕ) (stubs body : List ℕ) : Type 0 where
+  pub lawful : IsLawful operation jobs
+  pub whole : length stubs % 16 ≡ 0
+  pub own_stubs : stubs_in stubs ≡ map stub_of jobs
+  pub own_body : body ≡ body_of jobs
+
+-- the row of a batch at a place: its packets may share a batch, and follow those that are counted before
 pub record IsBatchRow (place : ℕ) (before : PacketCounts) (row : Row) (after : PacketCounts) : Type 0 where
+  pub operation : ℕ
+  pub moment : ℕ
+  pub stubs : List ℕ
+  pub body : List ℕ
   pub jobs : List Numbered
-  pub is : row ≡ jobs_row place jobs
-  pub lawful : IsLawful (operation_of jobs) jobs
+  pub at : rowid row ≡ Int (pos place)
+  pub has : HasColumns row operation moment stubs body
+  pub are : AreColumnsOf jobs operation stubs body
   pub follow : counted_all before (map stub_of jobs) ≡ Some after
 
+-- the row of a pulse at a place
 pub record IsPulseRow (place : ℕ) (row : Row) : Type 0 where
   pub moment : ℕ
-  pub is : row ≡ pulse_row place moment
+  pub stubs : List ℕ
+  pub body : List ℕ
+  pub at : rowid row ≡ Int (pos place)
+  pub has : HasColumns row 0 moment stubs body
   pub low : moment ≤ moment_max
 
 -- the row of a batch or of a pulse, which counts no packet
@@ -43,13 +59,16 @@ AreEntryRows place before [] after = after ≡ before
 AreEntryRows place before (row ∷ rows) after =
     (middle : PacketCounts) × IsEntryRow place before row middle × AreEntryRows (place + length (group_in row)) middle rows after
 
--- the row of settings that are in range
+-- the row of the settings: this version of the format, a clock in range, and a stub, which has the limit and the submitters
 pub record IsFirstRow (row : Row) : Type 0 where
-  pub settings : Settings
-  pub is : row ≡ settings_row settings
-  pub clock : settings.clock ≤ clock_max
-  pub limit : settings.limit < 2 ^ 32
-  pub submitters : settings.submitters < 2 ^ 32
+  pub clock : ℕ
+  pub stubs : List ℕ
+  pub at : rowid row ≡ Int (negsuc 0)
+  pub version : column row 2 ≡ Int (pos format_version)
+  pub starts : column row 3 ≡ Int (pos clock)
+  pub low : clock ≤ clock_max
+  pub has_stubs : column row 4 ≡ Blob stubs
+  pub long : 16 ≤ length stubs
 
 -- the rows of a ledger's file, with the counts of their packets: none, or the settings and then entries from the place 0 on
 abbrev pub IsLedgerFile : List Row → PacketCounts → Type 0
@@ -85,13 +104,6 @@ pub record BeginsWith (job : Numbered) (more : List ℕ) (operation : ℕ) (stub
   pub own_stub : stub ≡ stub_of job
   pub own_body : body ≡ job.packet.bytes ++ more
 
--- columns are those of packets that may share a batch
-pub record AreColumnsOf (jobs : List Numbered) (operation : ℕ) (stubs body : List ℕ) : Type 0 where
-  pub lawful : IsLawful operation jobs
-  pub whole : length stubs % 16 ≡ 0
-  pub own_stubs : stubs_in stubs ≡ map stub_of jobs
-  pub own_body : body ≡ body_of jobs
-
 -- A ledger has the journal of the rows that a cursor has read, and counted their packets. The rows that are left are entries. With
 -- them the counts are `after`.
 pub record IsHalfway (view : View) (bare : BareLedgerState) (before after : PacketCounts) : Type 0 where
@@ -99,3 +111,10 @@ pub record IsHalfway (view : View) (bare : BareLedgerState) (before after : Pack
   pub reading : IsReading view read
   pub journal : IsJournal read bare
   pub left : AreEntryRows bare.places before reading.left after
+
+-- a ledger has the journal of the rows that a cursor has read, and these are a file's, with the counts of their packets
+pub record HasReadFile (view : View) (bare : BareLedgerState) (counts : PacketCounts) : Type 0 where
+  pub read : List Row
+  pub reading : IsReading view read
+  pub journal : IsJournal read bare
+  pub file : IsLedgerFile read counts

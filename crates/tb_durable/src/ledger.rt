@@ -126,8 +126,7 @@ impl<S: Store + Drop> DurableLedger<S> {
         ensures opens { (counts : Counts) → IsLedgerFile ((S.Store.view store).committed 0) counts
             → IfErr result (λ refused. IsClean (S.Store.view refused.1) → IsFailure refused.0)
             × IfOk result (λ ledger. IsClean (S.Store.view ledger.table.store) → ledger.counts ≡ counts) }
-        ensures entries { IfOk result (λ ledger. (counts : Counts) → IsLedgerFile ((S.Store.view store).committed 0) counts
-            → HasEntries (S.Store.view ledger.table.store) ledger.bare ledger.counts) }
+        ensures entries { IfOk result (λ ledger. HasEntries (S.Store.view ledger.table.store) ledger.bare ledger.counts) }
     {
         let mut table = Table {
             store,

@@ -5,7 +5,7 @@ ghost use Rattle.tb_layout.specs.Limits.{clock_max};
 ghost use Rattle.sqlite_trees.specs.View.{IsClean, doubt};
 ghost use Rattle.tb_durable.specs.Rows.{settings_row};
 ghost use Rattle.tb_durable.specs.Durable.{HasJournal, IsReading, IsReplaying, IsSettled, IsStored, IsJournal, IsFirst, opened_rows};
-ghost use Rattle.tb_durable.specs.Entries.{IsFailure, IsFirstRow, IsHalfway, IsLedgerFile};
+ghost use Rattle.tb_durable.specs.Entries.{HasReadFile, IsFailure, IsFirstRow, IsHalfway, IsLedgerFile};
 ghost use Rattle.tb_durable.specs.Faults.{IsCause, IsFirstFault};
 ghost use Rattle.tb_durable.specs.declared.counts.PacketCounts.{PacketCounts as Counts};
 ghost use Rattle.sqlite_value.specs.Order.{Row};
@@ -27,6 +27,7 @@ fn settings_of(row: &Row) -> Result<Settings, OpenFault>
     ensures clock { IfOk result (λ settings. settings.clock ≤ clock_max) }
     ensures first { IfOk result (λ settings. IsFirst row.now settings.clock) }
     ensures fault { IfErr result (IsFirstFault row.now) }
+    ensures settings { OnOk result (IsFirstRow row.now) }
     ensures opens { IsFirstRow row.now → IsOk result }
 {
     let ValueRef::Int(-1) = row.get(0) else {
@@ -93,6 +94,7 @@ fn read_settings<S: Store>(table: &mut Table<S>, settings: Settings) -> Result<S
     ensures row { OnOk result (IsClean (S.Store.view table.new.store)
         → IsReading (S.Store.view table.new.store) (table.new.row ∷ [])) }
     ensures first { IfOk result (λ read. IsFirst table.new.row read.clock) }
+    ensures settings { OnOk result (IsFirstRow table.new.row) }
     ensures opens { (counts : Counts) → IsLedgerFile ((S.Store.view table.old.store).committed 0) counts
         → IsClean (S.Store.view table.new.store) → IfErr result IsFailure }
     ensures cursor { OnOk result (IsSome ((S.Store.view table.new.store).cursors 0)) }
@@ -122,6 +124,12 @@ fn replay_row<S: Store>(table: &mut Table<S>, replaying: &mut Replaying) -> Resu
         × IsJournal ((S.Store.view table.new.store).committed 0) replaying.new.ledger }
     ensures same { OnOk result (IsClean (S.Store.view table.new.store)
         → (S.Store.view table.new.store).committed ≡ (S.Store.view table.old.store).committed) }
+    ensures entry { result ≡ Ok true → IsClean (S.Store.view table.new.store)
+        → HasReadFile (S.Store.view table.old.store) replaying.old.ledger replaying.old.counts
+        → HasReadFile (S.Store.view table.new.store) replaying.new.ledger replaying.new.counts }
+    ensures file { result ≡ Ok false → IsClean (S.Store.view table.new.store)
+        → HasReadFile (S.Store.view table.old.store) replaying.old.ledger replaying.old.counts
+        → IsLedgerFile ((S.Store.view table.new.store).committed 0) replaying.new.counts }
     ensures opens { (counts : Counts) → IsClean (S.Store.view table.new.store)
         → IsHalfway (S.Store.view table.old.store) replaying.old.ledger replaying.old.counts counts → IfErr result IsFailure }
     ensures onward { (counts : Counts) → result ≡ Ok true → IsClean (S.Store.view table.new.store)
@@ -152,6 +160,9 @@ fn replay_rows<S: Store>(table: &mut Table<S>, replaying: &mut Replaying) -> Res
         → IsReplaying (S.Store.view table.old.store) replaying.old.ledger
         → IsSettled (S.Store.view table.new.store)
         × IsJournal ((S.Store.view table.new.store).committed 0) replaying.new.ledger) }
+    ensures file { OnOk result (IsClean (S.Store.view table.new.store)
+        → HasReadFile (S.Store.view table.old.store) replaying.old.ledger replaying.old.counts
+        → IsLedgerFile ((S.Store.view table.new.store).committed 0) replaying.new.counts) }
     ensures opens { (counts : Counts) → IsClean (S.Store.view table.new.store)
         → IsHalfway (S.Store.view table.old.store) replaying.old.ledger replaying.old.counts counts
         → IfErr result IsFailure × OnOk result (replaying.new.counts ≡ counts) }
@@ -189,6 +200,8 @@ pub(crate) fn read_ledger<S: Store>(
     ensures stored { IfOk result (λ read. IsStored (S.Store.view table.new.store) read.replaying.ledger) }
     ensures goes_on { IfOk result (λ read. read.replaying.ledger.stopped ≡ false) }
     ensures committed { IfOk result (λ read. HasJournal read.replaying.ledger) }
+    ensures file { IfOk result (λ read. IsClean (S.Store.view table.new.store)
+        → IsLedgerFile ((S.Store.view table.new.store).committed 0) read.replaying.counts) }
     ensures opens { (counts : Counts) → IsLedgerFile ((S.Store.view table.old.store).committed 0) counts
         → IsClean (S.Store.view table.new.store)
         → IfErr result IsFailure × IfOk result (λ read. read.replaying.counts ≡ counts) }

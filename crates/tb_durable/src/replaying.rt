@@ -61,7 +61,7 @@ struct BatchColumns<'a> {
 /// Returns how many bytes an event has; None if there is no such operation.
 fn event_size(operation: u8) -> Option<usize>
     ensures size { IfSome result (λ size. size ≡ size_of operation) }
-    ensures bound { IfSome result (λ size. size ≤ 128) }
+    ensures bound { IfSome result (λ size. (0 < size) × (size ≤ 128)) }
     ensures kind { IfSome result (λ size. operation ≢ 0) }
     ensures exact { result ≡ spec.event_size operation }
 {
@@ -79,6 +79,7 @@ fn join(batcher: &mut Batcher, job: Job, fault: OpenFault) -> Result<(), OpenFau
     ensures fault { IfErr result (λ error. (error ≡ NoMemoryFault) ⊎ (error ≡ fault)) }
     ensures joined { OnOk result (batcher.new.jobs ≡ batcher.old.jobs ++ job ∷ []) }
     ensures limit { OnOk result (batcher.new.limit ≡ batcher.old.limit) }
+    ensures joins { OnOk result (is_taken batcher.old.limit batcher.old.jobs job ≡ true) }
     ensures taken { is_taken batcher.old.limit batcher.old.jobs job ≡ true → IfErr result (λ error. error ≡ NoMemoryFault) }
 {
     match batcher.offer(job) {
@@ -99,6 +100,7 @@ fn job_of(alloc: Global, stub: Stub, packet: Packet, fault: OpenFault) -> Result
     ensures fault { IfErr result (λ error. (error ≡ NoMemoryFault) ⊎ (error ≡ fault)) }
     ensures job { IfOk result (λ job. job ≡ numbered_packet stub.submitter stub.number packet) }
     ensures admitted { IsOk (admission_of batch_max packet) → IfErr result (λ error. error ≡ NoMemoryFault) }
+    ensures whole { OnOk result (IsOk (admission_of batch_max packet)) }
 {
     match Job::new(alloc, stub.submitter, stub.number, BATCH_MAX, packet) {
         Ok(job) => Ok(job),
@@ -156,6 +158,7 @@ impl Replaying {
         ensures fault { IfErr result (IsEntryFault self.now.ledger.places) }
         ensures first { IfOk result (λ first. (stubs : List Stub) → batch_packets operation body.now (stub ∷ stubs)
             ≡ input_of first.0 ∷ batch_packets operation first.1.now stubs) }
+        ensures cut { IfOk result (λ first. BeginsWith first.0 first.1.now operation stub body.now) }
         ensures begins { (job : Numbered) (more : List ℕ) → BeginsWith job more operation stub body.now
             → IfErr result (λ error. error ≡ NoMemoryFault) × IfOk result (λ first. (first.0 ≡ without_user job) × (first.1.now ≡ more)) }
     {
@@ -184,6 +187,7 @@ impl Replaying {
         ensures packets { IfOk result (λ batch. map input_of batch
             ≡ batch_packets columns.entry.operation columns.entry.body.now (stubs_in columns.entry.stubs.now)) }
         ensures some { IfOk result (λ batch. 0 < length batch) }
+        ensures are { IfOk result (λ batch. AreColumnsOf batch columns.entry.operation columns.entry.stubs.now columns.entry.body.now) }
         ensures counted { OnOk result (counted_all self.old.counts (stubs_in columns.entry.stubs.now) ≡ Some self.new.counts) }
         ensures opens { (jobs : List Numbered)
             → AreColumnsOf jobs columns.entry.operation columns.entry.stubs.now columns.entry.body.now
@@ -212,6 +216,8 @@ impl Replaying {
         ensures fault { IfErr result (IsEntryFault self.old.ledger.places) }
         ensures group { let group = batch_packets columns.entry.operation columns.entry.body.now (stubs_in columns.entry.stubs.now) in
             OnOk result (AddsGroup self.old.ledger self.new.ledger group × (0 < length group)) }
+        ensures are { OnOk result ((jobs : List Numbered)
+            × AreColumnsOf jobs columns.entry.operation columns.entry.stubs.now columns.entry.body.now) }
         ensures goes_on { OnOk result (self.new.ledger.stopped ≡ false) }
         ensures counted { OnOk result (counted_all self.old.counts (stubs_in columns.entry.stubs.now) ≡ Some self.new.counts) }
         ensures opens { (jobs : List Numbered)
@@ -232,6 +238,7 @@ impl Replaying {
         ensures group { OnOk result (AddsGroup self.old.ledger self.new.ledger (PulseInput nanoseconds ∷ [])) }
         ensures goes_on { OnOk result (self.new.ledger.stopped ≡ false) }
         ensures counts { self.new.counts ≡ self.old.counts }
+        ensures low { OnOk result (nanoseconds ≤ moment_max) }
         ensures opens { nanoseconds ≤ moment_max → IfErr result (λ error. error ≡ NoMemoryFault) }
     {
         if nanoseconds > MOMENT_MAX {
@@ -251,6 +258,7 @@ impl Replaying {
         ensures group { OnOk result (AddsGroup self.old.ledger self.new.ledger (group_in row.now)) }
         ensures some { OnOk result (0 < length (group_in row.now)) }
         ensures goes_on { OnOk result (self.new.ledger.stopped ≡ false) }
+        ensures entry { OnOk result (IsEntryRow self.old.ledger.places self.old.counts row.now self.new.counts) }
         ensures opens { (after : Counts) → IsEntryRow self.old.ledger.places self.old.counts row.now after
             → IfErr result (λ error. error ≡ NoMemoryFault) × OnOk result (self.new.counts ≡ after) }
     {

@@ -220,6 +220,8 @@ pub(crate) fn columns_in(row: &Row) -> Option<EntryColumns<'_>>
 /// Returns the settings in a row of this version of the format; None if the row has none.
 pub(crate) fn settings_in(row: &Row) -> Option<Settings>
     ensures some { IfSome result (λ settings. clock_in row.now ≡ settings.clock) }
+    ensures starts { IfSome result (λ settings. column_of row.now 3 ≡ IntValue (pos settings.clock)) }
+    ensures stubs { IfSome result (λ _. (bytes : List ℕ) × (column_of row.now 4 ≡ BlobValue bytes) × (16 ≤ length bytes)) }
     ensures none { IfNone result (IsFirstRow row.now → ⊥) }
 {
     let clock = number_in(row, 3)?;

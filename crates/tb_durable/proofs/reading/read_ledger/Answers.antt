@@ -2,8 +2,8 @@ use Rattle.std.proofs.Common.{arith, refl, rules, subst, sym, [], ◌∷◌}
 use Rattle.sqlite_trees.specs.View.{IsClean}
 use Rattle.tb_durable.specs.Durable.{HasJournal, opened_rows}
 use Rattle.tb_durable.specs.Faults.{IsCause}
-use Rattle.tb_durable.specs.Entries.{IsFailure, IsHalfway, IsLedgerFile}
-use Rattle.tb_durable.proofs.FileLemmas.{AreSettings, begins_halfway, opened_file}
+use Rattle.tb_durable.specs.Entries.{HasReadFile, IsFailure, IsHalfway, IsLedgerFile}
+use Rattle.tb_durable.proofs.FileLemmas.{begins_halfway, first_file, opened_file}
 use Rattle.tb_durable.proofs.Journals.{new_journal}
 use Rattle.tb_durable.proofs.reading.read_ledger.Goals as goal
 
@@ -41,9 +41,8 @@ pub returns-in_err-replay_rows-clause-opens : goal.returns-in_err-replay_rows-cl
 returns-in_err-replay_rows-clause-opens g c = λ counts file clean.
     let was : IsClean (g.S.Store.view c.read_settings.new.table.store) = omega (arith, c.replay_rows.ensures.clean) in
     let view = g.S.Store.view c.read_settings.new.table.store in
-    let are : AreSettings c.args.settings = record { clock = c.requires; limit = omega arith; submitters = omega arith } in
     let all : IsLedgerFile (view.committed 0) counts = subst (λ rows. IsLedgerFile rows counts) (sym (c.in_ok-settings.ensures.rows was))
-    (opened_file c.args.settings ((g.S.Store.view c.args.table.now.store).committed 0) counts are file) in
+    (opened_file c.args.settings ((g.S.Store.view c.args.table.now.store).committed 0) counts c.requires file) in
     let halfway : IsHalfway view c.with_seed.result c.new.result counts = subst (λ before. IsHalfway view c.with_seed.result before counts)
     (sym c.new.ensures) (begins_halfway view c.read_settings.new.table.row counts (c.in_ok-settings.ensures.row was) all
     c.in_ok-settings.settings.clock c.with_seed.result c.in_ok-settings.ensures.first c.with_seed.ensures.new) in
@@ -54,10 +53,18 @@ pub returns-clause-opens : goal.returns-clause-opens
 returns-clause-opens g c = λ counts file clean.
     let was : IsClean (g.S.Store.view c.read_settings.new.table.store) = omega (arith, c.replay_rows.ensures.clean) in
     let view = g.S.Store.view c.read_settings.new.table.store in
-    let are : AreSettings c.args.settings = record { clock = c.requires; limit = omega arith; submitters = omega arith } in
     let all : IsLedgerFile (view.committed 0) counts = subst (λ rows. IsLedgerFile rows counts) (sym (c.in_ok-settings.ensures.rows was))
-    (opened_file c.args.settings ((g.S.Store.view c.args.table.now.store).committed 0) counts are file) in
+    (opened_file c.args.settings ((g.S.Store.view c.args.table.now.store).committed 0) counts c.requires file) in
     let halfway : IsHalfway view c.with_seed.result c.new.result counts = subst (λ before. IsHalfway view c.with_seed.result before counts)
     (sym c.new.ensures) (begins_halfway view c.read_settings.new.table.row counts (c.in_ok-settings.ensures.row was) all
     c.in_ok-settings.settings.clock c.with_seed.result c.in_ok-settings.ensures.first c.with_seed.ensures.new) in
     (tt, (c.in_ok-replay_rows.ensures.opens counts clean halfway).1)
+
+pub returns-clause-file : goal.returns-clause-file
+returns-clause-file g c = λ clean.
+    let was : IsClean (g.S.Store.view c.read_settings.new.table.store) = omega (arith, c.replay_rows.ensures.clean) in
+    let view = g.S.Store.view c.read_settings.new.table.store in
+    c.in_ok-replay_rows.ensures.file clean
+    (subst (HasReadFile view c.with_seed.result) (sym c.new.ensures) (first_file view c.read_settings.new.table.row
+    c.in_ok-settings.settings.clock c.with_seed.result (c.in_ok-settings.ensures.row was) c.in_ok-settings.ensures.first
+    c.in_ok-settings.ensures.settings c.with_seed.ensures.new))

@@ -1,11 +1,11 @@
-use Rattle.std.proofs.Common.{◌≡◌, rules, subst, ◌++◌, true, [], ◌∷◌}
+use Rattle.std.proofs.Common.{◌≡◌, rules, subst, ◌++◌, true, false, [], ◌∷◌}
 use Rattle.sqlite_trees.specs.View.{Advances}
 use Rattle.tb_durable.specs.Rows.{group_in}
 use Rattle.tb_durable.specs.Faults.{IsCause}
 use Rattle.tb_durable.specs.Entries.{IsFailure}
 use Rattle.tb_durable.specs.declared.fault.OpenFault.TheVariants.{NoMemory}
 use Rattle.tb_durable.proofs.FaultLemmas.{row_fault}
-use Rattle.tb_durable.proofs.FileLemmas.{halfway_on, next_entry, no_memory_fails}
+use Rattle.tb_durable.proofs.FileLemmas.{halfway_on, next_entry, no_memory_fails, read_file_on, whole_file}
 use Rattle.tb_durable.proofs.Journals.{one_more}
 use Rattle.tb_durable.proofs.StoreLemmas.{reads_one}
 use Rattle.tb_durable.proofs.reading.replay_row.Goals as goal
@@ -62,3 +62,23 @@ returns-clause-onward g c = λ counts is clean halfway.
     let entry = next_entry old new before.ledger before.counts counts halfway row next in
     halfway_on old new before.ledger before.counts counts halfway row next c.row.new.self.ledger c.row.new.self.counts
     (c.in_ok-row.ensures.opens entry.0 entry.1).1 c.in_ok-row.ensures.group c.in_ok-row.ensures.some c.in_ok-row.ensures.place
+
+pub returns-clause-entry : goal.returns-clause-entry
+returns-clause-entry g c = λ is clean has.
+    let found : c.in_ok-next.field-0 ≡ true = search rules in
+    let row = c.next.new.self.row in
+    let old = g.S.Store.view c.args.table.now.store in
+    let new = g.S.Store.view c.next.new.self.store in
+    let before = c.args.replaying.now in
+    read_file_on old new before.ledger c.row.new.self.ledger before.counts c.row.new.self.counts row has
+    (subst (Advances old new 0 row) found (c.in_ok-next.ensures.ok clean)) c.in_ok-row.ensures.entry
+    c.in_ok-row.ensures.group c.in_ok-row.ensures.some
+
+pub returns-then-not-branch-clause-file : goal.returns-then-not-branch-clause-file
+returns-then-not-branch-clause-file g c = λ is clean has.
+    let found : c.in_ok-next.field-0 ≡ false = search rules in
+    let row = c.next.new.self.row in
+    let old = g.S.Store.view c.args.table.now.store in
+    let new = g.S.Store.view c.next.new.self.store in
+    whole_file old new c.args.replaying.now.ledger c.args.replaying.now.counts row has
+    (subst (Advances old new 0 row) found (c.in_ok-next.ensures.ok clean))

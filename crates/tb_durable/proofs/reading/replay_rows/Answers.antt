@@ -1,4 +1,4 @@
-use Rattle.std.proofs.Common.{◌≡◌, ap, arith, rules, subst, false, Ok}
+use Rattle.std.proofs.Common.{◌≡◌, ◌∙◌, ap, arith, rules, subst, true, false, Ok}
 use Rattle.sqlite_trees.specs.Tree.{Trees}
 use Rattle.sqlite_trees.specs.View.{IsClean}
 use Rattle.tb_durable.specs.Entries.{IsFailure}
@@ -25,3 +25,33 @@ returns-then-not-branch-clause-opens g c = λ counts clean halfway.
     let was : IsClean (g.S.Store.view c.loop.table.store) = omega (arith, c.replay_row.ensures.clean) in
     let done : c.in_ok-replay_row.field-0 ≡ false = search rules in
     (tt, c.in_ok-replay_row.ensures.counted counts (ap Ok done) clean (c.loop.invariant.halfway counts was halfway))
+
+pub returns-then-not-branch-clause-file : goal.returns-then-not-branch-clause-file
+returns-then-not-branch-clause-file g c = λ clean has.
+    let was : IsClean (g.S.Store.view c.loop.table.store) = omega (arith, c.replay_row.ensures.clean) in
+    let done : c.in_ok-replay_row.field-0 ≡ false = search rules in
+    c.in_ok-replay_row.ensures.file (ap Ok done) clean (c.loop.invariant.file was has)
+
+pub returns-then-not-branch-clause-journal : goal.returns-then-not-branch-clause-journal
+returns-then-not-branch-clause-journal g c = λ clean replaying.
+    let was : IsClean (g.S.Store.view c.loop.table.store) = omega (arith, c.replay_row.ensures.clean) in
+    let done : c.in_ok-replay_row.field-0 ≡ false = search rules in
+    c.in_ok-replay_row.ensures.end (ap Ok done) clean (c.loop.invariant.replaying was replaying)
+
+pub loop-preserved : goal.loop-preserved
+loop-preserved g c =
+    let before = c.loop.invariant in
+    let after = c.in_ok-replay_row.ensures in
+    let more : c.in_ok-replay_row.field-0 ≡ true = search rules in
+    let was : IsClean (g.S.Store.view c.replay_row.new.table.store) → IsClean (g.S.Store.view c.loop.table.store)
+    = λ clean. omega (arith, clean, c.replay_row.ensures.clean) in
+    record {
+      cursor = after.cursor;
+      clean = omega (arith, before.clean, c.replay_row.ensures.clean);
+      same = λ clean. after.same clean ∙ before.same (was clean);
+      replaying = λ clean replaying. after.more (ap Ok more) clean (before.replaying (was clean) replaying);
+      file = λ clean has. after.entry (ap Ok more) clean (before.file (was clean) has);
+      halfway = λ counts clean halfway. after.onward counts (ap Ok more) clean (before.halfway counts (was clean) halfway);
+      committed = λ has. after.committed (before.committed has);
+      goes_on = λ on. after.goes_on (before.goes_on on);
+    }

@@ -2,7 +2,7 @@ use Rattle.std.specs.Prelude.{◌≡◌, ◌≤◌, false, IsSome}
 use Rattle.sqlite_trees.specs.View.{IsClean, doubt}
 use Rattle.tb_durable.specs.declared.counts.PacketCounts.{PacketCounts}
 use Rattle.tb_durable.specs.Durable.{HasJournal, IsReplaying}
-use Rattle.tb_durable.specs.Entries.{IsHalfway}
+use Rattle.tb_durable.specs.Entries.{HasReadFile, IsHalfway}
 use Rattle.tb_durable.proofs.reading.replay_rows.Given as goal
 
 abbrev pub invariant-loop : goal.invariant-loop
@@ -14,6 +14,9 @@ invariant-loop g l = record {
   replaying : IsClean (g.S.Store.view l.table.store)
       → IsReplaying (g.S.Store.view l.fn.table.store) l.fn.replaying.ledger
       → IsReplaying (g.S.Store.view l.table.store) l.replaying.ledger;
+  file : IsClean (g.S.Store.view l.table.store)
+      → HasReadFile (g.S.Store.view l.fn.table.store) l.fn.replaying.ledger l.fn.replaying.counts
+      → HasReadFile (g.S.Store.view l.table.store) l.replaying.ledger l.replaying.counts;
   halfway : (counts : PacketCounts) → IsClean (g.S.Store.view l.table.store)
       → IsHalfway (g.S.Store.view l.fn.table.store) l.fn.replaying.ledger l.fn.replaying.counts counts
       → IsHalfway (g.S.Store.view l.table.store) l.replaying.ledger l.replaying.counts counts;

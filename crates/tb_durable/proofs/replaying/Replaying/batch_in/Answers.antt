@@ -1,13 +1,15 @@
-use Rattle.std.proofs.Common.{◌≡◌, ◌∙◌, ◌+◌, ◌∷◌, [], ◌++◌, rules, sym, ap, subst, map, drop, length, true, false, append_assoc}
+use Rattle.std.proofs.Common.{◌≡◌, ◌%◌, ◌∙◌, ◌+◌, ◌∷◌, [], ◌++◌, rules, sym, ap, subst, map, drop, length, true, false, append_assoc}
 use Rattle.std.specs.Prelude.{◌==◌, IsSome}
-use Rattle.std.proofs.lemmas.List.{drop_all, map-append}
+use Rattle.std.proofs.lemmas.List.{drop_all, map-append, nil_from_length}
+use Rattle.std.proofs.lemmas.Bool.{eqb-true}
 use Rattle.tb_work.specs.Packet.{input_of}
 use Rattle.tb_batch.specs.Grouping.{is_taken}
 use Rattle.tb_core.specs.Ledger.{batch_packets}
 use Rattle.tb_durable.specs.declared.fault.OpenFault.TheVariants.{NoMemory}
 use Rattle.tb_durable.specs.Counts.{counted_all}
+use Rattle.tb_durable.specs.Entries.{AreColumnsOf}
 use Rattle.tb_durable.specs.Rows.{stub_at}
-use Rattle.tb_durable.proofs.BatchLemmas.{begins, next_part, next_taken, none_left, some_held}
+use Rattle.tb_durable.proofs.BatchLemmas.{AreRead, begins, columns_read, next_part, next_taken, none_left, read_more, some_held}
 use Rattle.tb_durable.proofs.StubLemmas.{counted_follows, counted_none, counted_step, stubs_left}
 use Rattle.tb_durable.proofs.replaying.Replaying.batch_in.Goals as goal
 use Rattle.tb_durable.proofs.replaying.Replaying.batch_in.Goals.{in_default-seal-via-in-Some+then-is_empty+else-is_empty-2, in_default-seal-via-in-Some+else-is_empty, in_default-seal-via-in_default-seal}
@@ -71,6 +73,11 @@ loop-chunk-preserved c =
       counted = ap (λ counts. counted_all counts rest) c.in_ok-count.ensures.counted
           ∙ sym (counted_step l.self.counts stub rest c.in_ok-count.ensures.follows)
           ∙ sym (ap (counted_all l.self.counts) left) ∙ before.counted;
+      read = read_more operation (map stub_at chunks) c.args.columns.body.now rest l.body.now l.batcher.jobs stub
+          c.in_ok-job.job c.in_ok-job.after.now c.join.new.batcher.jobs
+          (subst (λ ss. AreRead operation (map stub_at chunks) c.args.columns.body.now ss l.body.now l.batcher.jobs) left before.read)
+          c.in_ok-job.ensures.cut
+          (subst (λ n. is_taken n l.batcher.jobs c.in_ok-job.job ≡ true) before.limit c.in_ok-join.ensures.joins) joined;
       part = λ jobs columns.
           let same = ap (map stub_at) c.as_chunks.ensures.front ∙ columns.own_stubs in
           let part = before.part jobs columns in
@@ -107,3 +114,18 @@ returns-clause-opens c = λ jobs columns follow.
           let none : false ≡ true = w.if-is_empty.ensures ∙ ap (λ n. n == 0) (c.as_chunks.ensures.back_len ∙ columns.whole) in absurd cc
       | in_default-seal-via-in_default-seal w ↦ absurd (some w.in_default-seal.ensures.none)
     ]
+
+pub returns-in-Some-clause-are : goal.returns-in-Some-clause-are
+returns-in-Some-clause-are c =
+    let l = c.loop-chunk in
+    let chunks = c.as_chunks.result.0.now in
+    let operation = c.args.columns.operation in
+    let body = c.args.columns.body.now in
+    let all = subst (λ cs. AreRead operation (map stub_at chunks) body (map stub_at cs) l.body.now l.batcher.jobs)
+    (drop_all l.chunk-index chunks c.loop-chunk-test.false) l.invariant.read in
+    let whole : length c.args.columns.stubs.now % 16 ≡ 0 =
+    sym c.as_chunks.ensures.back_len ∙ eqb-true (length c.as_chunks.result.1.now) 0 (sym c.if-is_empty.ensures) in
+    let none : l.body.now ≡ [] = nil_from_length l.body.now (eqb-true (length l.body.now) 0 (sym c.if-is_empty-2.ensures)) in
+    subst (λ jobs. AreColumnsOf jobs operation c.args.columns.stubs.now body) (sym c.in-Some.ensures.some.0)
+    (columns_read operation c.args.columns.stubs.now body chunks l.batcher.jobs l.body.now all none c.in-Some.ensures.some.1
+    c.as_chunks.ensures.front whole)

@@ -4,7 +4,7 @@ use Rattle.tb_core.specs.Ledger.{batch_packets}
 use Rattle.tb_durable.specs.Counts.{counted_all}
 use Rattle.tb_durable.specs.Entries.{AreColumnsOf}
 use Rattle.tb_durable.specs.Rows.{stub_at}
-use Rattle.tb_durable.proofs.BatchLemmas.{IsPartRead}
+use Rattle.tb_durable.proofs.BatchLemmas.{AreRead, IsPartRead}
 use Rattle.tb_durable.proofs.replaying.Replaying.batch_in.Given as goal
 
 abbrev pub invariant-loop-chunk : goal.invariant-loop-chunk
@@ -16,6 +16,8 @@ invariant-loop-chunk l = record {
   limit : l.batcher.limit ≡ 8190;
   counted : counted_all l.self.counts (map stub_at (drop l.chunk-index l.chunks))
       ≡ counted_all l.fn.self.counts (map stub_at l.chunks);
+  read : AreRead l.columns.operation (map stub_at l.chunks) l.columns.body.now (map stub_at (drop l.chunk-index l.chunks)) l.body
+      l.batcher.jobs;
   part : (jobs : List Numbered) → AreColumnsOf jobs l.columns.operation l.columns.stubs.now l.columns.body.now
       → IsPartRead l.chunk-index jobs l.batcher.jobs l.body;
 }

@@ -1,6 +1,8 @@
-use Rattle.std.proofs.Common.{◌∙◌, ◌*◌, sym, ap, take, drop}
+use Rattle.std.proofs.Common.{◌≡◌, ◌∙◌, ◌*◌, ◌++◌, sym, ap, subst, length, take, drop}
 use Rattle.std.specs.Option.{is_some}
-use Rattle.tb_durable.proofs.BatchLemmas.{first_read, known_size, rest_bytes}
+use Rattle.std.proofs.lemmas.List.{take-append-drop}
+use Rattle.tb_durable.specs.Entries.{BeginsWith}
+use Rattle.tb_durable.proofs.BatchLemmas.{cut_off, first_read, known_size, rest_bytes}
 use Rattle.tb_durable.proofs.replaying.Replaying.first_job.Goals as goal
 
 pub returns-in_default-clause-begins : goal.returns-in_default-clause-begins
@@ -21,3 +23,18 @@ returns-clause-begins c = λ job more begins.
         cut.2 ∙ ap (λ s. drop (stub.count * s) body) size ∙ rest_bytes job more c.args.operation stub body begins,
       ),
     )
+
+pub returns-clause-cut : goal.returns-clause-cut
+returns-clause-cut c =
+    let stub = c.args.stub in
+    let body = c.args.body.now in
+    let cut = c.in-Some-split_at_checked.ensures.cases in
+    let size = c.in-Some.size in
+    let bytes = c.from_vec.result in
+    let same : bytes ≡ c.in-Some-split_at_checked.events.now = c.from_vec.ensures ∙ c.in-Ok.ensures.items in
+    let whole : body ≡ bytes ++ c.in-Some-split_at_checked.rest.now = sym (take-append-drop (stub.count * size) body)
+    ∙ ap (λ front. front ++ drop (stub.count * size) body) (sym (same ∙ cut.1))
+    ∙ ap (λ rest. bytes ++ rest) (sym cut.2) in
+    subst (λ job. BeginsWith job c.in-Some-split_at_checked.rest.now c.args.operation stub body) (sym c.in_ok-job.ensures.job)
+    (cut_off stub c.args.operation size bytes c.in-Some-split_at_checked.rest.now body c.in-Some.ensures.exact
+    c.in-Some.ensures.bound.0 c.in_ok-job.ensures.whole (ap length same ∙ cut.3) whole)
