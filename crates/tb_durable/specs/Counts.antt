@@ -7,8 +7,8 @@ use Rattle.tb_durable.specs.declared.counts.PacketCounts.{PacketCounts}
 abbrev pub no_packets : PacketCounts
 no_packets = record { packets = replicate 16 0; numbers = replicate 16 0 }
 
--- Whether a packet follows its submitter's last: it has the submitter's next number, or 0 as the first of a run. There are 16
--- submitters, and numbers and counts have 64 bits.
+-- Whether a packet follows its submitter's last: it has the submitter's next number, or 0, with which a run begins; whether one does
+-- isn't asked. There are 16 submitters, and numbers and counts have 64 bits.
 abbrev pub follows : PacketCounts → Stub → Bool
 follows counts stub =
     nat_lt stub.submitter 16

@@ -17,7 +17,7 @@ IsEntryFault at fault.NoMemory = Unit {0}
 IsEntryFault at (fault.BadEntry place) = place ≡ at
 IsEntryFault at other = ⊥
 
--- the next row isn't at this place, or it is and is no entry
+-- the next row isn't at this place, or it is and can't be read
 abbrev pub IsRowFault : ℕ → Row → OpenFault → Type 0
 IsRowFault at row fault.NoMemory = Unit {0}
 IsRowFault at row (fault.OutOfPlace place) = (place ≡ at) × (rowid row ≢ Int (pos at))
@@ -42,7 +42,7 @@ pub record IsNextAt (rows : List Row) (place : ℕ) (row : Row) : Type 0 where
   pub next : bare.places ≡ place
 
 -- What a fault says of the rows. `OutOfPlace`: after the rows of a journal comes a row that isn't at its next place. `BadEntry`:
--- such a row is there, and is no entry. `OtherVersion`: the first row has it. Of the others it says nothing.
+-- the row at that place can't be read. `OtherVersion`: the first row has it. Of the others it says nothing.
 abbrev pub IsCause : List Row → OpenFault → Type 0
 IsCause rows (fault.OutOfPlace place) = (row : Row) × IsNextAt rows place row × (rowid row ≢ Int (pos place))
 IsCause rows (fault.BadEntry place) = (row : Row) × IsNextAt rows place row × (rowid row ≡ Int (pos place))

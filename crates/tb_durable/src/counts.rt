@@ -43,7 +43,7 @@ impl PacketCounts {
         Some(())
     }
 
-    /// Counts the packets of a batch, as `count` does. If one of them doesn't follow, those before it are counted.
+    /// Counts the packets of a batch, as `count` does.
     #[tactic(auto, unfolding(crate::specs::Counts::counted_all))]
     pub(crate) fn count_all(&mut self, stubs: &[Stub]) -> Option<()>
         ensures counted { IfSome result (λ _. counted_all self.old stubs.now ≡ Some self.new) }

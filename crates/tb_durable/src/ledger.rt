@@ -158,6 +158,7 @@ impl<S: Store + Drop> DurableLedger<S> {
     }
 
     /// Returns how many packets of each submitter are stored, of all runs. A submitter with a fixed list of packets continues after as many.
+    /// After a stop with `in_doubt` the last batch may be stored and isn't counted: open the file again first.
     pub fn packets(&self) -> [u64; 16]
         ensures { result ≡ self.now.counts.packets }
     {

@@ -50,10 +50,7 @@ enum Said {
     Stopped,
 }
 
-fn engine_over<L: AnyLedger>(
-    rt: &(impl Abort + Alloc<A = Global>),
-    ledger: L,
-) -> AnyEngine<L> {
+fn engine_over<L: AnyLedger>(rt: &(impl Abort + Alloc<A = Global>), ledger: L) -> AnyEngine<L> {
     match AnyEngine::over(rt.alloc(), ledger, 8190, 16) {
         Ok(engine) => engine,
         Err((ledger, _)) => {
