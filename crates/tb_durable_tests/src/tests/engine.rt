@@ -124,24 +124,108 @@ fn an_engine_over_rows_continues(rt: HostRuntime) {
     drop(again);
 }
 
-/// Sixteen submitters' packets join one batch, which is one row, and each has its reply.
+/// Returns an id whose highest bit is set.
+fn wide_id(n: u64) -> u128 {
+    (1u128 << 127) + u128::from(n)
+}
+
+/// As many packets of one event as a batch takes, of sixteen submitters, join one batch, which is one row. Each has its reply, and the
+/// ledger that is opened on the rows has them all.
 #[test]
 fn sixteen_submitters_of_an_engine_over_rows(rt: HostRuntime) {
     let mut engine = engine_over(&rt, opened(&rt, empty_store(&rt)));
     check!(&rt; queue(rt.alloc(), &mut engine, 0, two_accounts(&rt)) == Ok(0));
-    for submitter in 0..16u32 {
-        let id = (1u128 << 127) + u128::from(submitter);
-        let number = queue(rt.alloc(), &mut engine, submitter, one_transfer(&rt, id));
-        check!(&rt; number == Ok(u64::from(submitter == 0)));
+    for n in 0..8190u64 {
+        let packet = one_transfer(&rt, wide_id(n));
+        let number = queue(rt.alloc(), &mut engine, (n % 16) as u32, packet);
+        check!(&rt; number == Ok(n / 16 + u64::from(n % 16 == 0)));
     }
     check!(&rt; read(&mut engine) == Some((0, Said::Committed(0))) && read(&mut engine).is_none());
     check!(&rt; engine.flush().is_ok());
-    for submitter in 0..16u32 {
-        let place = u64::from(submitter) + 1;
-        check!(&rt; read(&mut engine) == Some((submitter, Said::Committed(place))));
+    for n in 0..8190u64 {
+        check!(&rt; read(&mut engine) == Some(((n % 16) as u32, Said::Committed(n + 1))));
     }
     check!(&rt; read(&mut engine).is_none());
     check!(&rt; queue(rt.alloc(), &mut engine, 16, one_transfer(&rt, 1)) == Err(Refusal::BadSubmitters));
+    let Ok(ledger) = engine.into_ledger() else {
+        rt.abort()
+    };
+    let again = opened(&rt, ledger.into_store());
+    // 8,190 is 511 times 16, and 14 more.
+    let packets = again.packets();
+    check!(&rt; packets[0] == 513 && packets[1] == 512 && packets[13] == 512 && packets[14] == 511 && packets[15] == 511);
+    check!(&rt; again.numbers() == packets && again.places() == 8191);
+    let first = again.machine().transfer(wide_id(0));
+    let last = again.machine().transfer(wide_id(8189));
+    check!(&rt; first.is_some() && last.is_some() && again.machine().transfer(wide_id(8190)).is_none());
+    drop(again);
+}
+
+/// An engine that holds a packet, or has an unread reply, keeps its ledger.
+#[test]
+fn an_engine_keeps_its_ledger(rt: HostRuntime) {
+    let bare = BareLedger::with_seed(rt.alloc(), 5, Seed::default());
+    let mut engine = engine_over(&rt, bare);
+    check!(&rt; queue(rt.alloc(), &mut engine, 0, two_accounts(&rt)) == Ok(0));
+    let Err(mut held) = engine.into_ledger() else {
+        rt.abort()
+    };
+    check!(&rt; held.flush().is_ok());
+    let Err(mut unread) = held.into_ledger() else {
+        rt.abort()
+    };
+    check!(&rt; read(&mut unread) == Some((0, Said::Committed(0))));
+    let Ok(bare) = unread.into_ledger() else {
+        rt.abort()
+    };
+    check!(&rt; bare.places() == 1);
+    drop(bare);
+}
+
+/// Returns why an engine isn't opened; None if it is.
+fn refusal_of(
+    rt: &(impl Abort + Alloc<A = Global>),
+    limit: u32,
+    submitters: u32,
+) -> Option<Refusal> {
+    let bare = BareLedger::with_seed(rt.alloc(), 5, Seed::default());
+    match AnyEngine::over(rt.alloc(), bare, limit, submitters) {
+        Ok(engine) => {
+            drop(engine);
+            None
+        }
+        Err((bare, refusal)) => {
+            drop(bare);
+            Some(refusal)
+        }
+    }
+}
+
+#[test]
+fn limits_of_an_engine_over_any_ledger(rt: HostRuntime) {
+    for limit in [0, 8191, u32::MAX] {
+        check!(&rt; refusal_of(&rt, limit, 0) == Some(Refusal::BadLimit));
+    }
+    for submitters in [0, 17, u32::MAX] {
+        check!(&rt; refusal_of(&rt, 8190, submitters) == Some(Refusal::BadSubmitters));
+    }
+    check!(&rt; refusal_of(&rt, 1, 1).is_none() && refusal_of(&rt, 8190, 16).is_none());
+}
+
+/// A pulse and a Close at which the ledger stops are queued all the same.
+#[test]
+fn a_pulse_and_a_close_at_which_a_ledger_stops(rt: HostRuntime) {
+    let bare = BareLedger::with_seed(rt.alloc(), 5, Seed::default());
+    let mut engine = engine_over(&rt, FailingLedger { bare, left: 0 });
+    check!(&rt; engine.pulse(7).is_ok() && engine.stopped() && read(&mut engine).is_none());
+    check!(&rt; engine.pulse(8) == Err(Refusal::Stopped) && engine.flush().is_ok());
+    drop(engine);
+    let bare = BareLedger::with_seed(rt.alloc(), 5, Seed::default());
+    let mut engine = engine_over(&rt, FailingLedger { bare, left: 0 });
+    check!(&rt; queue(rt.alloc(), &mut engine, 9, two_accounts(&rt)) == Ok(0));
+    check!(&rt; engine.shut().is_ok() && engine.stopped());
+    check!(&rt; read(&mut engine) == Some((9, Said::Stopped)) && read(&mut engine).is_none());
+    check!(&rt; engine.shut() == Err(Refusal::Shutdown));
     drop(engine);
 }
 
