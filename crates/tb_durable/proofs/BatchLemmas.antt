@@ -43,13 +43,13 @@ module _ (job : Numbered) (more : List ℕ) (operation : ℕ) (stub : Stub) (bod
       subst (λ o. IsSome (event_size o)) begins.same_operation
       (admitted_are_whole 8190 job.packet.bytes (event_size job.packet.operation) begins.admitted).known
 
-  pub first_size : stub.count * size_of operation ≡ length job.packet.bytes
+  first_size : stub.count * size_of operation ≡ length job.packet.bytes
   first_size =
       ap (λ (s : Stub). s.count * size_of operation) begins.own_stub
       ∙ ap (λ o. count_of job.packet * size_of o) (sym begins.same_operation)
       ∙ (admitted_are_whole 8190 job.packet.bytes (event_size job.packet.operation) begins.admitted).whole
 
-  pub first_bytes : take (stub.count * size_of operation) body ≡ job.packet.bytes
+  first_bytes : take (stub.count * size_of operation) body ≡ job.packet.bytes
   first_bytes =
       ap (take (stub.count * size_of operation)) begins.own_body
       ∙ take_at job.packet.bytes more (stub.count * size_of operation) (sym first_size)
@@ -58,9 +58,6 @@ module _ (job : Numbered) (more : List ℕ) (operation : ℕ) (stub : Stub) (bod
   rest_bytes =
       ap (drop (stub.count * size_of operation)) begins.own_body
       ∙ drop_at job.packet.bytes more (stub.count * size_of operation) (sym first_size)
-
-  pub first_fits : stub.count * size_of operation ≤ length body
-  first_fits = omega (arith, first_size, ap length begins.own_body, length-append job.packet.bytes more)
 
   -- read as it was written, but for the user word
   pub first_read : (bytes : List ℕ) → bytes ≡ take (stub.count * size_of operation) body
@@ -178,7 +175,7 @@ module _ (operation : ℕ) (jobs held : List Numbered) (chunks : List (List ℕ)
     all_read : length jobs ≤ index
     all_read = omega (arith, done, sym (length-map chunks stub_at) ∙ ap length same ∙ length-map jobs stub_of)
 
-    pub all_held : held ≡ map without_user jobs
+    all_held : held ≡ map without_user jobs
     all_held = part.held ∙ ap (map without_user) (take_all index jobs all_read)
 
     pub some_held : held ≡ [] → ⊥

@@ -67,12 +67,6 @@ module _ (place : ℕ) (before after : PacketCounts) (row : Row) (operation mome
     low_moment =
         subst (λ m. m ≤ moment_max) (sym (sym (ap whole_number has.has_moment) ∙ ap whole_number pulse.has.has_moment)) pulse.low
 
--- a row of an entry has the columns of one
-pub entry_columns : (place : ℕ) (before after : PacketCounts) (row : Row) → IsEntryRow place before row after
-    → ((operation moment : ℕ) (stubs body : List ℕ) → HasColumns row operation moment stubs body → ⊥) → ⊥
-entry_columns place before after row (inl batch) none = none batch.operation batch.moment batch.stubs batch.body batch.has
-entry_columns place before after row (inr pulse) none = none 0 pulse.0.moment pulse.0.stubs pulse.0.body pulse.0.has
-
 -- the row that is written of a batch
 pub batch_row_is : (place : ℕ) (before after : PacketCounts) (jobs : List Numbered) → IsLawful (operation_of jobs) jobs
     → counted_all before (map stub_of jobs) ≡ Some after → IsBatchRow place before (jobs_row place jobs) after

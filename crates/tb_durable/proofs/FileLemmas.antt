@@ -64,9 +64,6 @@ module _ (view : View) (row : Row) (counts : PacketCounts) (reading : IsReading 
   parts : IsFirstRow row × AreEntryRows 0 no_packets reading.left counts
   parts = subst (λ rows. IsLedgerFile rows counts) reading.all file
 
-  pub read_first_row : IsFirstRow row
-  read_first_row = parts.0
-
   -- a new ledger has read only the first row
   pub begins_halfway : (clock : ℕ) (bare : BareLedgerState) → IsFirst row clock → bare ≡ new_bare_ledger clock
       → IsHalfway view bare no_packets counts
@@ -105,11 +102,6 @@ module _ (old new : View) (bare : BareLedgerState) (before after : PacketCounts)
             (next_entry next).2));
       }
 
-  -- all rows were read
-  pub all_counted : Advances old new 0 row false → before ≡ after
-  all_counted next =
-      sym (subst (λ rows. AreEntryRows bare.places before rows after) (left_is old new h.read h.reading [] next.0) h.left)
-
 -- ---- one row more
 
 flat_groups : (rows : List Row) → flat_map (λ (group : List Input). group) (map group_in rows) ≡ flat_map group_in rows
@@ -117,7 +109,7 @@ flat_groups [] = refl
 flat_groups (row ∷ rows) = ap (λ more. group_in row ++ more) (flat_groups rows)
 
 -- the row of an entry at the next place keeps a file a file
-pub file_push : (rows : List Row) (bare : BareLedgerState) (before after : PacketCounts) (row : Row) → IsJournal rows bare
+file_push : (rows : List Row) (bare : BareLedgerState) (before after : PacketCounts) (row : Row) → IsJournal rows bare
     → IsLedgerFile rows before → IsEntryRow bare.places before row after → IsLedgerFile (rows ++ row ∷ []) after
 file_push rows bare before after row j file entry =
     let all : IsLedgerFile (j.first ∷ j.entries) before = subst (λ rs. IsLedgerFile rs before) j.is file in

@@ -45,14 +45,14 @@ pub record IsInRange (stub : Stub) : Type 0 where
   pub submitter : stub.submitter < 2 ^ 32
   pub count : stub.count < 2 ^ 32
 
-pub word_read : (stub : Stub) → IsInRange stub → stub_in (word_of stub) ≡ stub
+word_read : (stub : Stub) → IsInRange stub → stub_in (word_of stub) ≡ stub
 word_read stub is =
     let number : word_of stub % 2 ^ 64 ≡ stub.number = omega (arith, is.number, is.submitter, is.count) in
     let submitter : word_of stub / 2 ^ 64 % 2 ^ 32 ≡ stub.submitter = omega (arith, is.number, is.submitter, is.count) in
     let count : word_of stub / 2 ^ 64 / 2 ^ 32 ≡ stub.count = omega (arith, is.number, is.submitter, is.count) in
     rw (number, submitter, count) refl
 
-pub stub_read : (stub : Stub) → IsInRange stub → stub_at (stub_bytes stub) ≡ stub
+stub_read : (stub : Stub) → IsInRange stub → stub_at (stub_bytes stub) ≡ stub
 stub_read stub is =
     ap stub_in (little_endian-bytes_of 16 (word_of stub) (omega (arith, is.number, is.submitter, is.count))) ∙ word_read stub is
 
@@ -80,7 +80,7 @@ chosen true x after is = (refl, is)
 chosen false x after is = cc
 
 -- a packet that is counted follows, and the others are counted after it
-pub counted_first : (before after : PacketCounts) (stub : Stub) (stubs : List Stub)
+counted_first : (before after : PacketCounts) (stub : Stub) (stubs : List Stub)
     → counted_all before (stub ∷ stubs) ≡ Some after
     → (follows before stub ≡ true) × (counted_all (counted before stub) stubs ≡ Some after)
 unfolding counted_all
