@@ -5,7 +5,8 @@ import re
 
 FUNCTION = re.compile(r'( *)(?:pub(?:\(\w+\))? )?(?:const |unsafe |extern "C" )*fn (\w+)')
 TYPE = re.compile(r"(?:pub(?:\(\w+\))? )?(?:struct|enum) (\w+)", re.M)
-IMPL = re.compile(r"impl(?:<(?P<generics>.*?)>)? (?:(?P<trait>[\w:<>', ]+) for )?(?P<type>[\w:]+)")
+IMPL = re.compile(r"impl(?:<(?P<generics>.*?)>)? (?:(?P<trait>[\w:<>()', ]+) for )?(?P<type>[\w:]+)")
+TUPLE = re.compile(r"\(([^()]*)\)")
 
 
 @dataclasses.dataclass
@@ -19,6 +20,11 @@ class Function:
 
     def is_around(self, offset):
         return self.end - len(self.text) <= offset < self.end
+
+
+def worded(found):
+    """Returns the words that a check has for a tuple that TUPLE found: `Tuple2` if it has two types, and then theirs."""
+    return f"Tuple{found[1].count(',') + 1} {found[1]}"
 
 
 def module_of(path):
@@ -56,7 +62,7 @@ def implementor_of(lines, number, path, texts):
     if header is None:
         return module_of(path), False
     generics = set(re.findall(r"(?:^|, )'?(\w+)", header["generics"] or ""))
-    kind, trait = header["type"].split("::")[-1], header["trait"]
+    kind, trait = header["type"].split("::")[-1], header["trait"] and TUPLE.sub(worded, header["trait"])
     homes = [it for it, text in texts.items() if kind in TYPE.findall(text)] if trait is None else []
     parts = [kind, *re.findall(r"\w+", "" if trait in (None, "Drop") else trait)]
     home = path if path in homes or not homes else homes[0]

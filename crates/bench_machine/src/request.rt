@@ -27,7 +27,7 @@ pub(crate) enum Kind {
     Early,
     /// Transfers with another ledger than their accounts.
     Ledger,
-    /// Transfers whose debit account isn't there, so that their ids are remembered.
+    /// Transfers whose debit account isn't there, so that their ids are recorded as failed.
     Missing,
     /// Transfers that are stored already.
     Exists,

@@ -74,8 +74,8 @@ impl Driver for LoadDriver {
         }
     }
 
-    fn submitted(&mut self, told: Result<u64, Refusal>) {
-        self.gives_up = told.is_err();
+    fn submitted(&mut self, response: Result<u64, Refusal>) {
+        self.gives_up = response.is_err();
     }
 
     fn receive(&mut self, reply: Reply) {

@@ -121,9 +121,9 @@ impl<'a, I: Read + Drop, O: Write + Drop> Driver for Party<'a, I, O> {
         }
     }
 
-    fn submitted(&mut self, told: Result<u64, Refusal>) {
+    fn submitted(&mut self, response: Result<u64, Refusal>) {
         if let Party::Loads(driver, _) = self {
-            driver.submitted(told);
+            driver.submitted(response);
         }
     }
 

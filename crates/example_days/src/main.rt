@@ -11,8 +11,8 @@
 #![tactic(auto)]
 
 ghost use Rattle.std.specs.Prelude.{◌≡◌, IfSome, length};
-ghost use Rattle.tb_core.specs.EndedRun.{IsPrefix};
-ghost use Rattle.tb_core.specs.Journal.{inputs};
+ghost use Rattle.tb_core.specs.claim.EndedRun.{IsPrefix};
+ghost use Rattle.tb_core.specs.claim.Journal.{inputs};
 
 mod teller;
 

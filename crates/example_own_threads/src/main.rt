@@ -3,7 +3,7 @@
 #![tactic(auto)]
 
 ghost use Rattle.std.specs.Prelude.{◌≡◌, [], ◌∷◌, IfSome};
-ghost use Rattle.tb_submit.specs.Ends.{control_seat, origin_of};
+ghost use Rattle.tb_submit.specs.clauses.Ends.{control_seat, origin_of};
 
 use std::alloc::Global;
 use std::process::ExitCode;
@@ -79,7 +79,7 @@ fn run<R: Threads + Wait + Sync>(rt: &R, alloc: Global) -> Option<Report> {
                 let _queued = control.pulse(rt, 1);
             })?;
             let Ok(served) = pipeline.serve(rt, &Open) else {
-                stop.ask();
+                stop.give_up();
                 return None;
             };
             let control = control.join(rt)?;

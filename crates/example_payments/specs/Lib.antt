@@ -1,2 +1,2 @@
-pub mod Desk
-pub mod Ready
+pub mod clauses
+pub mod inside

@@ -25,7 +25,7 @@ pub(crate) struct Desk {
 }
 
 impl Desk {
-    ghost use Rattle.example_payments.specs.Desk.{HasCounted};
+    ghost use Rattle.example_payments.specs.clauses.Desk.{HasCounted};
 
     /// Returns a desk for these orders; `ahead` of its packets are queued already.
     pub(crate) fn new(alloc: Global, till: Till, orders: Vec<Order>, ahead: usize) -> Desk
@@ -61,7 +61,7 @@ impl Desk {
 }
 
 impl Driver for Desk {
-    ghost use Rattle.example_payments.specs.Desk.{HasAskedOf, HasEndedOf, HasSeenOf};
+    ghost use Rattle.example_payments.specs.clauses.Desk.{HasAskedOf, HasEndedOf, HasSeenOf};
 
     ghost has_seen = { HasSeenOf };
 
@@ -88,8 +88,8 @@ impl Driver for Desk {
         }
     }
 
-    fn submitted(&mut self, told: Result<u64, Refusal>) {
-        match told {
+    fn submitted(&mut self, response: Result<u64, Refusal>) {
+        match response {
             Ok(_) => self.unread = self.unread.saturating_add(1),
             Err(_) => self.stopped = true,
         }

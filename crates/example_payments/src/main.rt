@@ -17,8 +17,8 @@
 #![tactic(auto)]
 
 ghost use Rattle.std.specs.Prelude.{◌≡◌, ◌<◌, All, IfSome, OnSome, length};
-ghost use Rattle.example_payments.specs.Desk.{HaveCounted, HaveEnded, IsNew};
-ghost use Rattle.example_payments.specs.Ready.{IsReady};
+ghost use Rattle.example_payments.specs.clauses.Desk.{HaveCounted, HaveEnded, IsNew};
+ghost use Rattle.example_payments.specs.inside.Ready.{IsReady};
 
 mod desk;
 mod order;

@@ -1,7 +1,7 @@
 //! What customers ask of a desk, as packets.
 
 ghost use Rattle.std.specs.Prelude.{◌≡◌, IfOk};
-ghost use Rattle.example_payments.specs.Desk.{word_of};
+ghost use Rattle.example_payments.specs.clauses.Desk.{word_of};
 
 use std::alloc::Global;
 use tb_layout::{Account, NoMemory, Transfer};

@@ -1,7 +1,7 @@
 //! What a desk counts.
 
 ghost use Rattle.std.specs.Prelude.{◌≡◌, ◌+◌, [], ◌∷◌, ◌++◌, List, IsTrue, true};
-ghost use Rattle.tb_work.specs.Packet.{ReplyValue};
+ghost use Rattle.tb_work.specs.claim.Packet.{ReplyValue};
 
 use crate::order::{CAPTURE, VOID};
 use std::alloc::Global;
@@ -32,7 +32,7 @@ fn raise(count: &mut u64) -> bool
 }
 
 impl Tally {
-    ghost use Rattle.example_payments.specs.Desk.{HasCounted, is_result_of, one_if};
+    ghost use Rattle.example_payments.specs.clauses.Desk.{HasCounted, is_result_of, one_if};
 
     /// Returns the tally of no reply.
     pub(crate) fn new(alloc: Global) -> Tally

@@ -219,8 +219,8 @@ impl Driver for Till {
         }
     }
 
-    fn submitted(&mut self, told: Result<u64, Refusal>) {
-        match told {
+    fn submitted(&mut self, response: Result<u64, Refusal>) {
+        match response {
             Ok(_) => self.next = self.next.saturating_add(1),
             Err(_) => self.give_up(),
         }

@@ -2,19 +2,19 @@
 use Rattle.std.proofs.Common.{◌≡◌, ◌∙◌, ◌<◌, ℕ, List, [], ◌∷◌, Some, length, map, set, slice_get, refl, ap, subst, arith}
 use Rattle.std.specs.Prelude.{IsSomeAnd}
 use Rattle.std.proofs.lemmas.List.{length-map}
-use Rattle.tb_drive.specs.Ahead.{with_packet}
-use Rattle.tb_drive.specs.Seen.{AreFronts, IsFront}
-use Rattle.tb_submit.specs.Ends.{EndedState, Origin, SubmitterState, end_origin, new_submitter, origin_of}
-use Rattle.tb_work.specs.Job.{numbered_packet}
-use Rattle.tb_work.specs.Packet.{Numbered}
+use Rattle.tb_drive.specs.clauses.Ahead.{with_packet}
+use Rattle.tb_drive.specs.clauses.Seen.{ArePrefixesOf, IsPrefixOf}
+use Rattle.tb_submit.specs.clauses.Ends.{EndedState, Origin, SubmitterState, end_origin, new_submitter, origin_of}
+use Rattle.tb_work.specs.claim.Job.{numbered_packet}
+use Rattle.tb_work.specs.claim.Packet.{Numbered}
 use Rattle.tb_work.specs.declared.item.Item.{Item}
 use Rattle.tb_work.specs.declared.item.Item.TheVariants as item
 use Rattle.tb_work.specs.declared.packet.Packet.{Packet}
-use Rattle.example_two_tellers.specs.First.{QueuedFirst}
+use Rattle.example_two_tellers.specs.inside.First.{QueuedFirst}
 
 at_first : (first : SubmitterState) (others now : List SubmitterState) (ends : List EndedState) (job : Numbered)
     (packet : Packet) → now ≡ first ∷ others → first.queued ≡ item.Packet job ∷ [] → job.packet ≡ packet
-    → job.number ≡ 0 → map end_origin ends ≡ map origin_of now → AreFronts now ends
+    → job.number ≡ 0 → map end_origin ends ≡ map origin_of now → ArePrefixesOf now ends
     → IsSomeAnd (slice_get ends 0) (QueuedFirst packet)
 at_first first others now [] job packet now_are queued is number own fronts =
     absurd (omega (arith, ap length own, length-map now origin_of, ap length now_are))
@@ -22,7 +22,7 @@ at_first first others now (ended ∷ ends) job packet now_are queued is number o
   job,
   is,
   number,
-  subst (λ (items : List Item). IsFront items ended.queued) queued
+  subst (λ (items : List Item). IsPrefixOf items ended.queued) queued
       (fronts 0 first ended (ap (λ all. slice_get all 0) now_are) refl),
 )
 
@@ -30,7 +30,7 @@ pub first_queued : (credit : ℕ) (origins : List Origin) (before now : List Sub
     (number : ℕ) (packet : Packet) → 0 < length origins → before ≡ map (new_submitter credit) origins
     → ((submitter : SubmitterState) → slice_get before 0 ≡ Some submitter
     → (number ≡ length submitter.queued) × (now ≡ set before 0 (with_packet submitter number packet)))
-    → map end_origin ends ≡ map origin_of now → AreFronts now ends
+    → map end_origin ends ≡ map origin_of now → ArePrefixesOf now ends
     → IsSomeAnd (slice_get ends 0) (QueuedFirst packet)
 first_queued credit [] before now ends number packet some before_are is own fronts = absurd (omega (arith, some))
 first_queued credit (origin ∷ origins) before now ends number packet some before_are is own fronts =

@@ -1,1 +1,1 @@
-pub mod First
+pub mod inside

@@ -1,9 +1,9 @@
 //! Two tellers post transfers through one pipeline, each from a thread of its own, and read the replies; then all end,
-//! and the balances are printed. So an application uses the pipeline: `open`, a driver for each submitter, `drive_all`.
+//! and the balances are printed. So an application uses the pipeline: `Options::open`, a driver for each submitter, `drive_all`.
 #![tactic(auto)]
 
 ghost use Rattle.std.specs.Prelude.{◌≡◌, IfSome, IsSomeAnd, length, slice_get};
-ghost use Rattle.example_two_tellers.specs.First.{QueuedFirst};
+ghost use Rattle.example_two_tellers.specs.inside.First.{QueuedFirst};
 
 use std::alloc::Global;
 use std::process::ExitCode;
@@ -11,7 +11,7 @@ use std::sync::Wait;
 use std::thread::Threads;
 use tb_drive::{Action, ControlPlan, Driver, PlanDriver};
 use tb_layout::{Account, Transfer};
-use tb_pipe::{Finished, drive_all, open, submit_ahead};
+use tb_pipe::{Finished, Options, drive_all, submit_ahead};
 use tb_work::{Packet, Refusal, Reply};
 
 /// Posts a transfer in every other turn, each under the id after the last one's, and waits for its reply in the next.
@@ -34,7 +34,7 @@ impl Driver for Teller {
         Packet::of_transfers(alloc, &[self.last], 0).map_or(Action::End, Action::Submit)
     }
 
-    fn submitted(&mut self, _told: Result<u64, Refusal>) {}
+    fn submitted(&mut self, _response: Result<u64, Refusal>) {}
 
     fn receive(&mut self, _reply: Reply) {}
 }
@@ -65,7 +65,11 @@ fn run_with<R: Threads + Wait + Sync>(
     ensures { IfSome result (λ finished.
         IsSomeAnd (slice_get finished.unsettled.value.items 0) (QueuedFirst accounts)) }
 {
-    let Ok(mut opened) = open(alloc, 0, 100, 64, 32, 2) else {
+    let options = Options {
+        submitters: 2,
+        ..Options::default()
+    };
+    let Ok(mut opened) = options.open(alloc) else {
         return None;
     };
     let Ok(_number) = submit_ahead(rt, alloc, &mut opened, 0, accounts) else {

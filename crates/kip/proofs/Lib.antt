@@ -1,3 +1,4 @@
+pub mod Words
 mod Values
 mod AsBox
 mod Moved

@@ -1,6 +1,6 @@
 -- Bytes that are written one record after the other.
 use Rattle.std.proofs.Common.{◌≡◌, sym, subst, ap, ◌∙◌, arith, ℕ, suc, ◌+◌, ◌<◌, List, [], ◌++◌, take, drop, length, get_or, append_assoc, length-append}
-use Rattle.std.specs.List.{flat_map}
+use Rattle.kip.proofs.Words.{flat_map}
 use Rattle.std.proofs.Math.Seq.{take-append_seam, take-suc}
 use Rattle.std.proofs.lemmas.List.{flat_map_more}
 use Rattle.std.proofs.lemmas.Slice.{drop-append-drop}

@@ -1,15 +1,15 @@
 //! The exported functions.
 
 ghost use Rattle.std.specs.Prelude.{◌≡◌, ◌<◌, [], length, slice_get, IfOk, IfErr, OnOk, OnErr, IsOk, None};
-ghost use Rattle.tb_tables.specs.Facts.{transfer_with};
-ghost use Rattle.tb_tables.specs.Balances.{balanced_account};
-ghost use Rattle.tb_machine.specs.inside.Accounts.{balanced_accounts};
-ghost use Rattle.tb_work.specs.Refusal.{number_of};
+ghost use Rattle.tb_tables.specs.claim.Facts.{transfer_with};
+ghost use Rattle.tb_tables.specs.claim.Balances.{balanced_account};
+ghost use Rattle.tb_machine.specs.clauses.Accounts.{balanced_accounts};
+ghost use Rattle.tb_work.specs.clauses.Refusal.{number_of};
 ghost use Rattle.tb_work.specs.declared.item.Item.TheVariants as item;
 ghost use Rattle.tb_work.specs.declared.refusal.Refusal.TheVariants.{NoMemory as NoMemoryRefusal};
-ghost use Rattle.tb_embed.specs.Engine.{EngineState, IsOpened, Queues, Continues, IsRefusal, packet_with, submit_refusal, pulse_refusal, shut_refusal, state_of};
-ghost use Rattle.tb_embed.specs.Queued.{packet_ticket, ticket_of};
-ghost use Rattle.kip.specs.Handle.{Moves, IsOpen, IsStatus, IsStatusOf, IsOpeningStatus, IsClosingStatus, IsPeek, IsReading, IsReadingOf, IsAccount, IsAccountIn, IsTransfer, IsTransferIn, IsClockOf, IsCountsOf, id_of, open_refusal, pending_number, stopped_status};
+ghost use Rattle.tb_embed.specs.clauses.Engine.{EngineState, IsOpened, Queues, Continues, IsRefusal, packet_with, submit_refusal, pulse_refusal, shut_refusal, state_of};
+ghost use Rattle.tb_embed.specs.clauses.Queued.{packet_ticket, ticket_of};
+ghost use Rattle.kip.specs.clauses.Handle.{Moves, IsOpen, IsStatus, IsStatusOf, IsOpeningStatus, IsClosingStatus, IsPeek, IsReading, IsReadingOf, IsAccount, IsAccountIn, IsTransfer, IsTransferIn, IsClockOf, IsCountsOf, id_of, open_refusal, pending_number, stopped_status};
 
 use crate::counts::KipCounts;
 use crate::handle::Kip;

@@ -2,9 +2,9 @@
 
 ghost use Rattle.std.specs.Prelude.{◌≡◌, ◌≤◌, ◌+◌, ◌*◌, ◌++◌, take, drop, length};
 ghost use Rattle.std.specs.List.{flat_map};
-ghost use Rattle.tb_layout.specs.inside.Records.{account_bytes};
-ghost use Rattle.tb_layout.specs.Failure.{failure_bytes};
-ghost use Rattle.kip.specs.Results.{AreWritten, IsHeadOf, answer_bytes, answer_size, result_bytes, result_size};
+ghost use Rattle.tb_layout.specs.clauses.Records.{account_bytes};
+ghost use Rattle.tb_layout.specs.clauses.Failure.{failure_bytes};
+ghost use Rattle.kip.specs.clauses.Results.{AreWritten, IsHeadOf, answer_bytes, answer_size, result_bytes, result_size};
 
 use tb_layout::{Account, Answer, Failure, write_account, write_failure};
 use tb_work::{Outcome, Reply};

@@ -1,24 +1,16 @@
 -- One packet more in a group.
-use Rattle.std.proofs.Common.{refl, sym, ap, subst, ◌∙◌, arith, ◌≡◌, ◌==◌, ℕ, ◌+◌, ◌<◌, ◌≤◌, Bool, true, false, nat_le, List, [], ◌∷◌, ◌++◌, ◌&&◌, ◌*◌, ◌/◌, if◌then◌else◌, Some, None, length, map, append_assoc, append-nil, length-append}
-use Rattle.std.specs.Prelude.{Result, Ok, Err, OnOk, OnErr, IsOk, IsSome, unwrap_or}
+use Rattle.std.proofs.Common.{refl, sym, ap, ◌∙◌, arith, ◌≡◌, ◌==◌, ℕ, ◌+◌, ◌<◌, ◌≤◌, Bool, true, false, nat_le, List, [], ◌∷◌, ◌++◌, ◌&&◌, ◌/◌, if◌then◌else◌, Some, length, map, append_assoc, append-nil, length-append}
+use Rattle.tb_batch.proofs.Words.{Result, Ok, Err, OnOk, OnErr, IsOk, and_from, and_parts, eqb-true, map-append, Input, count_of, admission_of, event_size, looks_up, Numbered, events_in, input_of, count_of_all, stub_of, can_share, joins, is_taken, join_in_turn, IsGroup, BatcherState, IsBatcherState, HasRoom, IsGroupOf, AreAdmitted, AreParts, IsLawful, body_of, are_of, all_share}
 use Rattle.std.specs.Result.{is_err}
-use Rattle.std.specs.List.{list_all}
-use Rattle.std.proofs.lemmas.Bool.{and_parts, eqb-true}
+use Rattle.std.proofs.Math.Nat.{mul-div_cancel}
 use Rattle.std.proofs.lemmas.Bool.Decides.{nat_tests}
-use Rattle.std.proofs.lemmas.List.{map-append}
 use Rattle.std.proofs.lemmas.List.Folds.{list_all-append}
 use Rattle.std.proofs.lemmas.Grind.{flat_map-append}
-use Rattle.tb_work.proofs.Admissions.{admitted_are_whole}
-use Rattle.tb_work.specs.Admission.{count_of, admission_of, event_size, looks_up}
-use Rattle.tb_work.specs.Packet.{Numbered}
-use Rattle.tb_work.specs.Job.{count_of_all, stub_of}
 use Rattle.tb_batch.specs.declared.parts.Parts.{Parts}
-use Rattle.tb_batch.specs.Grouping.{can_share, are_of, joins, is_taken, join_in_turn, IsGroup}
 use Rattle.tb_batch.specs.declared.offered.Offered.{Offered}
 use Rattle.tb_batch.specs.declared.offered.Offered.TheVariants.{Joined, Sealed, Refused}
-use Rattle.tb_batch.specs.BatcherState.{BatcherState, IsBatcherState}
-use Rattle.tb_batch.specs.Offering.{Offers}
-use Rattle.tb_batch.specs.Batch.{HasRoom, IsGroupOf, AreAdmitted, AreParts, body_of}
+use Rattle.tb_batch.specs.clauses.Offering.{Offers}
+use Rattle.tb_batch.proofs.Admitted.{Kind, OfAccounts, OfTransfers, OfIds, kind_of_batch, body_size, joins_by}
 
 count_of_all-push : (jobs : List Numbered) (job : Numbered)
     → count_of_all (jobs ++ job ∷ []) ≡ count_of_all jobs + count_of job.packet
@@ -38,24 +30,24 @@ are_of-other operation other (job ∷ next ∷ jobs) some h =
     rw (same, are_of-other operation other (next ∷ jobs) (omega arith) parts.1)
     (elim (operation == other) as (λ b. (b && b) ≡ b) [ true ↦ refl | false ↦ refl ])
 
-taken_is_joins : (limit : ℕ) (jobs : List Numbered) (job : Numbered) → 0 < length jobs
-    → is_taken limit jobs job ≡ joins limit jobs job
-taken_is_joins limit [] job some = absurd (omega arith)
-taken_is_joins limit (first ∷ jobs) job some = refl
-
 -- what is known of a group decides whether a packet joins it
-pub taken_by : (parts : Parts) (shares : Bool) (events limit : ℕ) (job : Numbered) → IsGroupOf parts shares events →
-    is_taken limit parts.jobs.items job ≡ (shares
-    && (can_share job && ((parts.operation == job.packet.operation)
+pub taken_by : (parts : Parts) (shares : Bool) (events limit : ℕ) (job : Numbered) → IsGroupOf parts shares events
+    → IsOk (admission_of 8190 job.packet) → is_taken limit parts.jobs.items job ≡ (shares
+    && (can_share (events_in job.packet) && ((parts.operation == job.packet.operation)
     && nat_le (events + count_of job.packet) limit)))
-taken_by parts shares events limit job h =
+taken_by parts shares events limit job h ok =
     let jobs = parts.jobs.items in
-    taken_is_joins limit jobs job h.whole.lawful.some
+    is_joining jobs h.whole.lawful.some ∙ joins_by limit jobs job h.whole.lawful.all_admitted ok
     ∙ rw (
       are_of-other parts.operation job.packet.operation jobs h.whole.lawful.some h.whole.lawful.one_operation,
       h.sharing,
       h.counted,
     ) refl
+  where
+    is_joining : (jobs : List Numbered) → 0 < length jobs
+        → is_taken limit jobs job ≡ joins limit (map input_of jobs) (input_of job)
+    is_joining [] some = absurd (omega arith)
+    is_joining (first ∷ jobs) some = refl
 
 -- ---- the group
 
@@ -63,19 +55,21 @@ and_more : (a b c : Bool) → (a && b) ≡ true → (b ≡ true → c ≡ true) 
 and_more true b c h f = f h
 and_more false b c h f = cc
 
-joined_after : (limit : ℕ) (group jobs : List Numbered) (job : Numbered) → join_in_turn limit group jobs ≡ true
-    → joins limit (group ++ jobs) job ≡ true → join_in_turn limit group (jobs ++ job ∷ []) ≡ true
-joined_after limit group [] job h j = ap (λ b. b && true) (ap (λ l. joins limit l job) (sym (append-nil group)) ∙ j)
-joined_after limit group (next ∷ jobs) job h j =
-    and_more (joins limit group next) (join_in_turn limit (group ++ next ∷ []) jobs)
-    (join_in_turn limit (group ++ next ∷ []) (jobs ++ job ∷ [])) h
-    (λ rest. joined_after limit (group ++ next ∷ []) jobs job rest
-    (ap (λ l. joins limit l job) (append_assoc group (next ∷ []) jobs) ∙ j))
+joined_after : (limit : ℕ) (group inputs : List Input) (last : Input) → join_in_turn limit group inputs ≡ true
+    → joins limit (group ++ inputs) last ≡ true → join_in_turn limit group (inputs ++ last ∷ []) ≡ true
+joined_after limit group [] last h j = ap (λ b. b && true) (ap (λ l. joins limit l last) (sym (append-nil group)) ∙ j)
+joined_after limit group (next ∷ inputs) last h j =
+    and_more (joins limit group next) (join_in_turn limit (group ++ next ∷ []) inputs)
+    (join_in_turn limit (group ++ next ∷ []) (inputs ++ last ∷ [])) h
+    (λ rest. joined_after limit (group ++ next ∷ []) inputs last rest
+    (ap (λ l. joins limit l last) (append_assoc group (next ∷ []) inputs) ∙ j))
 
 pub group_more : (limit : ℕ) (jobs : List Numbered) (job : Numbered) → IsGroup limit jobs
     → is_taken limit jobs job ≡ true → IsGroup limit (jobs ++ job ∷ [])
 group_more limit [] job h j = refl
-group_more limit (first ∷ jobs) job h j = joined_after limit (first ∷ []) jobs job h j
+group_more limit (first ∷ jobs) job h j =
+    ap (join_in_turn limit (input_of first ∷ [])) (map-append input_of jobs (job ∷ []))
+    ∙ joined_after limit (input_of first ∷ []) (map input_of jobs) (input_of job) h j
 
 -- what is held after an offer is a group
 pub offered_group : (old new : BatcherState) (job : Numbered) (offered : Offered) → IsGroup old.limit old.jobs
@@ -116,10 +110,36 @@ pub given : {T E : Type 0} (r : Result T E) (P : Type 0) → is_err r ≡ false 
 given (Ok x) P h p = p
 given (Err e) P h p = cc
 
-admitted-push : (jobs : List Numbered) (job : Numbered) → AreAdmitted jobs → IsOk (admission_of 8190 job.packet)
+pub admitted-push : (jobs : List Numbered) (job : Numbered) → AreAdmitted jobs → IsOk (admission_of 8190 job.packet)
     → AreAdmitted (jobs ++ job ∷ [])
 admitted-push [] job all ok = (ok, tt)
 admitted-push (first ∷ jobs) job all ok = (all.0, admitted-push jobs job all.1 ok)
+
+pub lawful_more : (operation limit : ℕ) (jobs : List Numbered) (job : Numbered) → IsLawful operation jobs → limit ≤ 8190
+    → IsOk (admission_of 8190 job.packet) → is_taken limit jobs job ≡ true → IsLawful operation (jobs ++ job ∷ [])
+lawful_more operation limit [] job lawful low ok taken = absurd (omega (arith, lawful.some))
+lawful_more operation limit (first ∷ rest) job lawful low ok taken =
+    let jobs = first ∷ rest in
+    let known = both_true (all_share jobs) (can_share (events_in job.packet)) (are_of job.packet.operation jobs)
+    (nat_le (count_of_all jobs + count_of job.packet) limit)
+    (sym (joins_by limit jobs job lawful.all_admitted ok) ∙ taken) in
+    let same : (operation == job.packet.operation) ≡ true =
+    sym (are_of-other operation job.packet.operation jobs lawful.some lawful.one_operation) ∙ known.2 in
+    record {
+      some = omega (arith, length-append jobs (job ∷ []));
+      all_admitted = admitted-push jobs job lawful.all_admitted ok;
+      one_operation = list_all-append (λ (j : Numbered). j.packet.operation == operation) jobs (job ∷ [])
+          ∙ and_from (are_of operation jobs) (are_of operation (job ∷ [])) lawful.one_operation
+          (rw (sym (eqb-true operation job.packet.operation same)) (ap (λ b. b && true) (equal_numbers operation)));
+      few = omega (
+        arith,
+        count_of_all-push jobs job,
+        low,
+        le_true (count_of_all jobs + count_of job.packet) limit known.3,
+      );
+      alone = λ _. list_all-append (λ (j : Numbered). can_share (events_in j.packet)) jobs (job ∷ [])
+          ∙ and_from (all_share jobs) (all_share (job ∷ [])) known.0 (ap (λ b. b && true) known.1);
+    }
 
 -- one job more, for which there was room
 pub batch_more : (old new : Parts) (shares : Bool) (events limit : ℕ) (job : Numbered) → IsGroupOf old shares events
@@ -129,29 +149,14 @@ pub batch_more : (old new : Parts) (shares : Bool) (events limit : ℕ) (job : N
     → new.body.items ≡ old.body.items ++ job.packet.bytes →
     HasRoom old.operation (events + count_of job.packet) new.failures new.accounts
     → IsGroupOf new shares (events + count_of job.packet)
-batch_more old new shares events limit job h few taken ok operation jobs stubs body room =
-    let known = both_true shares (can_share job) (old.operation == job.packet.operation)
-    (nat_le (events + count_of job.packet) limit) (sym (taken_by old shares events limit job h) ∙ taken) in
-    let lawful = h.whole.lawful in
+batch_more old new shares events limit job h low taken ok operation jobs stubs body room =
     let count : count_of_all new.jobs.items ≡ events + count_of job.packet = ap count_of_all jobs
     ∙ count_of_all-push old.jobs.items job ∙ ap (λ n. n + count_of job.packet) (sym h.counted) in
-    let same = eqb-true old.operation job.packet.operation known.2 in
-    let all_share : list_all can_share new.jobs.items ≡ true =
-    ap (list_all can_share) jobs ∙ list_all-append can_share old.jobs.items (job ∷ [])
-    ∙ rw (sym h.sharing ∙ known.0, known.1) refl in
-    let one_operation : (are_of new.operation old.jobs.items && are_of new.operation (job ∷ [])) ≡ true =
-    rw (operation, lawful.one_operation, sym same) (ap (λ b. b && true) (equal_numbers old.operation)) in
+    let lawful : IsLawful new.operation new.jobs.items =
+    rw (operation, jobs) (lawful_more old.operation limit old.jobs.items job h.whole.lawful low ok taken) in
     record {
       whole = record {
-        lawful = record {
-          some = omega (arith, ap length jobs, length-append old.jobs.items (job ∷ []));
-          all_admitted = subst AreAdmitted (sym jobs) (admitted-push old.jobs.items job lawful.all_admitted ok);
-          one_operation = ap (are_of new.operation) jobs
-              ∙ list_all-append (λ (j : Numbered). j.packet.operation == new.operation) old.jobs.items
-              (job ∷ []) ∙ one_operation;
-          few = omega (arith, count, le_true (events + count_of job.packet) limit known.3);
-          alone = λ _. all_share;
-        };
+        lawful = lawful;
         stubs = stubs ∙ ap (λ ss. ss ++ stub_of job ∷ []) h.whole.stubs
             ∙ sym (map-append stub_of old.jobs.items (job ∷ [])) ∙ ap (map stub_of) (sym jobs);
         body = body ∙ ap (λ bs. bs ++ job.packet.bytes) h.whole.body
@@ -160,7 +165,13 @@ batch_more old new shares events limit job h few taken ok operation jobs stubs b
             ∙ ap body_of (sym jobs);
         room = rw (operation, count) room;
       };
-      sharing = known.0 ∙ sym all_share;
+      sharing = (and_parts shares _ (sym (taken_by old shares events limit job h ok) ∙ taken)).0
+          ∙ sym (lawful.alone (omega (
+            arith,
+            h.whole.lawful.some,
+            ap length jobs,
+            length-append old.jobs.items (job ∷ []),
+          )));
       counted = sym count;
     }
 
@@ -170,45 +181,22 @@ batch_more old new shares events limit job h few taken ok operation jobs stubs b
 abbrev pub event_bytes : ℕ → ℕ
 event_bytes operation = if looks_up operation then 16 else 128
 
-sized : (operation : ℕ) → IsSome (event_size operation) → unwrap_or (event_size operation) 0 ≡ event_bytes operation
-sized operation known = by (operation == 129) (operation == 130) (operation == 131) refl refl refl known
-  where
-    by : (a b c : Bool) → (operation == 129) ≡ a → (operation == 130) ≡ b → (operation == 131) ≡ c →
-        IsSome {T = ℕ} (if a then Some 128 else if b then Some 128 else if c then Some 16 else None) →
-        ◌≡◌ {A = ℕ} (unwrap_or (if a then Some 128 else if b then Some 128 else if c then Some 16 else None) 0)
-        (if c then 16 else 128)
-    by true b true is_a is_b is_c known = absurd (omega (arith, eqb-true operation 129 is_a, eqb-true operation 131 is_c))
-    by true b false is_a is_b is_c known = refl
-    by false true true is_a is_b is_c known =
-        absurd (omega (arith, eqb-true operation 130 is_b, eqb-true operation 131 is_c))
-    by false true false is_a is_b is_c known = refl
-    by false false true is_a is_b is_c known = refl
-    by false false false is_a is_b is_c known = cc
-
-body_size : (operation : ℕ) (jobs : List Numbered) → are_of operation jobs ≡ true → AreAdmitted jobs
-    → length (body_of jobs) ≡ count_of_all jobs * event_bytes operation
-body_size operation [] one all = omega arith
-body_size operation (job ∷ jobs) one all =
-    let parts = and_parts (job.packet.operation == operation) (are_of operation jobs) one in
-    let own = eqb-true job.packet.operation operation parts.0 in
-    let bytes = job.packet.bytes in
-    let whole = admitted_are_whole 8190 bytes (event_size job.packet.operation) all.0 in
-    let first : count_of job.packet * event_bytes operation ≡ length bytes =
-    ap (λ size. count_of job.packet * size) (sym (sized job.packet.operation whole.known ∙ ap event_bytes own)) ∙ whole.whole in
-    let rest = body_size operation jobs parts.1 all.1 in
-    length-append bytes (body_of jobs) ∙ sym (grind (arith, first, rest))
-
 pub record IsSized (parts : Parts) (size : ℕ) : Type 0 where
   pub counted : length parts.body.items / size ≡ count_of_all parts.jobs.items
   pub few : length parts.body.items / size ≤ 8190
 
 pub body_counted : (parts : Parts) → AreParts parts → IsSized parts (event_bytes parts.operation)
 body_counted parts are =
-    by (looks_up parts.operation)
-    (ap length are.body ∙ body_size parts.operation parts.jobs.items are.lawful.one_operation are.lawful.all_admitted)
+    by parts.operation (kind_of_batch parts.operation parts.jobs.items are.lawful) are.lawful.one_operation
   where
-    by : (lookup : Bool)
-        → length parts.body.items ≡ count_of_all parts.jobs.items * (if lookup then 16 else 128)
-        → IsSized parts (if lookup then 16 else 128)
-    by true size = record { counted = omega (arith, size); few = omega (arith, size, are.lawful.few) }
-    by false size = record { counted = omega (arith, size); few = omega (arith, size, are.lawful.few) }
+    sized : (operation size : ℕ) → event_size operation ≡ Some size → 0 < size → are_of operation parts.jobs.items ≡ true
+        → IsSized parts size
+    sized operation size known some one =
+        let long = ap length are.body ∙ body_size operation size parts.jobs.items known one are.lawful.all_admitted in
+        let count = ap (λ n. n / size) long ∙ mul-div_cancel (count_of_all parts.jobs.items) some in
+        record { counted = count; few = omega (arith, count, are.lawful.few) }
+
+    by : (operation : ℕ) → Kind operation → are_of operation parts.jobs.items ≡ true → IsSized parts (event_bytes operation)
+    by operation OfAccounts one = sized 129 128 refl (omega arith) one
+    by operation OfTransfers one = sized 130 128 refl (omega arith) one
+    by operation OfIds one = sized 131 16 refl (omega arith) one

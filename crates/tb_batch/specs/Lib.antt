@@ -1,4 +1,2 @@
-pub mod Grouping
-pub mod Batch
-pub mod BatcherState
-pub mod Offering
+pub mod claim
+pub mod clauses

@@ -1,7 +1,7 @@
 //! One batch.
 
 ghost use Rattle.std.specs.Prelude.{◌≡◌, ◌<◌, length, map};
-ghost use Rattle.tb_work.specs.Job.{stub_of};
+ghost use Rattle.tb_work.specs.claim.Job.{stub_of};
 
 use crate::parts::Parts;
 use std::marker::Model;
@@ -22,8 +22,8 @@ impl Drop for Batch {
 
 impl Model for Batch {
     ghost use Rattle.std.specs.Prelude.{List};
-    ghost use Rattle.tb_work.specs.Packet.{Numbered};
-    ghost use Rattle.tb_batch.specs.Batch.{AreParts};
+    ghost use Rattle.tb_work.specs.claim.Packet.{Numbered};
+    ghost use Rattle.tb_batch.specs.claim.Batch.{AreParts};
 
     ghost Value = { List Numbered };
 
@@ -33,7 +33,7 @@ impl Model for Batch {
 }
 
 impl Batch {
-    ghost use Rattle.tb_batch.specs.Batch.{body_of, operation_of, AreAdmitted, AreParts};
+    ghost use Rattle.tb_batch.specs.claim.Batch.{body_of, operation_of, AreAdmitted, AreParts};
 
     /// Returns the batch of these parts, as after a commit that was refused. Takes no memory.
     pub fn whole(parts: Parts) -> Batch

@@ -1,7 +1,7 @@
 //! The batcher.
 
 ghost use Rattle.std.specs.Prelude.{◌≡◌, ◌<◌, ◌≤◌, ◌==◌, [], length, IfOk, IfErr, IsOk, IfSome, IfNone, true, false};
-ghost use Rattle.tb_layout.specs.inside.Limits.{batch_max};
+ghost use Rattle.tb_layout.specs.claim.Bounds.{batch_max};
 ghost use Rattle.tb_work.specs.declared.refusal.Refusal.TheVariants.{BadLimit};
 
 use crate::batch::Batch;
@@ -41,7 +41,7 @@ impl Drop for Batcher {
 }
 
 impl Model for Batcher {
-    ghost use Rattle.tb_batch.specs.BatcherState.{BatcherState, IsBatcherState, jobs_of};
+    ghost use Rattle.tb_batch.specs.clauses.BatcherState.{BatcherState, IsBatcherState, jobs_of};
 
     ghost Value = { BatcherState };
 
@@ -51,8 +51,8 @@ impl Model for Batcher {
 }
 
 impl Batcher {
-    ghost use Rattle.tb_batch.specs.Grouping.{is_taken, IsGroup};
-    ghost use Rattle.tb_batch.specs.Offering.{Offers, with_group};
+    ghost use Rattle.tb_batch.specs.claim.Grouping.{is_taken, IsGroup};
+    ghost use Rattle.tb_batch.specs.clauses.Offering.{Offers, with_group};
 
     /// Returns a batcher that holds nothing. The limit is 1 to 8190 events, and any other is refused as `BadLimit`.
     /// Takes no memory.

@@ -1,11 +1,11 @@
 //! The group that a batcher holds.
 
-ghost use Rattle.std.specs.Prelude.{◌≡◌, ◌<◌, ◌≤◌, ◌==◌, ◌++◌, ◌∷◌, [], length, IfOk, IfErr, OnOk, OnErr};
-ghost use Rattle.tb_layout.specs.inside.Limits.{batch_max};
-ghost use Rattle.tb_work.specs.Job.{count_of_all};
-ghost use Rattle.std.specs.Prelude.{true};
-ghost use Rattle.tb_batch.specs.Batch.{body_of};
-ghost use Rattle.tb_batch.specs.Grouping.{can_share, is_taken};
+ghost use Rattle.std.specs.Prelude.{◌≡◌, ◌<◌, ◌≤◌, ◌==◌, ◌++◌, ◌∷◌, [], length, IfOk, IfErr, OnOk, OnErr, true};
+ghost use Rattle.tb_layout.specs.claim.Bounds.{batch_max};
+ghost use Rattle.tb_work.specs.claim.Job.{count_of_all};
+ghost use Rattle.tb_batch.specs.claim.Batch.{body_of};
+ghost use Rattle.tb_work.specs.claim.Packet.{events_in};
+ghost use Rattle.tb_batch.specs.claim.Grouping.{can_share, is_taken};
 
 use crate::batch::Batch;
 use crate::parts::Parts;
@@ -25,8 +25,8 @@ pub(crate) struct Group {
 
 impl Model for Group {
     ghost use Rattle.std.specs.Prelude.{List};
-    ghost use Rattle.tb_work.specs.Packet.{Numbered};
-    ghost use Rattle.tb_batch.specs.Batch.{IsGroupOf};
+    ghost use Rattle.tb_work.specs.claim.Packet.{Numbered};
+    ghost use Rattle.tb_batch.specs.claim.Batch.{IsGroupOf};
 
     ghost Value = { List Numbered };
 
@@ -37,7 +37,7 @@ impl Model for Group {
 
 /// Returns whether a job's packet is neither open nor a lookup.
 fn can_share(job: &Job) -> bool
-    ensures { result ≡ can_share job.now }
+    ensures { result ≡ can_share (events_in job.now.packet) }
 {
     !job.is_open() && !looks_up(job.packet().operation)
 }

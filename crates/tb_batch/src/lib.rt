@@ -6,7 +6,7 @@
 //! was.
 //!
 //! A `Batch` keeps that its body is its packets' data in order and its stubs are theirs. It has at most 8,190 events of one
-//! operation, and an open packet or a lookup is alone in its own. `specs/Grouping.antt` defines what may join.
+//! operation, and an open packet or a lookup is alone in its own. `specs/claim/Grouping.antt` defines what may join.
 //!
 //! `two_submitters_joined` in tb_core_tests is an example that the gate compiles.
 #![tactic(auto)]

@@ -1,11 +1,11 @@
 //! What a batch is made of.
 
 ghost use Rattle.std.specs.Prelude.{◌≡◌, ◌+◌, ◌<◌, ◌≤◌, ◌++◌, ◌∷◌, [], true, false, length, vec_len, vec_capacity, IsOk, OnOk};
-ghost use Rattle.tb_layout.specs.inside.Limits.{batch_max};
-ghost use Rattle.tb_work.specs.Admission as spec;
-ghost use Rattle.tb_work.specs.Admission.{admission_of};
-ghost use Rattle.tb_work.specs.Job.{stub_of, count_of_all};
-ghost use Rattle.tb_batch.specs.Batch.{AreParts};
+ghost use Rattle.tb_layout.specs.claim.Bounds.{batch_max};
+ghost use Rattle.tb_work.specs.claim.Admission as spec;
+ghost use Rattle.tb_work.specs.claim.Admission.{admission_of};
+ghost use Rattle.tb_work.specs.claim.Job.{stub_of, count_of_all};
+ghost use Rattle.tb_batch.specs.claim.Batch.{AreParts};
 
 use crate::size::Size;
 use std::alloc::Global;

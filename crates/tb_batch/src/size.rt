@@ -1,7 +1,7 @@
 //! How large a group is.
 
 ghost use Rattle.std.specs.Prelude.{◌≡◌, length, max};
-ghost use Rattle.tb_work.specs.Admission.{count_of};
+ghost use Rattle.tb_work.specs.claim.Admission.{count_of};
 
 use tb_work::Job;
 

@@ -2,11 +2,11 @@
 
 ghost use Rattle.std.specs.Fn.{FnOnceReturnsAtMut};
 ghost use Rattle.std.specs.Prelude.{◌≡◌, ◌<◌, ◌≤◌, [], ◌∷◌, ◌++◌, List, length, None, Err, OnOk, IfOk, IfErr, IfSome, IfNone, IsSomeAnd, Some};
-ghost use Rattle.tb_layout.specs.inside.Limits.{moment_max, queued_max};
-ghost use Rattle.tb_submit.specs.Ends.{SenderState, SubmitterState, end_origin, ended_with, origin_of, sender_with, with_item};
-ghost use Rattle.tb_submit.specs.Refusals.{IsSubmitRefusal, in_flight, submit_refusal};
-ghost use Rattle.tb_work.specs.Ahead.{items_from};
-ghost use Rattle.tb_work.specs.Job.{numbered_packet};
+ghost use Rattle.tb_layout.specs.claim.Bounds.{moment_max, queued_max};
+ghost use Rattle.tb_submit.specs.clauses.Ends.{SenderState, SubmitterState, end_origin, ended_with, origin_of, sender_with, with_item};
+ghost use Rattle.tb_submit.specs.clauses.Refusals.{IsSubmitRefusal, in_flight, submit_refusal};
+ghost use Rattle.tb_work.specs.claim.Ahead.{items_from};
+ghost use Rattle.tb_work.specs.claim.Job.{numbered_packet};
 ghost use Rattle.tb_work.specs.declared.item.Item.{Item as ItemValue};
 ghost use Rattle.tb_work.specs.declared.item.Item.TheVariants as item;
 ghost use Rattle.tb_work.specs.declared.refusal.Refusal.TheVariants as refusal;
@@ -19,7 +19,7 @@ use std::sync::Wait;
 use std::thread::{PromisedHandle, Scope};
 use tb_drive::{Stop, end_control};
 use tb_layout::QUEUED_MAX;
-use tb_rings::SpinWait;
+use tb_rings::IdleWait;
 use tb_submit::{Control, ControlEnd, Ended, Seen, Submitter};
 use tb_work::{Packet, Refusal, Reply};
 
@@ -32,7 +32,7 @@ pub struct Client<'s> {
 }
 
 impl<'s> Model for Client<'s> {
-    ghost use Rattle.tb_submit.specs.Ends.{SubmitterState};
+    ghost use Rattle.tb_submit.specs.clauses.Ends.{SubmitterState};
 
     ghost Value = { SubmitterState };
 
@@ -47,11 +47,27 @@ impl<'s> Client<'s> {
         Client { submitter, stop }
     }
 
+    /// Returns how many packets it has queued, as `Submitter::queued` does. If `submit` returned `Full`, this is `QUEUED_MAX`
+    /// if all numbers are used, and less if the run is given up.
+    pub fn queued(&self) -> u64
+        ensures { result ≡ length self.now.queued }
+    {
+        self.submitter.queued()
+    }
+
+    /// Returns how many of its packets have unread replies, as `Submitter::in_flight` does. If `receive` returned `None`, this
+    /// is 0 if there was no reply to wait for, and more if the run is given up.
+    pub fn in_flight(&self) -> u32
+        ensures { result ≡ in_flight self.now }
+    {
+        self.submitter.in_flight()
+    }
+
     /// Queues a packet as `Submitter::submit` does, with its cost and its refusals. While the queue is full it yields
     /// and tries again.
     ///
     /// Errors: the packet with its refusal. `Full` means that the run is given up, or that this submitter has queued
-    /// 2^56 packets.
+    /// 2^56 packets, and `queued` says which.
     pub fn submit<R: Wait>(
         &mut self,
         rt: &R,
@@ -76,7 +92,7 @@ impl<'s> Client<'s> {
         let backoff = Backoff::new();
         for _ in rt.forever() {
             match self.submitter.submit(rt, alloc, packet) {
-                Err((back, Refusal::Full)) if !self.stop.is_asked() => packet = back,
+                Err((back, Refusal::Full)) if !self.stop.is_given_up() => packet = back,
                 submitted => return submitted,
             }
             backoff.snooze();
@@ -85,7 +101,7 @@ impl<'s> Client<'s> {
     }
 
     /// Waits for the next reply, and sleeps after some 30 microseconds. Returns `None` if no packet is in flight or the
-    /// run is given up. Takes no memory.
+    /// run is given up, and `in_flight` says which. Takes no memory.
     pub fn receive<R: Wait>(&mut self, rt: &R) -> Option<Reply>
         ensures own { origin_of self.new ≡ origin_of self.old }
         ensures some { IfSome result (λ reply. self.new
@@ -98,15 +114,15 @@ impl<'s> Client<'s> {
         if self.submitter.in_flight() == 0 {
             return None;
         }
-        let spin = SpinWait::new();
+        let idle = IdleWait::new();
         for _ in rt.forever() {
             if let Some(reply) = self.submitter.reply() {
                 return Some(reply);
             }
-            if self.stop.is_asked() {
+            if self.stop.is_given_up() {
                 return None;
             }
-            self.submitter.wait(rt, &spin);
+            self.submitter.wait(rt, &idle);
         }
         unreachable!()
     }
@@ -164,7 +180,7 @@ impl<'s> Client<'s> {
                 Ok(ended) => return Some(ended),
                 Err((back, _)) => submitter = back,
             }
-            if stop.is_asked() && submitter.give_up() {
+            if stop.is_given_up() && submitter.give_up() {
                 return None;
             }
             backoff.snooze();
@@ -201,7 +217,7 @@ impl<'s> Client<'s> {
             },
         );
         if started.is_err() {
-            stop.ask();
+            stop.give_up();
         }
         started.ok()
     }
@@ -216,7 +232,7 @@ pub struct ControlClient<'s> {
 }
 
 impl<'s> Model for ControlClient<'s> {
-    ghost use Rattle.tb_submit.specs.Ends.{SenderState};
+    ghost use Rattle.tb_submit.specs.clauses.Ends.{SenderState};
 
     ghost Value = { SenderState };
 
@@ -231,11 +247,19 @@ impl<'s> ControlClient<'s> {
         ControlClient { control, stop }
     }
 
+    /// Returns how many pulses it has queued, as `Control::queued` does. If `pulse` returned `Full`, this is `QUEUED_MAX` if
+    /// no pulse can be queued any more, and less if the run is given up.
+    pub fn queued(&self) -> u64
+        ensures { result ≡ length self.now.queued }
+    {
+        self.control.queued()
+    }
+
     /// Queues a pulse with this moment in nanoseconds, at most 2^62. While the queue is full it yields and tries again.
     /// Takes no memory.
     ///
-    /// Errors: `MomentTooLarge`, or `Full` if the run is given up or the control has queued 2^56 pulses. Nothing is
-    /// changed.
+    /// Errors: `MomentTooLarge`, or `Full` if the run is given up or the control has queued 2^56 pulses, and `queued` says
+    /// which. Nothing is changed.
     pub fn pulse<R: Wait>(&mut self, rt: &R, moment: u64) -> Result<(), Refusal>
         ensures own { self.new.seat ≡ self.old.seat }
         ensures ok { OnOk result (self.new ≡ sender_with self.old (item.Pulse moment)) }
@@ -250,7 +274,7 @@ impl<'s> ControlClient<'s> {
         let backoff = Backoff::new();
         for _ in rt.forever() {
             match self.control.pulse(rt, moment) {
-                Err(Refusal::Full) if !self.stop.is_asked() => {}
+                Err(Refusal::Full) if !self.stop.is_given_up() => {}
                 pulsed => return pulsed,
             }
             backoff.snooze();
@@ -312,7 +336,7 @@ impl<'s> ControlClient<'s> {
             },
         );
         if started.is_err() {
-            stop.ask();
+            stop.give_up();
         }
         started.ok()
     }

@@ -1,7 +1,7 @@
 //! Submitters and the control in an application's own threads, without drivers.
 //!
 //! The application moves a `Client`, which is a submitter, into each of its threads, and a `ControlClient` into the control's. Their
-//! calls wait, and return if the run is given up by `Stop::ask` (`tb_drive`), as an application does if it can't start a thread.
+//! calls wait, and return if the run is given up by `Stop::give_up` (`tb_drive`), as an application does if it can't start a thread.
 //!
 //! `start` of both starts a thread that ends its sender after its work, since `serve` waits for each end. The thread's end is the
 //! sender's own (`OwnEnd`, `OwnOpenEnd`), as `settle` requires.

@@ -15,7 +15,7 @@ pub struct OwnEnd {
 
 impl Promise<Option<Ended>> for OwnEnd {
     ghost use Rattle.std.specs.Prelude.{◌≡◌, IfSome};
-    ghost use Rattle.tb_submit.specs.Ends.{end_origin, origin_of};
+    ghost use Rattle.tb_submit.specs.clauses.Ends.{end_origin, origin_of};
 
     ghost kept_by = { λ p result. IfSome result (λ end. end_origin end ≡ origin_of p.submitter.value) };
 }

@@ -1,22 +1,9 @@
 -- Which runs the headline excludes, and two that it doesn't.
 use Rattle.std.proofs.Common.{refl, sym, ap, subst, ◌∙◌, arith, ◌≡◌, ◌<◌, ◌≤◌, ℕ, zero, suc, true≢false, List, [], ◌∷◌, ◌++◌, drop, length, append-nil, map, Some}
-use Rattle.std.specs.Prelude.{slice_get}
-use Rattle.std.proofs.lemmas.Bool.{ne_eqb}
-use Rattle.tb_layout.specs.Events.{Input, Packet, Pulse}
-use Rattle.tb_work.specs.Ahead.{items_in, items_from}
-use Rattle.tb_work.specs.Queue.{AreNumbered, IsEnded}
-use Rattle.tb_work.specs.Packet.{Numbered, ReplyValue, input_of}
+use Rattle.tb_core.proofs.Words.{slice_get, ne_eqb, Input, Packet, Pulse, items_in, items_from, AreNumbered, IsEnded, Numbered, ReplyValue, input_of, Outcome, Committed, Shutdown, Stopped, moments_in, due, Run, committed_in, ahead_in, IsPrefix, inputs, replay, Headline, IsTrueOf, packets_queued}
 use Rattle.tb_work.specs.declared.item.Item.TheVariants as item
-use Rattle.tb_work.specs.declared.outcome.Outcome.{Outcome}
-use Rattle.tb_work.specs.declared.outcome.Outcome.TheVariants.{Committed, Shutdown, Stopped}
 use Rattle.tb_work.specs.declared.packet.Packet as packet
-use Rattle.tb_core.specs.BadRuns.{IsReplyTo, Excludes, CommitsAStranger, ShutsDownACommitted, StopsACommitted, StopsBehindTheClose, DropsPulses, ChangesPlaces, ForgetsTheState, LosesTheJournal, CountsPlacesAnew, CommitsNothing, CommitsNothingRunning, CommitsNothingStopped, InventsAPacket, InventsAPulse, Overtakes, GivesAnothersReply, AnswersAnotherwise, LosesAnItem, stopped_at_once, MayStopAtOnce, closed_first, MayPopTheCloseFirst}
-use Rattle.tb_core.specs.EachSubmitter.{moments_in}
-use Rattle.tb_core.specs.Due.{due}
-use Rattle.tb_core.specs.EndedRun.{Run, committed_in, ahead_in, IsPrefix}
-use Rattle.tb_core.specs.Journal.{inputs}
-use Rattle.tb_machine.specs.Replay.{replay}
-use Rattle.tb_core.specs.Headline.{Headline, IsTrueOf, packets_queued}
+use Rattle.tb_core.specs.clauses.BadRuns.{IsReplyTo, Excludes, CommitsAStranger, ShutsDownACommitted, StopsACommitted, StopsBehindTheClose, DropsPulses, ChangesPlaces, ForgetsTheState, LosesTheJournal, CountsPlacesAnew, CommitsNothing, CommitsNothingRunning, CommitsNothingStopped, InventsAPacket, InventsAPulse, Overtakes, GivesAnothersReply, AnswersAnotherwise, LosesAnItem, stopped_at_once, MayStopAtOnce, closed_first, MayPopTheCloseFirst}
 use Rattle.tb_core.proofs.EachSubmitter.{at-prefix, known-ahead, job-ahead, from-least, rises, replied-ahead, pulses_are_the_controls}
 use Rattle.tb_core.proofs.HeadlineLemmas.{all-replied, all-true, jobs-queued}
 use Rattle.tb_core.proofs.Packets.{from-numbered}

@@ -1,74 +1,16 @@
 -- What is known of a batch that the machine takes.
-use Rattle.std.proofs.Common.{refl, sym, ap, subst, ◌∙◌, arith, ◌≡◌, ◌≤◌, ℕ, append-nil, ◌+◌, ◌*◌, ◌/◌, ◌%◌, Bool, true, false, not, List, [], ◌∷◌, ◌++◌, map, length, length-append, Option, Some, None}
-use Rattle.std.specs.Prelude.{◌==◌, ◌||◌, fold, IsOk, if◌then◌else◌}
-use Rattle.std.specs.List.{list_all, filter_map, cons_option}
-use Rattle.std.proofs.lemmas.List.{length-map}
+use Rattle.std.proofs.Common.{refl, sym, ap, subst, ◌∙◌, arith, ◌≡◌, ◌≤◌, ℕ, append-nil, ◌+◌, ◌*◌, ◌/◌, ◌%◌, true, false, List, [], ◌∷◌, ◌++◌, map, length, Option, Some, None}
+use Rattle.tb_core.proofs.Words.{◌==◌, ◌||◌, fold, filter_map, cons_option, length-map, and_parts, both_ways, eqb-true, Accounts, Transfers, Ids, events_of, chunks, ids_of, clock_max, JoiningIsInvisible, State, accounts_found, answer_of, after_packet, Looked_up, Committed, event_size, count_of, count_of_size, Numbered, events_in, reply_with, count_of_all, is_lookup, stub_of, can_share, body_of, are_of, all_share, IsLawful, Kind, OfAccounts, OfTransfers, OfIds, first_is, kind_of_batch, body_size, length-chunks, count_of_stubs, IsBatchEntry}
 use Rattle.std.proofs.lemmas.List.Sums.{sum_by-cons}
-use Rattle.std.proofs.lemmas.Bool.{and_parts, both_ways, eqb-true, not-true}
-use Rattle.tb_layout.specs.Account.{account_of, is_linked as is_linked_account}
-use Rattle.tb_layout.specs.Transfer.{transfer_of, is_linked as is_linked_transfer}
-use Rattle.tb_layout.specs.Events.{Accounts, Transfers, Ids, events_of, chunks, ids_of}
-use Rattle.tb_layout.specs.Bytes.{little_endian}
-use Rattle.tb_tables.specs.Balances.{balanced_account}
-use Rattle.tb_layout.specs.Limits.{clock_max}
-use Rattle.tb_machine.specs.Joining.{JoiningIsInvisible}
-use Rattle.tb_machine.specs.Replay.{State, accounts_found, answer_of, after_packet}
-use Rattle.tb_layout.specs.declared.answer.Answer.TheVariants.{Accounts as Looked_up}
-use Rattle.tb_work.specs.declared.outcome.Outcome.TheVariants.{Committed}
-use Rattle.tb_work.specs.Admission.{event_size, admission_of_size, count_of, count_of_size}
-use Rattle.tb_work.specs.Packet.{Numbered, events_in, input_of}
-use Rattle.tb_work.specs.Answer.{reply_with}
-use Rattle.tb_work.specs.Job.{count_of_all, is_lookup, stub_of, is_open as is_open_packet}
+use Rattle.tb_layout.specs.claim.Account.{account_of, is_linked as is_linked_account}
+use Rattle.tb_layout.specs.claim.Transfer.{transfer_of, is_linked as is_linked_transfer}
+use Rattle.tb_layout.specs.claim.Bytes.{little_endian}
+use Rattle.tb_tables.specs.claim.Balances.{balanced_account}
 use Rattle.tb_work.specs.declared.stub.Stub.{Stub}
-use Rattle.tb_batch.specs.Grouping.{can_share, are_of}
-use Rattle.tb_batch.specs.Batch.{body_of, IsLawful, AreAdmitted}
 use Rattle.tb_core.proofs.PacketAnswers.{answers_from}
-use Rattle.tb_core.specs.Ledger.{batch_packets, count_of_stubs, IsBatchEntry}
-use Rattle.tb_core.proofs.Bodies.{first_is, whole_events, batch_packets-jobs}
-use Rattle.tb_core.proofs.JoinedBatch.{length-chunks, GivesEach, gives}
-
--- ---- operations
-
--- those that a packet may have
-pub data Kind : ℕ → Type 0 where
-  OfAccounts : Kind 129
-  OfTransfers : Kind 130
-  OfIds : Kind 131
-
-pub kind_of : (operation : ℕ) (bytes : List ℕ)
-    → IsOk (admission_of_size 8190 bytes (event_size operation)) → Kind operation
-kind_of operation bytes ok = by (operation == 129) (operation == 130) (operation == 131) refl refl refl ok
-  where
-    kind : (number : ℕ) → Kind number → (operation == number) ≡ true → Kind operation
-    kind number of_it is = subst Kind (sym (eqb-true operation number is)) of_it
-
-    by : (a b c : Bool) → (operation == 129) ≡ a → (operation == 130) ≡ b → (operation == 131) ≡ c →
-        IsOk (admission_of_size 8190 bytes (if a then Some 128 else if b then Some 128 else if c then Some 16
-        else None)) → Kind operation
-    by true b c is_a is_b is_c ok = kind 129 OfAccounts is_a
-    by false true c is_a is_b is_c ok = kind 130 OfTransfers is_b
-    by false false true is_a is_b is_c ok = kind 131 OfIds is_c
-    by false false false is_a is_b is_c ok = cc
-
-kind_of_batch : (operation : ℕ) (jobs : List Numbered) → IsLawful operation jobs → Kind operation
-kind_of_batch operation [] lawful = absurd (omega (arith, lawful.some))
-kind_of_batch operation (job ∷ jobs) lawful =
-    subst Kind (first_is operation job jobs lawful.one_operation).0
-    (kind_of job.packet.operation job.packet.bytes lawful.all_admitted.0)
+use Rattle.tb_core.proofs.JoinedBatch.{GivesEach, gives}
 
 -- ---- sizes
-
-body_size : (operation size : ℕ) (jobs : List Numbered) → event_size operation ≡ Some size
-    → are_of operation jobs ≡ true → AreAdmitted jobs → length (body_of jobs) ≡ count_of_all jobs * size
-body_size operation size [] is one all = omega arith
-body_size operation size (job ∷ jobs) is one all =
-    let first = first_is operation job jobs one in
-    let own = ap event_size first.0 ∙ is in
-    let bytes = job.packet.bytes in
-    let count : count_of job.packet * size ≡ length bytes = ap (λ s. count_of_size bytes s * size) own
-    ∙ whole_events job.packet size own all.0 in
-    let rest = body_size operation size jobs is first.1 all.1 in
-    length-append bytes (body_of jobs) ∙ sym (grind (arith, count, rest))
 
 -- a batch of accounts or transfers may be committed
 pub record MayCommit (operation : ℕ) (jobs : List Numbered) : Type 0 where
@@ -180,10 +122,10 @@ gives_one place operation state (job ∷ []) lawful lookup =
     }
 gives_one place operation state (job ∷ next ∷ jobs) lawful lookup =
     let first = first_is operation job (next ∷ jobs) lawful.one_operation in
-    let share = and_parts (can_share job) (list_all can_share (next ∷ jobs)) (lawful.alone (omega arith)) in
-    let other = and_parts (not (is_open_packet job.packet)) (not (is_lookup job.packet)) share.0 in
-    let lookups : is_lookup job.packet ≡ true = ap (λ op. op == 131) first.0 ∙ lookup in
-    absurd (both_ways (is_lookup job.packet) (not-true (is_lookup job.packet) other.1) lookups)
+    let number = eqb-true job.packet.operation 131 (ap (λ op. op == 131) first.0 ∙ lookup) in
+    let share = can_share (events_in job.packet) in
+    absurd (both_ways share (ap (λ op. can_share (events_of op job.packet.bytes)) number)
+    (and_parts share (all_share (next ∷ jobs)) (lawful.alone (omega arith))).0)
 
 -- ---- what its journal entry has
 
@@ -212,12 +154,3 @@ entry_is operation jobs lawful = by operation (kind_of_batch operation jobs lawf
     by op OfAccounts one = sized 129 128 refl one
     by op OfTransfers one = sized 130 128 refl one
     by op OfIds one = sized 131 16 refl one
-
-pub entry_has : (operation : ℕ) (jobs : List Numbered) → IsLawful operation jobs
-    → batch_packets operation (body_of jobs) (map stub_of jobs) ≡ map input_of jobs
-entry_has operation jobs lawful = by operation (kind_of_batch operation jobs lawful) lawful.one_operation
-  where
-    by : (op : ℕ) → Kind op → are_of op jobs ≡ true → batch_packets op (body_of jobs) (map stub_of jobs) ≡ map input_of jobs
-    by op OfAccounts one = batch_packets-jobs 129 128 jobs refl one lawful.all_admitted
-    by op OfTransfers one = batch_packets-jobs 130 128 jobs refl one lawful.all_admitted
-    by op OfIds one = batch_packets-jobs 131 16 jobs refl one lawful.all_admitted

@@ -1,20 +1,7 @@
 -- The events of a batch's body.
-use Rattle.std.proofs.Common.{refl, sym, ap, subst, ◌∙◌, arith, ◌≡◌, ◌≤◌, ℕ, zero, suc, ◌+◌, ◌*◌, ◌/◌, true, List, [], ◌∷◌, ◌++◌, map, drop, length, length-append, Some}
-use Rattle.std.specs.Prelude.{◌==◌, IsOk, unwrap_or}
+use Rattle.std.proofs.Common.{refl, sym, ap, ◌∙◌, arith, ◌≡◌, ◌≤◌, ℕ, zero, suc, ◌+◌, ◌*◌, ◌/◌, true, List, [], ◌∷◌, ◌++◌, map, drop, length, length-append, Some}
+use Rattle.tb_core.proofs.Words.{unwrap_or, map-append, take-append-le, drop-append-le, length-drop, take-append_seam, drop-append_seam, chunks, event_size, count_of, count_of_size, Numbered, input_of, stub_of, body_of, are_of, AreAdmitted, IsLawful, Kind, OfAccounts, OfTransfers, OfIds, first_is, kind_of_batch, whole_events, events_in_turn, size_of, batch_packets}
 use Rattle.std.specs.Simd.{first_chunks}
-use Rattle.std.proofs.lemmas.List.{map-append, take-append-le, drop-append-le, length-drop}
-use Rattle.std.proofs.Math.Seq.{take-append_seam, drop-append_seam}
-use Rattle.std.proofs.lemmas.Bool.{eqb-true, and_parts}
-use Rattle.tb_layout.specs.Events.{chunks}
-use Rattle.tb_work.proofs.Admissions.{admitted_are_whole}
-use Rattle.tb_work.specs.Admission.{event_size, admission_of, count_of, count_of_size}
-use Rattle.tb_work.specs.Packet.{Numbered, input_of}
-use Rattle.tb_work.specs.Job.{stub_of}
-use Rattle.tb_work.specs.declared.packet.Packet.{Packet}
-use Rattle.tb_batch.specs.Grouping.{are_of}
-use Rattle.tb_batch.specs.Batch.{body_of, AreAdmitted}
-use Rattle.tb_machine.specs.Joining.{events_in_turn}
-use Rattle.tb_core.specs.Ledger.{size_of, batch_packets}
 
 -- ---- chunks
 
@@ -44,22 +31,8 @@ chunks-append_128 xs ys whole =
 
 -- ---- packets that were admitted
 
--- the data is whole events
-pub whole_events : (packet : Packet) (size : ℕ) → event_size packet.operation ≡ Some size
-    → IsOk (admission_of 8190 packet) → length packet.bytes / size * size ≡ length packet.bytes
-whole_events packet size is ok =
-    subst (λ s. count_of_size packet.bytes s * unwrap_or s 0 ≡ length packet.bytes) is
-    (admitted_are_whole 8190 packet.bytes (event_size packet.operation) ok).whole
-
--- its operation, of a batch's first packet
-pub first_is : (operation : ℕ) (job : Numbered) (jobs : List Numbered) → are_of operation (job ∷ jobs) ≡ true
-    → (job.packet.operation ≡ operation) × (are_of operation jobs ≡ true)
-first_is operation job jobs all =
-    let parts = and_parts (job.packet.operation == operation) (are_of operation jobs) all in
-    (eqb-true job.packet.operation operation parts.0, parts.1)
-
 -- the stubs cut the body to its packets
-pub batch_packets-jobs : (operation size : ℕ) (jobs : List Numbered) → event_size operation ≡ Some size
+batch_packets-jobs : (operation size : ℕ) (jobs : List Numbered) → event_size operation ≡ Some size
     → are_of operation jobs ≡ true → AreAdmitted jobs
     → batch_packets operation (body_of jobs) (map stub_of jobs) ≡ map input_of jobs
 batch_packets-jobs operation size [] is one all = refl
@@ -79,6 +52,15 @@ batch_packets-jobs operation size (job ∷ jobs) is one all =
       batch_packets-jobs operation size jobs is first.1 all.1,
       first.0,
     ) refl
+
+pub entry_has : (operation : ℕ) (jobs : List Numbered) → IsLawful operation jobs
+    → batch_packets operation (body_of jobs) (map stub_of jobs) ≡ map input_of jobs
+entry_has operation jobs lawful = by operation (kind_of_batch operation jobs lawful) lawful.one_operation
+  where
+    by : (op : ℕ) → Kind op → are_of op jobs ≡ true → batch_packets op (body_of jobs) (map stub_of jobs) ≡ map input_of jobs
+    by op OfAccounts one = batch_packets-jobs 129 128 jobs refl one lawful.all_admitted
+    by op OfTransfers one = batch_packets-jobs 130 128 jobs refl one lawful.all_admitted
+    by op OfIds one = batch_packets-jobs 131 16 jobs refl one lawful.all_admitted
 
 -- the events of the body are those of its packets, laid one after the other
 pub laid-chunks : {Event : Type 0} (f : List ℕ → Event) (operation : ℕ) (jobs : List Numbered)

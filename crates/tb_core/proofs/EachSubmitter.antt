@@ -1,20 +1,8 @@
 -- What follows from the headline for each submitter, for the pulses, and for each packet committed.
 use Rattle.std.proofs.Common.{refl, sym, ap, subst, ◌∙◌, arith, ◌≡◌, ◌<◌, ◌≤◌, ◌⊎◌, inl, inr, ℕ, zero, suc, ◌+◌, Bool, true, false, true≢false, List, [], ◌∷◌, ◌++◌, length, map, Some}
-use Rattle.std.specs.Prelude.{◌==◌, slice_get}
-use Rattle.std.proofs.lemmas.Bool.{eq-eqb, cases_order}
+use Rattle.tb_core.proofs.Words.{◌==◌, slice_get, eq-eqb, cases_order, Events, Input, Packet, Pulse, Numbered, ReplyValue, input_of, ahead, items_in, items_from, AreSubmitted, IsSubmitted, Outcome, Committed, Shutdown, Stopped, Item, Ticket, is_packet_of, packets_of, moments_in, moments_queued, CommittedOfEachSubmitter, PulsesAreTheControls, CommittedAreAnswered, Run, committed_in, ahead_in, IsPrefix, Headline, IsTrueOf}
 use Rattle.tb_layout.specs.declared.answer.Answer.{Answer}
-use Rattle.tb_layout.specs.Events.{Events, Input, Packet, Pulse}
-use Rattle.tb_work.specs.Packet.{Numbered, ReplyValue, input_of}
-use Rattle.tb_work.specs.Ahead.{ahead, items_in, items_from}
-use Rattle.tb_work.specs.Queue.{AreSubmitted, IsSubmitted}
-use Rattle.tb_work.specs.declared.outcome.Outcome.{Outcome}
-use Rattle.tb_work.specs.declared.outcome.Outcome.TheVariants.{Committed, Shutdown, Stopped}
-use Rattle.tb_work.specs.declared.item.Item.{Item}
 use Rattle.tb_work.specs.declared.item.Item.TheVariants as item
-use Rattle.tb_work.specs.declared.item.Ticket.{Ticket}
-use Rattle.tb_core.specs.EachSubmitter.{is_packet_of, packets_of, moments_in, moments_queued, CommittedOfEachSubmitter, PulsesAreTheControls, CommittedAreAnswered}
-use Rattle.tb_core.specs.EndedRun.{Run, committed_in, ahead_in, IsPrefix}
-use Rattle.tb_core.specs.Headline.{Headline, IsTrueOf}
 use Rattle.tb_core.proofs.HeadlineLemmas.{is-prefix-trans, prefix-filter, jobs-queued}
 use Rattle.tb_core.proofs.Packets.{jobs_of, jobs_with, part-cons, part_with, AreFrom, from-numbered}
 

@@ -1,19 +1,7 @@
 -- Worked examples of what is due, computed from the definition.
 use Rattle.std.proofs.Common.{refl, ◌≡◌, ℕ, List, [], ◌∷◌, ◌++◌}
-use Rattle.std.specs.Prelude.{map, replicate}
-use Rattle.tb_layout.specs.declared.answer.Answer.TheVariants.{Failures}
-use Rattle.tb_work.specs.declared.outcome.Outcome.{Outcome}
-use Rattle.tb_work.specs.declared.outcome.Outcome.TheVariants.{Committed, Shutdown, Stopped}
-use Rattle.tb_work.specs.declared.item.Item.{Item}
+use Rattle.tb_core.proofs.Words.{map, replicate, Failures, Outcome, Committed, Shutdown, Stopped, Item, Ticket, Numbered, ReplyValue, input_of, numbered_packet, ahead, replay, due, Run, committed_in, inputs}
 use Rattle.tb_work.specs.declared.item.Item.TheVariants as item
-use Rattle.tb_work.specs.declared.item.Ticket.{Ticket}
-use Rattle.tb_work.specs.Packet.{Numbered, ReplyValue, input_of}
-use Rattle.tb_work.specs.Job.{numbered_packet}
-use Rattle.tb_work.specs.Ahead.{ahead}
-use Rattle.tb_machine.specs.Replay.{replay}
-use Rattle.tb_core.specs.Due.{due}
-use Rattle.tb_core.specs.EndedRun.{Run, committed_in}
-use Rattle.tb_core.specs.Journal.{inputs}
 
 -- an account's event with this id, in ledger 1 with code 1
 abbrev event : ℕ → List ℕ

@@ -1,16 +1,9 @@
 -- What a front made of a queue, and of one item more.
 use Rattle.std.proofs.Common.{refl, sym, ap, subst, ◌∙◌, arith, ◌≡◌, ◌<◌, ◌≤◌, ℕ, zero, suc, ◌+◌, Bool, true, false, List, [], ◌∷◌, ◌++◌, length, Option, Some, None, append_assoc, append-nil}
-use Rattle.std.specs.Prelude.{is_some, IfSome, slice_get}
-use Rattle.std.proofs.lemmas.Bool.{le-leb, lt-leb}
-use Rattle.tb_layout.specs.Events.{Input}
-use Rattle.tb_layout.specs.Events as input
-use Rattle.tb_work.specs.Packet.{Numbered, input_of}
-use Rattle.tb_work.specs.Ahead.{ahead}
-use Rattle.tb_work.specs.declared.item.Item.{Item}
+use Rattle.tb_core.proofs.Words.{is_some, IfSome, slice_get, le-leb, lt-leb, Input, Numbered, input_of, ahead, Item, Decision, Admitted, Pulsed, Returned, decisions_of_item, is_behind, place_after, decisions_at, decisions_from, decisions_of, IsPacket, AreDecisions, Place, Ahead, Behind, next_place}
+use Rattle.tb_layout.specs.claim.Events as input
 use Rattle.tb_work.specs.declared.item.Item.TheVariants as item
 use Rattle.tb_core.specs.declared.parcel.Cause.TheVariants.{Shutdown}
-use Rattle.tb_core.specs.inside.Decision.{Decision, Admitted, Pulsed, Returned, decisions_of_item, is_behind, place_after, decisions_at, decisions_from, decisions_of, IsPacket, AreDecisions}
-use Rattle.tb_core.specs.Due.{Place, Ahead, Behind, next_place}
 
 -- ---- one item more, at the place after the others
 

@@ -1,23 +1,9 @@
 -- A lawful report has all that the headline says.
 use Rattle.std.proofs.Common.{refl, sym, ap, subst, ◌∙◌, arith, ◌≡◌, ◌<◌, ℕ, zero, suc, ◌+◌, Bool, true, false, true≢false, List, [], ◌∷◌, ◌++◌, map, take, length, length-append, append_assoc, append-nil, Option, Some, None}
-use Rattle.std.specs.Prelude.{◌==◌, ◌≢◌, filter, slice_get, if◌then◌else◌}
-use Rattle.std.specs.List.{AllByRecursion}
-use Rattle.std.proofs.lemmas.Bool.{eq-eqb}
-use Rattle.std.proofs.lemmas.List.Elements.{filter-append}
-use Rattle.tb_layout.specs.Events.{Input, Packet, Pulse}
-use Rattle.tb_machine.specs.Replay.{replay}
-use Rattle.tb_machine.specs.AnswerAt.{answer_to}
-use Rattle.tb_work.specs.Packet.{Numbered, events_in, ReplyValue, input_of}
-use Rattle.tb_work.specs.Ahead.{ahead, items_in}
-use Rattle.tb_work.specs.Queue.{IsQueueOf}
-use Rattle.tb_work.specs.declared.outcome.Outcome.{Outcome}
-use Rattle.tb_work.specs.declared.item.Item.{Item}
+use Rattle.tb_core.proofs.Words.{◌==◌, ◌≢◌, filter, slice_get, if◌then◌else◌, AllByRecursion, eq-eqb, filter-append, Input, Packet, Pulse, replay, Numbered, events_in, ReplyValue, input_of, ahead, items_in, IsQueueOf, Outcome, Item, outcome_at, outcome_with, all_due_from, due, replies_to, Place, Ahead, Behind, next_place, IsTrueOf, packets_queued, Run, committed_in, ahead_in, IsPrefix, inputs}
+use Rattle.tb_machine.specs.claim.AnswerAt.{answer_to}
 use Rattle.tb_work.specs.declared.item.Item.TheVariants as item
-use Rattle.tb_core.specs.Due.{outcome_at, outcome_with, all_due_from, due, replies_to, Place, Ahead, Behind, next_place}
-use Rattle.tb_core.specs.Report.{ReportsHeadline}
-use Rattle.tb_core.specs.Headline.{IsTrueOf, packets_queued}
-use Rattle.tb_core.specs.EndedRun.{Run, committed_in, ahead_in, IsPrefix}
-use Rattle.tb_core.specs.Journal.{inputs}
+use Rattle.tb_core.specs.claim.Report.{ReportsHeadline}
 use Rattle.tb_core.proofs.Since.{get-drop}
 use Rattle.tb_core.proofs.Packets.{jobs_of, jobs_with, jobs-part, AreFrom, from-numbered, AreBelow, nowhere-below, below-longer, below-append, below-first}
 

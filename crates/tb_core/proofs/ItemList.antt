@@ -1,13 +1,5 @@
 -- A list of items on its way through a front and a ledger.
-use Rattle.std.specs.Prelude.{◌≡◌, ℕ, List, ◌++◌}
-use Rattle.tb_work.specs.Packet.{ReplyValue}
-use Rattle.tb_work.specs.declared.item.Item.{Item}
-use Rattle.tb_core.specs.declared.parcel.Parcel.{Parcel}
-use Rattle.tb_core.specs.Front.{FrontState, all_decisions_in, held_by}
-use Rattle.tb_core.specs.Grouping.{AreJoinedParcels}
-use Rattle.tb_core.specs.Journal.{LedgerState}
-use Rattle.tb_core.specs.inside.Decision.{Decision}
-use Rattle.tb_core.specs.Run.{HasNotStopped, IsRunning, IsDrained}
+use Rattle.tb_core.proofs.Words.{◌≡◌, ℕ, List, ◌++◌, ReplyValue, Item, Parcel, FrontState, all_decisions_in, held_by, AreJoinedParcels, LedgerState, Decision, HasNotStopped, IsRunning, IsDrained}
 
 -- the parcels with these decisions, all before the rest, were applied
 pub record AreApplied (start : LedgerState) (limit : ℕ) (decisions : List Decision) (rest : List Parcel) (ledger : LedgerState)

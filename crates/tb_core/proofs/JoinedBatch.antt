@@ -1,28 +1,10 @@
 -- A batch that is committed gives each packet what it gives by itself.
-use Rattle.std.proofs.Common.{Bool, refl, sym, ap, subst, ◌∙◌, arith, ◌≡◌, ◌≤◌, ◌<◌, ℕ, zero, suc, drop, ◌+◌, ◌/◌, true, not, List, [], ◌∷◌, map, length, length-append, Some}
-use Rattle.std.specs.Prelude.{fold}
-use Rattle.std.specs.List.{list_all}
-use Rattle.std.specs.Simd.{first_chunks}
-use Rattle.std.proofs.lemmas.List.{length-map}
-use Rattle.std.proofs.lemmas.Bool.{and_parts, and_from}
+use Rattle.std.proofs.Common.{Bool, refl, sym, ap, subst, ◌∙◌, arith, ◌≡◌, ◌≤◌, ◌<◌, ℕ, ◌+◌, ◌/◌, true, not, List, [], ◌∷◌, map, length, length-append, Some}
+use Rattle.tb_core.proofs.Words.{fold, length-map, and_parts, and_from, Events, events_of, chunks, is_last_linked, RiseWithin, clock_max, State, failures_of, answer_of, after_packet, events_in_turn, none_open, cuts, failures_each, JoiningIsInvisible, Failures, Committed, event_size, count_of, count_of_size, Numbered, events_in, ReplyValue, reply_with, count_of_all, can_share, body_of, are_of, all_share, AreAdmitted, first_is, length-chunks, cut_replies_from}
 use Rattle.tb_layout.specs.declared.failure.Failure.{Failure}
-use Rattle.tb_layout.specs.Events.{Events, events_of, chunks, is_last_linked}
-use Rattle.tb_layout.specs.inside.Events.{is_open}
-use Rattle.tb_layout.specs.Failures.{RiseWithin}
-use Rattle.tb_layout.specs.Limits.{clock_max}
-use Rattle.tb_machine.specs.Replay.{State, failures_of, answer_of, after_packet}
-use Rattle.tb_machine.specs.Joining.{events_in_turn, none_open, cuts, failures_each, JoiningIsInvisible}
-use Rattle.tb_layout.specs.declared.answer.Answer.TheVariants.{Failures}
-use Rattle.tb_work.specs.declared.outcome.Outcome.TheVariants.{Committed}
-use Rattle.tb_work.specs.Admission.{event_size, count_of, count_of_size}
-use Rattle.tb_work.specs.Packet.{Numbered, events_in, ReplyValue}
-use Rattle.tb_work.specs.Answer.{reply_with}
-use Rattle.tb_work.specs.Job.{count_of_all}
-use Rattle.tb_batch.specs.Grouping.{can_share, are_of}
-use Rattle.tb_batch.specs.Batch.{body_of, AreAdmitted}
-use Rattle.tb_demux.specs.Cutting.{cut_replies_from}
+use Rattle.tb_layout.specs.claim.EventCounts.{is_open}
 use Rattle.tb_core.proofs.PacketAnswers.{answers_from}
-use Rattle.tb_core.proofs.Bodies.{first_is, laid-chunks}
+use Rattle.tb_core.proofs.Bodies.{laid-chunks}
 
 -- what a batch of accounts or transfers gives: the replies, the state and the failures' range
 pub record GivesEach (place operation : ℕ) (state : State) (jobs : List Numbered) : Type 0 where
@@ -38,10 +20,6 @@ replied place [] failures = []
 replied place (job ∷ jobs) [] = []
 replied place (job ∷ jobs) (failures ∷ others) =
     reply_with (Committed place (Failures failures)) job ∷ replied (place + 1) jobs others
-
-pub length-chunks : {X : Type 0} (size k : ℕ) (xs : List X) → length (first_chunks size k xs) ≡ k
-length-chunks size zero xs = refl
-length-chunks size (suc k) xs = ap suc (length-chunks size k (drop size xs))
 
 -- for an operation whose events have 128 bytes, if packets of a group give what each gives by itself
 module _ {Event : Type 0} (is_linked : Event → Bool) (number : ℕ) (f : List ℕ → Event)
@@ -110,18 +88,18 @@ module _ {Event : Type 0} (is_linked : Event → Bool) (number : ℕ) (f : List 
 
   -- ---- packets of one batch
 
-  closed_all : (jobs : List Numbered) → are_of number jobs ≡ true → list_all can_share jobs ≡ true
+  closed_all : (jobs : List Numbered) → are_of number jobs ≡ true → all_share jobs ≡ true
       → none_open is_linked (map own jobs) ≡ true
   closed_all [] one share = refl
   closed_all (job ∷ jobs) one share =
       let first = first_is number job jobs one in
-      let both = and_parts (can_share job) (list_all can_share jobs) share in
+      let both = and_parts (can_share (events_in job.packet)) (all_share jobs) share in
       let closed = (and_parts (not (is_open (events_in job.packet))) _ both.0).0 in
       let closed_own = sym (ap is_open (own_is job first.0) ∙ opens (own job)) in
       and_from _ _ (ap not closed_own ∙ closed) (closed_all jobs first.1 both.1)
 
   pub gives : (place : ℕ) (state : State) (jobs : List Numbered) → state.clock ≤ clock_max
-      → are_of number jobs ≡ true → AreAdmitted jobs → (1 < length jobs → list_all can_share jobs ≡ true)
+      → are_of number jobs ≡ true → AreAdmitted jobs → (1 < length jobs → all_share jobs ≡ true)
       → GivesEach place number state jobs
   gives place state jobs in_range one all share =
       let joined = law state (map own jobs) in_range

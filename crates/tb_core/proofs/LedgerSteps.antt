@@ -1,29 +1,12 @@
 -- What a ledger made of decisions, and of one parcel more.
 use Rattle.std.proofs.Common.{refl, sym, ap, ◌∙◌, arith, ◌≡◌, ◌<◌, ◌≤◌, ℕ, zero, suc, ◌+◌, Bool, true, false, List, [], ◌∷◌, ◌++◌, map, length, length-append, append_assoc, append-nil, Some}
-use Rattle.std.specs.Prelude.{fold, slice_get}
-use Rattle.std.specs.List.{AllByRecursion, flat_map}
-use Rattle.std.proofs.Math.Seq.{take-append_seam}
-use Rattle.std.proofs.lemmas.Bool.{cond_both, or_parts}
-use Rattle.std.proofs.lemmas.Grind.{fold-append}
-use Rattle.std.proofs.lemmas.List.{take-append-le}
+use Rattle.tb_core.proofs.Words.{fold, slice_get, AllByRecursion, flat_map, take-append_seam, cond_both, or_parts, fold-append, take-append-le, Input, State, opening, answer_of, replay, after_input, after_packet, Numbered, events_in, ReplyValue, input_of, reply_with, Parcel, outcome_at, Ahead, cause_outcome, inputs_in, replies_from, Decision, Admitted, Pulsed, Returned, decisions_in, LedgerState, inputs, BareLedgerState, with_journal, HasCommitted, halts, Applied, apply_result, must_stop, with_stop, with_entry, step_of_batch, apply_step, replies_in, Commits}
 use Rattle.std.proofs.lemmas.Option.{slice_get_past}
-use Rattle.tb_layout.specs.Events.{Input}
-use Rattle.tb_layout.specs.Events as input
-use Rattle.tb_machine.specs.Replay.{State, opening, answer_of, replay, after_input, after_packet}
-use Rattle.tb_work.specs.Packet.{Numbered, events_in, ReplyValue, input_of}
-use Rattle.tb_work.specs.Answer.{reply_with}
+use Rattle.tb_layout.specs.claim.Events as input
 use Rattle.tb_work.specs.declared.outcome.Outcome.TheVariants as outcome
-use Rattle.tb_core.specs.declared.parcel.Parcel.{Parcel}
 use Rattle.tb_core.specs.declared.parcel.Parcel.TheVariants as parcel
 use Rattle.tb_core.specs.declared.outcomes.Outcomes.TheVariants.{Cut}
 use Rattle.tb_core.proofs.PacketAnswers.{answers_from}
-use Rattle.tb_core.specs.Due.{outcome_at, Ahead}
-use Rattle.tb_core.specs.inside.Decision.{cause_outcome, inputs_in, replies_from, Decision, Admitted, Pulsed, Returned}
-use Rattle.tb_core.specs.Front.{decisions_in}
-use Rattle.tb_core.specs.Journal.{LedgerState, inputs}
-use Rattle.tb_core.specs.BareLedger.{BareLedgerState, with_journal, HasCommitted, halts}
-use Rattle.tb_core.specs.Ledger.{Applied, apply_result, must_stop, with_stop, with_entry, step_of_batch, apply_step}
-use Rattle.tb_core.specs.Run.{replies_in, Commits}
 use Rattle.tb_core.proofs.OneMoreEntry.{inputs-more, must_stop_is}
 use Rattle.tb_core.proofs.Since.{prefix-more}
 

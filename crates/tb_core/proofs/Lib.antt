@@ -1,6 +1,7 @@
+pub mod Words
 pub mod FrontDecisions
 pub mod TicketDecisions
-mod Bodies
+pub mod Bodies
 mod PacketAnswers
 mod JoinedBatch
 mod Batches

@@ -1,18 +1,6 @@
 -- A ledger with one entry more.
 use Rattle.std.proofs.Common.{refl, sym, ap, ◌∙◌, arith, ◌≡◌, ℕ, ◌+◌, ◌^◌, Bool, true, false, List, [], ◌∷◌, ◌++◌, map, length, length-append, append-nil}
-use Rattle.std.specs.Prelude.{◌==◌, ◌||◌, nat_lt, fold, Result, Ok, Err, is_err, OnOk}
-use Rattle.std.specs.List.{flat_map}
-use Rattle.std.proofs.lemmas.List.{length-map}
-use Rattle.std.proofs.lemmas.Grind.{flat_map-append, fold-append}
-use Rattle.std.proofs.lemmas.Bool.{eqb-true}
-use Rattle.tb_layout.specs.Events.{events_of, Input}
-use Rattle.tb_machine.specs.Replay.{State, after_packet, after_input, opening}
-use Rattle.tb_work.specs.Packet.{Numbered, events_in, input_of}
-use Rattle.tb_batch.specs.Batch.{body_of}
-use Rattle.tb_batch.specs.declared.parts.Parts.{Parts}
-use Rattle.tb_core.specs.inside.BatchAnswer.{AreAnswered}
-use Rattle.tb_core.specs.BareLedger.{BareLedgerState, with_journal, HasCommitted, halts}
-use Rattle.tb_core.specs.Ledger.{must_stop}
+use Rattle.tb_core.proofs.Words.{◌==◌, ◌||◌, nat_lt, fold, Result, Ok, Err, is_err, OnOk, flat_map, length-map, flat_map-append, fold-append, eqb-true, events_of, Input, State, after_packet, after_input, opening, Numbered, events_in, input_of, body_of, Parts, AreAnswered, BareLedgerState, with_journal, HasCommitted, halts, must_stop}
 use Rattle.tb_core.proofs.Batches.{JoinInvisibly, gives_each, gives_one}
 
 -- what holds of a call that succeeded

@@ -1,9 +1,5 @@
 -- What the machine answers to packets one after the other.
-use Rattle.std.specs.Prelude.{ℕ, ◌+◌, List, [], ◌∷◌}
-use Rattle.tb_machine.specs.Replay.{State, answer_of, after_packet}
-use Rattle.tb_work.specs.Packet.{Numbered, events_in, ReplyValue}
-use Rattle.tb_work.specs.Answer.{reply_with}
-use Rattle.tb_work.specs.declared.outcome.Outcome.TheVariants.{Committed}
+use Rattle.tb_core.proofs.Words.{ℕ, ◌+◌, List, [], ◌∷◌, State, answer_of, after_packet, Numbered, events_in, ReplyValue, reply_with, Committed}
 
 -- packets from a place on: each is answered in the state that those before it left
 abbrev pub answers_from : ℕ → State → List Numbered → List ReplyValue

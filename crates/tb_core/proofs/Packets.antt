@@ -1,15 +1,7 @@
 -- The packets of one submitter in a queue, and what they are numbered.
 use Rattle.std.proofs.Common.{refl, ap, subst, ◌∙◌, arith, ◌≡◌, ◌<◌, ◌≤◌, ℕ, zero, suc, ◌+◌, Bool, true, false, List, [], ◌∷◌, ◌++◌, map, length, Some, None}
-use Rattle.std.specs.Prelude.{◌==◌, ◌≢◌, filter, slice_get, if◌then◌else◌}
-use Rattle.std.specs.List.{AllByRecursion}
-use Rattle.tb_layout.specs.Events.{Events, Input, Packet, Pulse}
-use Rattle.tb_work.specs.Packet.{Numbered}
-use Rattle.tb_work.specs.Ahead.{items_in, items_from}
-use Rattle.tb_work.specs.Queue.{AreSubmitted, IsSubmitted, AreNumbered}
-use Rattle.tb_work.specs.declared.item.Item.{Item}
+use Rattle.tb_core.proofs.Words.{◌==◌, ◌≢◌, filter, slice_get, if◌then◌else◌, AllByRecursion, Events, Input, Packet, Pulse, Numbered, items_in, items_from, AreSubmitted, IsSubmitted, AreNumbered, Item, Ticket, packets_queued}
 use Rattle.tb_work.specs.declared.item.Item.TheVariants as item
-use Rattle.tb_work.specs.declared.item.Ticket.{Ticket}
-use Rattle.tb_core.specs.Headline.{packets_queued}
 
 -- ---- one sender's part of a queue
 

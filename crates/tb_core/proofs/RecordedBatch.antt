@@ -1,22 +1,8 @@
 -- What is recorded of a batch that was committed.
 use Rattle.std.proofs.Common.{refl, sym, ap, subst, ◌∙◌, ◌≡◌, ◌≤◌, ℕ, ◌+◌, ◌^◌, Bool, true, false, not, List, [], ◌∷◌, map, length}
-use Rattle.std.specs.Prelude.{◌==◌}
-use Rattle.std.specs.List.{list_all}
-use Rattle.tb_layout.specs.Failures.{RiseWithin}
-use Rattle.tb_layout.specs.Events.{events_of, ids_of}
-use Rattle.tb_machine.specs.Replay.{State, failures_of, accounts_found}
+use Rattle.tb_core.proofs.Words.{◌==◌, list_all, RiseWithin, events_of, ids_of, State, failures_of, accounts_found, Committed, count_of, Numbered, reply_with, is_lookup, count_of_all, are_of, first_is, Parts, cut_replies, cut_replies_from, IsOutcomeOfAll, AreAnswered, answer_in}
 use Rattle.tb_layout.specs.declared.answer.Answer.TheVariants.{Accounts}
-use Rattle.tb_work.specs.declared.outcome.Outcome.TheVariants.{Committed}
-use Rattle.tb_work.specs.Admission.{count_of}
-use Rattle.tb_work.specs.Packet.{Numbered}
-use Rattle.tb_work.specs.Answer.{reply_with}
-use Rattle.tb_work.specs.Job.{is_lookup, count_of_all}
-use Rattle.tb_batch.specs.Grouping.{are_of}
-use Rattle.tb_batch.specs.declared.parts.Parts.{Parts}
-use Rattle.tb_demux.specs.Cutting.{cut_replies, cut_replies_from, IsOutcomeOfAll}
-use Rattle.tb_core.specs.inside.BatchAnswer.{AreAnswered, answer_in}
 use Rattle.tb_core.proofs.PacketAnswers.{answers_from}
-use Rattle.tb_core.proofs.Bodies.{first_is}
 use Rattle.tb_core.proofs.Batches.{JoinInvisibly, gives_each, gives_one}
 
 no_lookups : (operation : ℕ) (jobs : List Numbered) → (operation == 131) ≡ false → are_of operation jobs ≡ true

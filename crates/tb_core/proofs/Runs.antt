@@ -1,27 +1,9 @@
 -- What a front and a ledger did is what is due, and the report on it is lawful.
 use Rattle.std.proofs.Common.{refl, sym, ap, subst, ◌∙◌, arith, ◌≡◌, ◌<◌, ◌≤◌, ℕ, zero, suc, ◌+◌, Bool, true, false, List, [], ◌∷◌, ◌++◌, take, drop, length, length-append, length-take, append_assoc, append-nil, Option, Some, None}
-use Rattle.std.specs.Prelude.{◌==◌, slice_get, is_some, IfSome, filter, if◌then◌else◌}
-use Rattle.std.specs.List.{AllByRecursion}
-use Rattle.std.proofs.lemmas.Bool.{le-leb, lt-leb, eq-eqb, cond_both, both_ways, or_parts, or_from, or_right}
-use Rattle.std.proofs.lemmas.List.{take-append-drop, drop_all, nil_from_length}
-use Rattle.std.proofs.lemmas.List.Folds.{list_any-append}
-use Rattle.tb_layout.specs.Events.{Input}
-use Rattle.tb_layout.specs.Events as input
-use Rattle.tb_machine.specs.Replay.{replay}
-use Rattle.tb_work.specs.Ahead.{ahead, items_in}
-use Rattle.tb_work.specs.Queue.{IsSubmitted, AreSubmitted}
-use Rattle.tb_work.specs.Packet.{ReplyValue, input_of}
-use Rattle.tb_work.specs.Answer.{reply_with}
+use Rattle.tb_core.proofs.Words.{◌==◌, slice_get, is_some, IfSome, filter, if◌then◌else◌, AllByRecursion, le-leb, lt-leb, eq-eqb, cond_both, both_ways, or_parts, or_from, or_right, take-append-drop, drop_all, nil_from_length, list_any-append, Input, replay, ahead, items_in, IsSubmitted, AreSubmitted, ReplyValue, input_of, reply_with, Item, Ticket, outcome_at, reply_due, all_due_from, all_due, replies_to, Place, Ahead, Behind, next_place, inputs_in, replies_from, Decision, decisions_from, decisions_of, IsPacket, AreDecisions, LedgerState, inputs, inputs_since, new_ledger, is_stopped, any_stopped, committed_in, ahead_in, IsPrefix, IsListed, Commits, Ran, RunIsLawful}
+use Rattle.tb_layout.specs.claim.Events as input
 use Rattle.tb_work.specs.declared.outcome.Outcome.TheVariants as outcome
-use Rattle.tb_work.specs.declared.item.Item.{Item}
 use Rattle.tb_work.specs.declared.item.Item.TheVariants as item
-use Rattle.tb_work.specs.declared.item.Ticket.{Ticket}
-use Rattle.tb_core.specs.Due.{outcome_at, reply_due, all_due_from, all_due, replies_to, Place, Ahead, Behind, next_place}
-use Rattle.tb_core.specs.inside.Decision.{inputs_in, replies_from, Decision, decisions_from, decisions_of, IsPacket, AreDecisions}
-use Rattle.tb_core.specs.Journal.{LedgerState, inputs, inputs_since}
-use Rattle.tb_core.specs.Ledger.{new_ledger}
-use Rattle.tb_core.specs.EndedRun.{is_stopped, any_stopped, committed_in, ahead_in, IsPrefix}
-use Rattle.tb_core.specs.Run.{IsListed, Commits, Ran, RunIsLawful}
 use Rattle.tb_core.proofs.LedgerSteps.{outcome_past, outcome_here, inputs_in-append, replies_from-append, replies_from-longer}
 use Rattle.tb_core.proofs.FrontDecisions.{never_stops}
 use Rattle.tb_core.proofs.Since.{cancel, prefix-inputs, inputs-parts}

@@ -1,12 +1,6 @@
 -- What a list has after a prefix, and what a ledger added since it was another.
 use Rattle.std.proofs.Common.{refl, sym, ap, ◌∙◌, arith, ◌≡◌, ℕ, zero, suc, ◌+◌, false, List, [], ◌∷◌, ◌++◌, drop, length, append_assoc, append-nil}
-use Rattle.std.specs.Prelude.{slice_get}
-use Rattle.std.specs.List.{flat_map}
-use Rattle.std.proofs.lemmas.Grind.{flat_map-append}
-use Rattle.tb_machine.specs.Replay.{replay}
-use Rattle.tb_core.specs.EndedRun.{IsPrefix}
-use Rattle.tb_core.specs.Journal.{LedgerState, inputs, groups_since, inputs_since}
-use Rattle.tb_core.specs.Run.{Commits}
+use Rattle.tb_core.proofs.Words.{slice_get, flat_map, flat_map-append, replay, IsPrefix, LedgerState, inputs, groups_since, inputs_since, Commits}
 
 pub prefix-drop : {X : Type 0} (front all : List X) → IsPrefix front all → front ++ drop (length front) all ≡ all
 prefix-drop [] all (rest, is) = refl

@@ -1,28 +1,13 @@
 -- What a front does with one ticket: what it yields and then holds is what it held, followed by the decision on the
 -- ticket.
 use Rattle.std.proofs.Common.{refl, sym, ap, subst, ◌∙◌, arith, ◌≡◌, ◌<◌, ◌≤◌, ℕ, Bool, true, false, List, [], ◌∷◌, ◌++◌, length, map, get_or, append-nil, append_assoc}
-use Rattle.std.specs.Prelude.{◌||◌, ◌==◌, filter, slice_set, if◌then◌else◌}
-use Rattle.std.specs.List.{list_any, AllByRecursion}
+use Rattle.tb_core.proofs.Words.{◌||◌, ◌==◌, filter, slice_set, if◌then◌else◌, list_any, AllByRecursion, eqb-true, eqb-false, map-append, get_or-set_same, get_or-set_other, filter-append, list_any-append, flat_map-append, Numbered, items_from, is_end, Item, Ticket, is_taken, IsGroup, Parcel, Decision, Admitted, Returned, decisions_of_item, AreDecisions, FrontState, Taken, IsFront, take_result, with_group, group_as_batch, with_end, all_ended, ends_after, take_step, step_of_packet, step_of_pulse, all_decisions_in, decisions_in, held_by, IsJoinedParcel}
 use mathlib.Core.Bool.{or-true, or-false}
-use Rattle.std.proofs.lemmas.Bool.{eqb-true, eqb-false}
-use Rattle.std.proofs.lemmas.List.{map-append, get_or-set_same, get_or-set_other}
-use Rattle.std.proofs.lemmas.List.Elements.{filter-append}
-use Rattle.std.proofs.lemmas.List.Folds.{list_any-append}
-use Rattle.std.proofs.lemmas.Grind.{flat_map-append}
-use Rattle.tb_work.specs.Packet.{Numbered}
-use Rattle.tb_work.specs.Ahead.{items_from}
-use Rattle.tb_work.specs.Queue.{is_end}
-use Rattle.tb_work.specs.declared.item.Item.{Item}
-use Rattle.tb_work.specs.declared.item.Ticket.{Ticket}
+use Rattle.tb_core.specs.clauses.Taking.{HasTakenOne}
 use Rattle.tb_work.specs.declared.item.Item.TheVariants as item
-use Rattle.tb_batch.specs.Grouping.{is_taken, IsGroup}
 use Rattle.tb_core.specs.declared.parcel.Cause.{Cause}
 use Rattle.tb_core.specs.declared.parcel.Cause.TheVariants.{Shutdown, Stopped}
-use Rattle.tb_core.specs.declared.parcel.Parcel.{Parcel}
 use Rattle.tb_core.specs.declared.parcel.Parcel.TheVariants.{Batch, Pulse, Return}
-use Rattle.tb_core.specs.inside.Decision.{Decision, Admitted, Returned, decisions_of_item, AreDecisions}
-use Rattle.tb_core.specs.Front.{FrontState, Taken, IsFront, take_result, with_group, group_as_batch, with_end, all_ended, ends_after, KnowsEnds, take_step, step_of_packet, step_of_pulse, all_decisions_in, decisions_in, held_by}
-use Rattle.tb_core.specs.Grouping.{IsJoinedParcel, AreJoinedParcels}
 use Rattle.tb_core.proofs.FrontDecisions.{Goes, Stays, Stops, closed_after, passes_more}
 
 -- after a Close or a stop it holds nothing
@@ -252,22 +237,11 @@ ends_more ended queue ticket sender within known =
         rw e (ap (λ n. get_or (slice_set ended ticket.sender true) n false) (sym same)
         ∙ get_or-set_same ended ticket.sender true false within ∙ sym (or-true _))
 
--- all that holds of a front that took a ticket
-pub record HasTaken (refused : Bool) (front : FrontState) (ticket : Ticket) (taken : Taken) : Type 0 where
-  pub accounted : IsAccounted front ticket.item taken
-  pub passes : (items : List Item) (sent : List Decision)
-      → AreDecisions items front.closed front.stopped (sent ++ held_by front) →
-      AreDecisions (items ++ ticket.item ∷ []) taken.front.closed taken.front.stopped
-      ((sent ++ all_decisions_in taken.parcels) ++ held_by taken.front)
-  pub lawful : AreJoinedParcels front.limit taken.parcels
-  pub ends : (queue : List Ticket) → KnowsEnds queue front → KnowsEnds (queue ++ ticket ∷ []) taken.front
-  pub same : (taken.front.limit ≡ front.limit) × (taken.front.submitters ≡ front.submitters)
-  pub goes_on : refused ≡ false → front.stopped ≡ false → taken.front.stopped ≡ false
-
 pub has_taken : (refused : Bool) (front : FrontState) (ticket : Ticket) (taken : Taken) → IsFront front
     → ticket.sender ≤ front.submitters → taken ≡ take_step refused front ticket.sender ticket.item
-    → HasTaken refused front ticket taken
-has_taken refused front ticket taken is among took_is = subst (HasTaken refused front ticket) (sym took_is) (record {
+    → HasTakenOne refused front ticket taken
+has_taken refused front ticket taken is among took_is = subst (HasTakenOne refused front ticket) (sym took_is) (record {
+  took = refl;
   accounted = step.accounted;
   passes = passes_then Joined refused front sender x after step;
   lawful = step.parcels;

@@ -1,15 +1,7 @@
 -- Two runs over one ledger are one run of it.
 use Rattle.std.proofs.Common.{refl, sym, ap, subst, ◌∙◌, ◌≡◌, ℕ, zero, suc, List, [], ◌∷◌, ◌++◌, take, length, append_assoc, Some}
-use Rattle.std.specs.Prelude.{slice_get}
-use Rattle.std.proofs.lemmas.List.Elements.{filter-append}
-use Rattle.tb_layout.specs.Events.{Input}
-use Rattle.tb_machine.specs.Replay.{replay, answer_of}
-use Rattle.tb_work.specs.Packet.{events_in, input_of}
-use Rattle.tb_core.specs.EachSubmitter.{is_packet_of}
-use Rattle.tb_core.specs.EndedRun.{Run, committed_in}
-use Rattle.tb_core.specs.Headline.{Headline, IsTrueOf}
-use Rattle.tb_core.specs.Journal.{LedgerState, inputs}
-use Rattle.tb_core.specs.TwoRuns.{AnswersStand, TwoRunsAreOne}
+use Rattle.tb_core.proofs.Words.{slice_get, filter-append, Input, replay, answer_of, events_in, input_of, is_packet_of, Run, committed_in, Headline, IsTrueOf, LedgerState, inputs}
+use Rattle.tb_core.specs.claim.TwoRuns.{AnswersStand, TwoRunsAreOne}
 use Rattle.tb_core.proofs.EachSubmitter.{at-prefix, committed_of_each_submitter}
 use Rattle.tb_core.proofs.Since.{prefix-drop, get-drop}
 

@@ -1,15 +1,3 @@
-pub mod Due
-pub mod Journal
-pub mod EndedRun
-pub mod Report
-pub mod Headline
-pub mod EachSubmitter
-pub mod BadRuns
-pub mod TwoRuns
-pub mod Front
-pub mod Grouping
-pub mod Ledger
-pub mod Run
-pub mod BareLedger
-pub mod AnyLedger
+pub mod claim
+pub mod clauses
 pub mod inside

@@ -1,3 +1,2 @@
--- What proofs need and the claim doesn't mention.
-pub mod Decision
+-- What only proofs, private functions and invariants need.
 pub mod BatchAnswer

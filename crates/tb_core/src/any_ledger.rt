@@ -1,10 +1,10 @@
 //! What a committer asks of a ledger.
 
 ghost use Rattle.std.specs.Prelude.{◌≡◌, ℕ, [], false};
-ghost use Rattle.tb_core.specs.AnyLedger.{Applying, IsWithJournal};
-ghost use Rattle.tb_core.specs.Grouping.{AreJoined};
-ghost use Rattle.tb_core.specs.Journal.{LedgerState, groups_since};
-ghost use Rattle.tb_core.specs.Run.{Commits};
+ghost use Rattle.tb_core.specs.claim.AnyLedger.{Applying, IsWithJournal};
+ghost use Rattle.tb_core.specs.claim.Grouping.{AreJoined};
+ghost use Rattle.tb_core.specs.claim.Journal.{LedgerState, groups_since};
+ghost use Rattle.tb_core.specs.claim.Run.{Commits};
 
 use crate::bare_ledger::BareLedger;
 use crate::ledger::Ledger;

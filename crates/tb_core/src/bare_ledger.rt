@@ -1,18 +1,18 @@
 //! The ledger without its journal.
 
 ghost use Rattle.std.specs.Prelude.{◌≡◌, ◌<◌, ◌≤◌, ◌+◌, ◌++◌, [], ℕ, List, Bool, Option, false, true, length, map, OnOk, OnErr, IfOk, IfErr, None};
-ghost use Rattle.tb_layout.specs.Events.{events_of, Input};
-ghost use Rattle.tb_layout.specs.Limits.{clock_max};
-ghost use Rattle.tb_layout.specs.inside.Limits.{places_max};
-ghost use Rattle.tb_machine.specs.Replay.{State, after_packet, replay};
-ghost use Rattle.tb_batch.specs.Batch.{AreAdmitted, AreParts};
-ghost use Rattle.tb_work.specs.Packet.{input_of};
-ghost use Rattle.tb_work.specs.Answer.{reply_with};
+ghost use Rattle.tb_layout.specs.claim.Events.{events_of, Input};
+ghost use Rattle.tb_layout.specs.claim.Limits.{clock_max};
+ghost use Rattle.tb_layout.specs.claim.Bounds.{places_max};
+ghost use Rattle.tb_machine.specs.claim.Replay.{State, after_packet, replay};
+ghost use Rattle.tb_batch.specs.claim.Batch.{AreAdmitted, AreParts};
+ghost use Rattle.tb_work.specs.claim.Packet.{input_of};
+ghost use Rattle.tb_work.specs.claim.Answer.{reply_with};
 ghost use Rattle.tb_work.specs.declared.outcome.Outcome.TheVariants.{Stopped as StoppedOutcome};
-ghost use Rattle.tb_core.specs.BareLedger.{grows};
-ghost use Rattle.tb_core.specs.Ledger.{group_of, IsEntry};
+ghost use Rattle.tb_core.specs.claim.BareLedger.{grows};
+ghost use Rattle.tb_core.specs.claim.Ledger.{group_of, IsEntry};
 ghost use Rattle.tb_core.specs.inside.BatchAnswer.{AreAnswered, answer_in};
-ghost use Rattle.tb_core.specs.inside.Decision.{cause_outcome, replies_from, Admitted};
+ghost use Rattle.tb_core.specs.claim.Decision.{cause_outcome, replies_from, Admitted};
 
 use crate::journal::Entry;
 use crate::outcomes::Outcomes;
@@ -35,7 +35,7 @@ pub struct BareLedger {
 }
 
 impl Model for BareLedger {
-    ghost use Rattle.tb_core.specs.BareLedger.{BareLedgerState, IsBareLedger};
+    ghost use Rattle.tb_core.specs.claim.BareLedger.{BareLedgerState, IsBareLedger};
 
     ghost Value = { BareLedgerState };
 
@@ -153,17 +153,16 @@ fn without_entry(outcomes: Outcomes) -> Recorded
 impl BareLedger {
     ghost use Rattle.tb_core.specs.declared.parcel.Parcel.TheVariants as parcel;
     ghost use Rattle.tb_core.specs.declared.outcomes.Outcomes.TheVariants.{Nothing as NothingComes};
-    ghost use Rattle.tb_work.specs.Packet.{ReplyValue};
-    ghost use Rattle.tb_core.specs.Front.{decisions_in};
-    ghost use Rattle.tb_core.specs.Grouping.{IsJoinedParcel};
-    ghost use Rattle.tb_core.specs.inside.Decision.{Decision};
-    ghost use Rattle.tb_core.specs.Run.{HasPackets, replies_in};
-    ghost use Rattle.tb_core.specs.Journal.{LedgerState};
-    ghost use Rattle.tb_core.specs.Ledger.{new_ledger};
-    ghost use Rattle.tb_core.specs.BareLedger.{new_bare_ledger, halts, Applies, HasSent, IsBatch, IsEntryIf, Records};
-    ghost use Rattle.tb_core.specs.BareLedger.{after_refusal, refusal_of, stops, places_after, places_with};
+    ghost use Rattle.tb_work.specs.claim.Packet.{ReplyValue};
+    ghost use Rattle.tb_core.specs.claim.Front.{decisions_in};
+    ghost use Rattle.tb_core.specs.claim.Grouping.{IsJoinedParcel};
+    ghost use Rattle.tb_core.specs.claim.Decision.{Decision};
+    ghost use Rattle.tb_core.specs.claim.Run.{HasPackets, replies_in};
+    ghost use Rattle.tb_core.specs.claim.Journal.{LedgerState};
+    ghost use Rattle.tb_core.specs.claim.Ledger.{new_ledger};
+    ghost use Rattle.tb_core.specs.claim.BareLedger.{new_bare_ledger, halts, Applies, HasSent, IsBatch, IsEntryIf, Records, after_refusal, refusal_of, stops, places_after, places_with};
     ghost use Rattle.tb_core.specs.declared.journal.Entry.{Entry as EntryValue};
-    ghost use Rattle.tb_core.specs.AnyLedger.{Applying, IsWithJournal};
+    ghost use Rattle.tb_core.specs.claim.AnyLedger.{Applying, IsWithJournal};
 
     /// Returns a ledger that has committed nothing, whose clock starts at a number of nanoseconds, 0 to `CLOCK_MAX`,
     /// and that hashes ids with a seed, as `Ledger::with_seed` does. Takes no memory.

@@ -36,7 +36,7 @@ impl Drop for Front {
 }
 
 impl Model for Front {
-    ghost use Rattle.tb_core.specs.Front.{FrontState, IsFront};
+    ghost use Rattle.tb_core.specs.claim.Front.{FrontState, IsFront};
 
     ghost Value = { FrontState };
 
@@ -61,14 +61,14 @@ impl Model for Front {
 
 impl Front {
     ghost use Rattle.std.specs.Prelude.{Bool, List, replicate};
-    ghost use Rattle.tb_batch.specs.Grouping.{IsGroup};
+    ghost use Rattle.tb_batch.specs.claim.Grouping.{IsGroup};
     ghost use Rattle.tb_work.specs.declared.item.Item.{Item as ItemValue};
     ghost use Rattle.tb_work.specs.declared.item.Item.TheVariants.{Packet as PacketItem};
     ghost use Rattle.tb_work.specs.declared.item.Ticket.{Ticket as TicketValue};
     ghost use Rattle.tb_core.specs.declared.parcel.Parcel.TheVariants as parcel;
-    ghost use Rattle.tb_core.specs.Grouping.{AreJoinedParcels};
-    ghost use Rattle.tb_core.specs.inside.Decision.{Decision, AreDecisions, decisions_of_item};
-    ghost use Rattle.tb_core.specs.Front.{FrontState, IsFront, opening_refusal, take_result, with_group, group_as_batch, all_ended, take_step, step_of_packet, step_of_pulse, step_of_end, step_of_close, all_decisions_in, decisions_in_batch, held_by, KnowsEnds, HaveAllEnded, takes_memory};
+    ghost use Rattle.tb_core.specs.clauses.Taking.{HasTakenOne};
+    ghost use Rattle.tb_core.specs.claim.Decision.{Decision, AreDecisions};
+    ghost use Rattle.tb_core.specs.claim.Front.{FrontState, IsFront, opening_refusal, take_result, with_group, group_as_batch, all_ended, take_step, step_of_packet, step_of_pulse, step_of_end, step_of_close, decisions_in_batch, held_by, KnowsEnds, HaveAllEnded, takes_memory};
 
     /// Returns a front that took nothing. The limit is 1 to 8190 events, else it is refused as `BadLimit`, and then
     /// there are 1 to 16 submitters, else as `BadSubmitters`. Takes no memory.
@@ -328,15 +328,7 @@ impl Front {
     /// Takes one ticket as `take` does if its allocation fails. Takes no memory.
     pub fn take_as_refused(&mut self, ticket: Ticket) -> ArrayVec<Parcel, 2>
         requires { ticket.sender ≤ self.old.submitters }
-        ensures took { take_result self.new result.items ≡ take_step true self.old ticket.sender ticket.item }
-        ensures passes { (items : List ItemValue) (sent : List Decision)
-            → AreDecisions items self.old.closed self.old.stopped (sent ++ held_by self.old)
-            → AreDecisions (items ++ ticket.item ∷ []) self.new.closed self.new.stopped
-            ((sent ++ all_decisions_in result.items) ++ held_by self.new) }
-        ensures lawful { AreJoinedParcels self.old.limit result.items }
-        ensures ends { (queue : List TicketValue) → KnowsEnds queue self.old
-            → KnowsEnds (queue ++ ticket ∷ []) self.new }
-        ensures same { (self.new.limit ≡ self.old.limit) × (self.new.submitters ≡ self.old.submitters) }
+        ensures { HasTakenOne true self.old ticket (take_result self.new result.items) }
     {
         let mut parcels = ArrayVec::new();
         self.step_refused(&mut parcels, ticket);
@@ -350,18 +342,7 @@ impl Front {
     /// for a packet, as `Batcher::offer` does.
     pub fn take(&mut self, ticket: Ticket) -> ArrayVec<Parcel, 2>
         requires { ticket.sender ≤ self.old.submitters }
-        ensures took { (refused : Bool) × (take_result self.new result.items
-            ≡ take_step refused self.old ticket.sender ticket.item) }
-        ensures accounted { all_decisions_in result.items ++ held_by self.new
-            ≡ held_by self.old ++ decisions_of_item self.old.closed self.new.stopped ticket.item }
-        ensures passes { (items : List ItemValue) (sent : List Decision)
-            → AreDecisions items self.old.closed self.old.stopped (sent ++ held_by self.old)
-            → AreDecisions (items ++ ticket.item ∷ []) self.new.closed self.new.stopped
-            ((sent ++ all_decisions_in result.items) ++ held_by self.new) }
-        ensures lawful { AreJoinedParcels self.old.limit result.items }
-        ensures ends { (queue : List TicketValue) → KnowsEnds queue self.old
-            → KnowsEnds (queue ++ ticket ∷ []) self.new }
-        ensures same { (self.new.limit ≡ self.old.limit) × (self.new.submitters ≡ self.old.submitters) }
+        ensures { (refused : Bool) × HasTakenOne refused self.old ticket (take_result self.new result.items) }
     {
         let mut parcels = ArrayVec::new();
         self.take_into(&mut parcels, ticket);
@@ -374,18 +355,7 @@ impl Front {
     pub fn take_into(&mut self, parcels: &mut ArrayVec<Parcel, 2>, ticket: Ticket)
         requires sender { ticket.sender ≤ self.old.submitters }
         requires empty { parcels.old.items ≡ [] }
-        ensures took { (refused : Bool) × (take_result self.new parcels.new.items
-            ≡ take_step refused self.old ticket.sender ticket.item) }
-        ensures accounted { all_decisions_in parcels.new.items ++ held_by self.new
-            ≡ held_by self.old ++ decisions_of_item self.old.closed self.new.stopped ticket.item }
-        ensures passes { (items : List ItemValue) (sent : List Decision)
-            → AreDecisions items self.old.closed self.old.stopped (sent ++ held_by self.old)
-            → AreDecisions (items ++ ticket.item ∷ []) self.new.closed self.new.stopped
-            ((sent ++ all_decisions_in parcels.new.items) ++ held_by self.new) }
-        ensures lawful { AreJoinedParcels self.old.limit parcels.new.items }
-        ensures ends { (queue : List TicketValue) → KnowsEnds queue self.old
-            → KnowsEnds (queue ++ ticket ∷ []) self.new }
-        ensures same { (self.new.limit ≡ self.old.limit) × (self.new.submitters ≡ self.old.submitters) }
+        ensures { (refused : Bool) × HasTakenOne refused self.old ticket (take_result self.new parcels.new.items) }
     {
         self.step(parcels, ticket);
     }

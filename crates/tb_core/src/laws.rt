@@ -1,14 +1,11 @@
 //! Laws on what a run reports, each the clause of a function that does nothing: a crate above knows a law once it called
 //! the function.
 
-ghost use Rattle.tb_core.specs.BadRuns.{Excludes, CommitsAStranger, ShutsDownACommitted, StopsACommitted, DropsPulses};
-ghost use Rattle.tb_core.specs.BadRuns.{ChangesPlaces, ForgetsTheState, CommitsNothingRunning, CommitsNothingStopped};
-ghost use Rattle.tb_core.specs.BadRuns.{InventsAPacket, InventsAPulse, Overtakes, GivesAnothersReply, StopsBehindTheClose};
-ghost use Rattle.tb_core.specs.BadRuns.{LosesTheJournal, CountsPlacesAnew, AnswersAnotherwise, LosesAnItem, MayStopAtOnce, MayPopTheCloseFirst};
-ghost use Rattle.tb_core.specs.EachSubmitter.{CommittedOfEachSubmitter, PulsesAreTheControls, CommittedAreAnswered};
-ghost use Rattle.tb_core.specs.Report.{ReportsHeadline};
-ghost use Rattle.tb_core.specs.TwoRuns.{TwoRunsAreOne};
-ghost use Rattle.tb_core.specs.Run.{EachPartIsLawful, RunIsLawful};
+ghost use Rattle.tb_core.specs.clauses.BadRuns.{Excludes, CommitsAStranger, ShutsDownACommitted, StopsACommitted, DropsPulses, ChangesPlaces, ForgetsTheState, CommitsNothingRunning, CommitsNothingStopped, InventsAPacket, InventsAPulse, Overtakes, GivesAnothersReply, StopsBehindTheClose, LosesTheJournal, CountsPlacesAnew, AnswersAnotherwise, LosesAnItem, MayStopAtOnce, MayPopTheCloseFirst};
+ghost use Rattle.tb_core.specs.claim.EachSubmitter.{CommittedOfEachSubmitter, PulsesAreTheControls, CommittedAreAnswered};
+ghost use Rattle.tb_core.specs.claim.Report.{ReportsHeadline};
+ghost use Rattle.tb_core.specs.claim.TwoRuns.{TwoRunsAreOne};
+ghost use Rattle.tb_core.specs.claim.Run.{EachPartIsLawful, RunIsLawful};
 
 /// Establishes that the report on a run is lawful, also if an allocation failed: a front and a ledger took all of its
 /// queue, and each submitter got the replies with its number.

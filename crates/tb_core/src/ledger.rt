@@ -1,8 +1,8 @@
 //! The ledger: the journal, and the machine that it gives.
 
-ghost use Rattle.std.specs.Prelude.{◌≡◌, ◌<◌, ◌≤◌, ◌++◌, [], ℕ, List, Bool, true, false, length, map, vec_len, vec_capacity, OnOk, OnErr, IfOk, IfErr};
-ghost use Rattle.tb_layout.specs.Limits.{clock_max};
-ghost use Rattle.tb_machine.specs.Replay.{replay};
+ghost use Rattle.std.specs.Prelude.{◌≡◌, ◌<◌, ◌≤◌, [], ℕ, true, false, length, map, vec_len, vec_capacity, OnOk, OnErr, IfOk, IfErr};
+ghost use Rattle.tb_layout.specs.claim.Limits.{clock_max};
+ghost use Rattle.tb_machine.specs.claim.Replay.{replay};
 
 use crate::bare_ledger::{BareLedger, Recorded};
 use crate::journal::Entry;
@@ -31,9 +31,9 @@ impl Drop for Ledger {
 
 impl Model for Ledger {
     ghost use Rattle.std.specs.Prelude.{map};
-    ghost use Rattle.tb_core.specs.BareLedger.{with_journal, IsLedger};
-    ghost use Rattle.tb_core.specs.Journal.{LedgerState};
-    ghost use Rattle.tb_core.specs.Ledger.{group_of};
+    ghost use Rattle.tb_core.specs.claim.BareLedger.{with_journal, IsLedger};
+    ghost use Rattle.tb_core.specs.claim.Journal.{LedgerState};
+    ghost use Rattle.tb_core.specs.claim.Ledger.{group_of};
 
     ghost Value = { LedgerState };
 
@@ -55,14 +55,11 @@ fn reserve_entry(entries: &mut Vec<Entry>, is_needed: bool) -> Result<(), NoMemo
 }
 
 impl Ledger {
-    ghost use Rattle.tb_work.specs.Packet.{ReplyValue};
-    ghost use Rattle.tb_core.specs.Front.{decisions_in};
-    ghost use Rattle.tb_core.specs.Grouping.{AreJoined, IsJoinedParcel};
-    ghost use Rattle.tb_core.specs.inside.Decision.{Decision};
-    ghost use Rattle.tb_core.specs.Run.{Commits, HasPackets, replies_in};
-    ghost use Rattle.tb_core.specs.EndedRun.{IsPrefix};
-    ghost use Rattle.tb_core.specs.Journal.{LedgerState, inputs, groups_since};
-    ghost use Rattle.tb_core.specs.Ledger.{apply_result, apply_step, new_ledger, takes_memory, group_of, AreEntries};
+    ghost use Rattle.tb_core.specs.claim.AnyLedger.{IsApplied};
+    ghost use Rattle.tb_core.specs.claim.Grouping.{AreJoined};
+    ghost use Rattle.tb_core.specs.claim.Run.{Commits, HasPackets};
+    ghost use Rattle.tb_core.specs.claim.Journal.{LedgerState, inputs, groups_since};
+    ghost use Rattle.tb_core.specs.claim.Ledger.{apply_result, apply_step, new_ledger, takes_memory, group_of, AreEntries};
 
     /// Returns a ledger without entries, whose clock starts at a number of nanoseconds, 0 to `CLOCK_MAX`. Takes no
     /// memory.
@@ -167,12 +164,7 @@ impl Ledger {
     /// Applies one parcel as `apply` does if its allocation fails. Takes no memory.
     pub fn apply_as_refused(&mut self, parcel: Parcel) -> Outcomes
         ensures applied { apply_result self.new result ≡ apply_step true self.old parcel }
-        ensures commits { (start : LedgerState) (decisions : List Decision) (replies : List ReplyValue)
-            → Commits start decisions self.old replies
-            → Commits start (decisions ++ decisions_in parcel) self.new (replies ++ replies_in result) }
-        ensures joined { (start : LedgerState) (limit : ℕ) → IsPrefix start.groups self.old.groups
-            → IsJoinedParcel limit parcel → AreJoined limit (groups_since start self.old)
-            → AreJoined limit (groups_since start self.new) }
+        ensures is_applied { IsApplied self.old parcel result self.new }
     {
         self.bare.refuse(parcel)
     }
@@ -182,13 +174,7 @@ impl Ledger {
     /// or there are no places left, nothing is committed, the ledger stops, and each packet of a batch gets the outcome
     /// Stopped. It takes memory for the facts and for the journal.
     pub fn apply(&mut self, parcel: Parcel) -> Outcomes
-        ensures applied { (refused : Bool) × (apply_result self.new result ≡ apply_step refused self.old parcel) }
-        ensures commits { (start : LedgerState) (decisions : List Decision) (replies : List ReplyValue)
-            → Commits start decisions self.old replies
-            → Commits start (decisions ++ decisions_in parcel) self.new (replies ++ replies_in result) }
-        ensures joined { (start : LedgerState) (limit : ℕ) → IsPrefix start.groups self.old.groups
-            → IsJoinedParcel limit parcel → AreJoined limit (groups_since start self.old)
-            → AreJoined limit (groups_since start self.new) }
+        ensures { IsApplied self.old parcel result self.new }
     {
         match self.try_apply(parcel) {
             Ok(outcomes) => outcomes,

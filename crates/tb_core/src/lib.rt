@@ -15,12 +15,12 @@
 //! ```
 //!
 //! (`way_of_a_packet` in tb_core_tests is this caller, proved.) `run_list` does so with a list of items (`listed`, `ran`,
-//! `grouping`). The front loses, doubles and overtakes nothing (`accounted`, `took`, `passes`, `lawful`). The ledger keeps a
-//! batch as one entry of its journal, and answers each packet by its place (`applied`, `commits`, `joined`). A `BareLedger`
-//! does so without a journal. `AnyLedger` is what both have in common, for whoever commits to a ledger and doesn't read its journal.
+//! `grouping`). The front loses, doubles and overtakes nothing (`HasTakenOne`: `accounted`, `took`, `passes`, `lawful`). The
+//! ledger keeps a batch as one entry of its journal, and answers each packet by its place (`IsApplied`: `step`, `commits`,
+//! `joined`). A `BareLedger` does so without a journal. `AnyLedger` is what both have in common, for whoever commits to a ledger and doesn't read its journal.
 //!
-//! The report on any run is one record (`specs/Report.antt`), and the law `headline` says what it means for each submitter
-//! (`specs/Headline.antt`). `run_is_lawful` leads there from what a front and a ledger took, also if an allocation failed;
+//! The report on any run is one record (`specs/claim/Report.antt`), and the law `headline` says what it means for each submitter
+//! (`specs/claim/Headline.antt`). `run_is_lawful` leads there from what a front and a ledger took, also if an allocation failed;
 //! `each_part_is_lawful` says what holds on the way. A run may go on with the ledger of another (`Ledger::begin`), and
 //! `two_runs_are_one` says of both what holds of one.
 #![tactic(auto)]

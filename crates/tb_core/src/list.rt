@@ -1,17 +1,17 @@
 //! A list of items through the front and the ledger, in one thread.
 
 ghost use Rattle.std.specs.Prelude.{◌≡◌, ◌≤◌, ◌++◌, ◌∷◌, [], ℕ, List, IfOk, OnOk, option_to_list};
-ghost use Rattle.tb_layout.specs.inside.Limits.{batch_max};
-ghost use Rattle.tb_layout.specs.Limits.{clock_max};
-ghost use Rattle.tb_work.specs.Ahead.{ahead};
+ghost use Rattle.tb_layout.specs.claim.Bounds.{batch_max};
+ghost use Rattle.tb_layout.specs.claim.Limits.{clock_max};
+ghost use Rattle.tb_work.specs.claim.Ahead.{ahead};
 ghost use Rattle.tb_work.specs.declared.item.Item.{Item as ItemValue};
 ghost use Rattle.tb_work.specs.declared.item.Item.TheVariants.{Packet as PacketItem};
-ghost use Rattle.tb_core.specs.Front.{all_decisions_in, decisions_in};
-ghost use Rattle.tb_core.specs.Grouping.{AreWithin, IsGrouping, IsJoinedParcel, AreJoinedParcels};
-ghost use Rattle.tb_core.specs.inside.Decision.{Decision};
-ghost use Rattle.tb_core.specs.Journal.{LedgerState};
-ghost use Rattle.tb_core.specs.Ledger.{new_ledger};
-ghost use Rattle.tb_core.specs.Run.{IsListed, HasNotStopped, IsRunning, IsDrained, Ran, replies_in};
+ghost use Rattle.tb_core.specs.claim.Front.{all_decisions_in, decisions_in};
+ghost use Rattle.tb_core.specs.claim.Grouping.{AreWithin, IsGrouping, IsJoinedParcel, AreJoinedParcels};
+ghost use Rattle.tb_core.specs.claim.Decision.{Decision};
+ghost use Rattle.tb_core.specs.claim.Journal.{LedgerState};
+ghost use Rattle.tb_core.specs.claim.Ledger.{new_ledger};
+ghost use Rattle.tb_core.specs.claim.Run.{IsListed, HasNotStopped, IsRunning, IsDrained, Ran, replies_in};
 
 use crate::front::Front;
 use crate::ledger::Ledger;

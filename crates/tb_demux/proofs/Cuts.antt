@@ -5,18 +5,18 @@ use Rattle.std.specs.List.{list_all}
 use Rattle.std.proofs.lemmas.Bool.{and_parts}
 use Rattle.std.proofs.lemmas.Bool.Decides.{nat_tests}
 use Rattle.tb_layout.specs.declared.failure.Failure.{Failure}
-use Rattle.tb_layout.specs.Failures.{RiseWithin, is_within, from_offset, failures_within}
-use Rattle.tb_work.specs.Admission.{count_of}
-use Rattle.tb_work.specs.Packet.{Numbered}
-use Rattle.tb_work.specs.Answer.{reply_with}
-use Rattle.tb_work.specs.Job.{count_of_all, is_lookup}
+use Rattle.tb_layout.specs.claim.Failures.{RiseWithin, is_within, from_offset, failures_within}
+use Rattle.tb_work.specs.claim.Admission.{count_of}
+use Rattle.tb_work.specs.claim.Packet.{Numbered}
+use Rattle.tb_work.specs.claim.Answer.{reply_with}
+use Rattle.tb_work.specs.claim.Job.{count_of_all, is_lookup}
 use Rattle.tb_layout.specs.declared.answer.Answer.TheVariants.{Failures}
 use Rattle.tb_work.specs.declared.outcome.Outcome.TheVariants.{Committed}
 use Rattle.tb_demux.specs.declared.remaining_failures.RemainingFailures.{RemainingFailures}
-use Rattle.tb_demux.specs.Leading.{count_below}
+use Rattle.tb_demux.specs.inside.Leading.{count_below}
 use Rattle.tb_work.specs.declared.outcome.Outcome.{Outcome}
-use Rattle.tb_demux.specs.Remaining.{failures_remaining, AreRemaining, IsForOne}
-use Rattle.tb_demux.specs.Cutting.{reply_at, cut_replies_from}
+use Rattle.tb_demux.specs.clauses.Remaining.{failures_remaining, AreRemaining, IsForOne}
+use Rattle.tb_demux.specs.clauses.Cutting.{reply_at, cut_replies_from}
 
 -- ---- one failure against an index
 

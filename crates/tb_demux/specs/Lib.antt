@@ -1,3 +1,2 @@
-pub mod Cutting
-pub mod Leading
-pub mod Remaining
+pub mod clauses
+pub mod inside

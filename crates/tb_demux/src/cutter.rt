@@ -1,7 +1,7 @@
 //! The cutter.
 
 ghost use Rattle.std.specs.Prelude.{◌≡◌, ◌∷◌, [], IfSome, IfNone};
-ghost use Rattle.tb_demux.specs.Cutting.{cut_replies, IsOutcomeOfAll};
+ghost use Rattle.tb_demux.specs.clauses.Cutting.{cut_replies, IsOutcomeOfAll};
 
 use crate::remaining_failures::RemainingFailures;
 use crate::source::ReplySource;
@@ -28,8 +28,8 @@ impl Drop for Cutter {
 impl Model for Cutter {
     ghost use Rattle.std.specs.Prelude.{List};
     ghost use Rattle.std.specs.Vec.Iter.{into_iter_items};
-    ghost use Rattle.tb_work.specs.Packet.{ReplyValue};
-    ghost use Rattle.tb_demux.specs.Remaining.{replies_remaining, IsSourceOf};
+    ghost use Rattle.tb_work.specs.claim.Packet.{ReplyValue};
+    ghost use Rattle.tb_demux.specs.clauses.Remaining.{replies_remaining, IsSourceOf};
 
     ghost Value = { List ReplyValue };
 

@@ -1,15 +1,15 @@
 //! The failures of a batch that aren't cut yet.
 
 ghost use Rattle.std.specs.Prelude.{◌≡◌, ◌⊎◌, ◌<◌, ◌≤◌, ◌+◌, ℕ, [], false, length, drop};
-ghost use Rattle.tb_layout.specs.inside.Limits.{places_max};
-ghost use Rattle.tb_layout.specs.Failures.{RiseWithin, failures_within};
-ghost use Rattle.tb_work.specs.Admission.{count_of};
-ghost use Rattle.tb_work.specs.Job.{is_lookup};
-ghost use Rattle.tb_work.specs.Answer.{reply_with};
+ghost use Rattle.tb_layout.specs.claim.Bounds.{places_max};
+ghost use Rattle.tb_layout.specs.claim.Failures.{RiseWithin, failures_within};
+ghost use Rattle.tb_work.specs.claim.Admission.{count_of};
+ghost use Rattle.tb_work.specs.claim.Job.{is_lookup};
+ghost use Rattle.tb_work.specs.claim.Answer.{reply_with};
 ghost use Rattle.tb_layout.specs.declared.answer.Answer.TheVariants.{Failures as FailuresOf};
 ghost use Rattle.tb_work.specs.declared.outcome.Outcome.TheVariants.{Committed as CommittedAt};
-ghost use Rattle.tb_demux.specs.Leading.{count_below};
-ghost use Rattle.tb_demux.specs.Remaining.{failures_remaining};
+ghost use Rattle.tb_demux.specs.inside.Leading.{count_below};
+ghost use Rattle.tb_demux.specs.clauses.Remaining.{failures_remaining};
 
 use tb_layout::{Failure, Failures};
 use tb_work::{Job, Reply};

@@ -1,11 +1,7 @@
 -- Submitters, and a packet of one of them that is queued ahead of a run.
 use Rattle.std.proofs.Common.{◌≡◌, ◌∙◌, ◌<◌, ℕ, List, Some, All, length, set, slice_get, inl, inr, ap, sym, subst, arith}
-use Rattle.std.proofs.lemmas.List.{length-set}
-use Rattle.std.proofs.lemmas.List.Elements.{All-set}
-use Rattle.std.proofs.lemmas.Option.{slice_get_cases}
-use Rattle.tb_submit.specs.Ends.{SubmitterState}
-use Rattle.tb_work.specs.declared.packet.Packet.{Packet}
-use Rattle.tb_drive.specs.Ahead.{with_packet}
+use Rattle.tb_drive.proofs.Words.{length-set, All-set, slice_get_cases, SubmitterState, Packet}
+use Rattle.tb_drive.specs.clauses.Ahead.{with_packet}
 
 -- What is so of each submitter is so after `submit_ahead` too, if a packet more leaves it so. The fact about `after` is the
 -- clause `ok`.

@@ -1,3 +1,4 @@
+pub mod Words
 pub mod Ahead
 pub mod Opened
 mod Pulsed

@@ -1,11 +1,6 @@
 -- Drivers and submitters of a pipeline that was just opened.
 use Rattle.std.proofs.Common.{◌≡◌, ◌∙◌, ℕ, zero, suc, List, [], ◌∷◌, ◌++◌, Some, All, length, map, slice_get, ap, sym, subst, arith}
-use Rattle.std.proofs.lemmas.List.{length-map}
-use Rattle.std.proofs.lemmas.List.Elements.{All-append, All-map}
-use Rattle.std.proofs.lemmas.Option.{get_or_from_slice_get, slice_get_within}
-use Rattle.tb_submit.specs.Ends.{Origin, SubmitterState, new_submitter}
-use Rattle.tb_work.specs.Packet.{Numbered, ReplyValue}
-use Rattle.tb_drive.specs.Seen.{HasSeen, HaveSeen}
+use Rattle.tb_drive.proofs.Words.{length-map, All-append, All-map, get_or_from_slice_get, slice_get_within, Origin, SubmitterState, new_submitter, Numbered, ReplyValue, HasSeen, HaveSeen}
 
 -- What is so of a submitter that has queued and read nothing is so of each submitter of a new pipeline. The fact about
 -- `opened` is the clause `submitters` of `open`.

@@ -1,17 +1,10 @@
 -- The pulses of a plan's driver, one after another.
 use Rattle.std.proofs.Common.{◌≡◌, ◌∙◌, ◌<◌, ◌≤◌, ◌+◌, ◌^◌, ℕ, Bool, true, false, List, [], ◌∷◌, ◌++◌, Some, length, slice_get, ap, sym, subst, arith, append_assoc, append-nil}
-use Rattle.std.specs.Prelude.{if◌then◌else◌, min, take}
+use Rattle.tb_drive.proofs.Words.{if◌then◌else◌, min, take, flat_map-append, length-take, take_all, slice_get_within, get_or_from_slice_get, SenderState, Item, is_refused, last_item, planned_items, pulse_of, pulses_of, refused_of, with_items, HasQueued}
 use Rattle.std.proofs.Math.Numerals.{add-one}
 use Rattle.std.proofs.Math.Seq.{take-suc}
-use Rattle.std.proofs.lemmas.Grind.{flat_map-append}
-use Rattle.std.proofs.lemmas.List.{length-take, take_all}
 use Rattle.std.proofs.lemmas.List.Sums.{count_by-le-length, count_by_more_no, count_by_more_yes}
-use Rattle.std.proofs.lemmas.Option.{slice_get_within, get_or_from_slice_get}
-use Rattle.tb_submit.specs.Ends.{SenderState}
-use Rattle.tb_work.specs.declared.item.Item.{Item}
 use Rattle.tb_work.specs.declared.item.Item.TheVariants as item
-use Rattle.tb_drive.specs.Plan.{is_refused, last_item, planned_items, pulse_of, pulses_of, refused_of, with_items}
-use Rattle.tb_drive.specs.Threads.{HasQueued}
 
 one_more : (moments : List ℕ) (asked moment : ℕ) → slice_get moments asked ≡ Some moment
     → take (asked + 1) moments ≡ take asked moments ++ moment ∷ []
@@ -34,15 +27,15 @@ pulse_out_of_range : (moment : ℕ) → is_refused moment ≡ true → pulse_of 
 pulse_out_of_range moment out = ap (λ refused. if refused then [] else item.Pulse moment ∷ []) out
 
 -- what holds of the items queued after the result of a pulse, in both cases
-pub queued_told : (has : List Item → Type 0) (items : List Item) (moment : ℕ) → is_refused moment ≡ false
+pub queued_pulse : (has : List Item → Type 0) (items : List Item) (moment : ℕ) → is_refused moment ≡ false
     → has (items ++ item.Pulse moment ∷ []) → has (items ++ pulse_of moment)
-queued_told has items moment in_range told =
-    subst (λ last. has (items ++ last)) (sym (pulse_in_range moment in_range)) told
+queued_pulse has items moment in_range response =
+    subst (λ last. has (items ++ last)) (sym (pulse_in_range moment in_range)) response
 
-pub refused_told : (has : List Item → Type 0) (items : List Item) (moment : ℕ) → is_refused moment ≡ true → has items
+pub refused_pulse : (has : List Item → Type 0) (items : List Item) (moment : ℕ) → is_refused moment ≡ true → has items
     → has (items ++ pulse_of moment)
-refused_told has items moment out told =
-    subst (λ last. has (items ++ last)) (sym (pulse_out_of_range moment out)) (subst has (sym (append-nil items)) told)
+refused_pulse has items moment out response =
+    subst (λ last. has (items ++ last)) (sym (pulse_out_of_range moment out)) (subst has (sym (append-nil items)) response)
 
 -- ---- what a plan's driver has asked for
 

@@ -1,13 +1,8 @@
 -- What drivers have seen, list by list.
 use Rattle.std.proofs.Common.{◌≡◌, ◌∙◌, ◌<◌, ◌+◌, ℕ, refl, zero, suc, List, [], ◌∷◌, ◌++◌, length, Option, Some, None, slice_get, ap, subst, sym, arith, append-nil, append_assoc, ◌-◌}
-use Rattle.std.proofs.lemmas.Grind.{flat_map-append}
-use Rattle.tb_submit.specs.Ends.{EndedState, SubmitterState, ended_with, origin_of}
-use Rattle.tb_work.specs.Packet.{Numbered, ReplyValue}
-use Rattle.tb_submit.specs.Lists.{ArePackets}
-use Rattle.tb_work.specs.declared.item.Item.{Item}
+use Rattle.tb_drive.proofs.Words.{flat_map-append, EndedState, SubmitterState, ended_with, origin_of, Numbered, ReplyValue, Item, IsEnd, ArePrefixesOf, HaveSeen, HaveSeenEnds, HasSeen, HasSeenEnd, IsPrefixOf, job_in, jobs_in}
+use Rattle.tb_submit.specs.clauses.Lists.{ArePackets}
 use Rattle.tb_work.specs.declared.item.Item.TheVariants as item
-use Rattle.tb_drive.specs.Tasks.{IsEnd}
-use Rattle.tb_drive.specs.Seen.{AreFronts, HaveSeen, HaveSeenEnds, HasSeen, HasSeenEnd, IsFront, job_in, jobs_in}
 
 module _ {D : Type 0} (has_seen : D → ℕ → List Numbered → List ReplyValue → Type 0) where
   pub one_more : (drivers : List D) (ends : List EndedState) (last : D) (ended : EndedState)
@@ -68,8 +63,8 @@ fewer_read limit sender flight items read are is some =
 
 -- ---- front parts
 
-pub front_of_more : (first : List Item) {all more : List Item} → IsFront first all → IsFront all more
-    → IsFront first more
+pub front_of_more : (first : List Item) {all more : List Item} → IsPrefixOf first all → IsPrefixOf all more
+    → IsPrefixOf first more
 front_of_more first front further = (
   front.0 ++ further.0,
   further.1 ∙ ap (λ (all : List Item). all ++ further.0) front.1 ∙ append_assoc first front.0 further.0,
@@ -77,18 +72,18 @@ front_of_more first front further = (
 
 -- an end is that of the submitter as it was before
 pub end_before : (before now : SubmitterState) (ended : Option EndedState) → origin_of now ≡ origin_of before
-    → IsFront before.queued now.queued → IsEnd now ended → IsEnd before ended
+    → IsPrefixOf before.queued now.queued → IsEnd now ended → IsEnd before ended
 end_before before now None own front is = tt
 end_before before now (Some end) own front is = (is.0 ∙ own, front_of_more before.queued front is.1)
 
 pub front_more : (submitters : List SubmitterState) (ends : List EndedState) (submitter : SubmitterState)
-    (ended : EndedState) → length submitters ≡ length ends → AreFronts submitters ends
-    → IsFront submitter.queued ended.queued → AreFronts (submitters ++ submitter ∷ []) (ends ++ ended ∷ [])
+    (ended : EndedState) → length submitters ≡ length ends → ArePrefixesOf submitters ends
+    → IsPrefixOf submitter.queued ended.queued → ArePrefixesOf (submitters ++ submitter ∷ []) (ends ++ ended ∷ [])
 front_more [] [] submitter ended long all one zero s e s_is e_is =
     let same : submitter ≡ s = cc in
     let end_same : ended ≡ e = cc in
-    subst (λ (x : SubmitterState). IsFront x.queued e.queued) same
-    (subst (λ (x : EndedState). IsFront submitter.queued x.queued) end_same one)
+    subst (λ (x : SubmitterState). IsPrefixOf x.queued e.queued) same
+    (subst (λ (x : EndedState). IsPrefixOf submitter.queued x.queued) end_same one)
 front_more [] [] submitter ended long all one (suc k) s e s_is e_is = cc
 front_more [] (first ∷ ends) submitter ended long all one k s e s_is e_is = absurd (omega (arith, long))
 front_more (first ∷ submitters) [] submitter ended long all one k s e s_is e_is = absurd (omega (arith, long))

@@ -1,7 +1,1 @@
-pub mod Actions
-pub mod Ahead
-pub mod Plan
-pub mod Refusing
-pub mod Tasks
-pub mod Seen
-pub mod Threads
+pub mod clauses

@@ -4,8 +4,8 @@ ghost use Rattle.std.specs.Prelude.{◌≡◌, ℕ, List, [], ◌∷◌, ◌++�
 ghost use Rattle.tb_work.specs.declared.item.Item.{Item as ItemValue};
 ghost use Rattle.tb_work.specs.declared.item.Item.TheVariants as item;
 ghost use Rattle.tb_work.specs.declared.refusal.Refusal.TheVariants as refusal;
-ghost use Rattle.tb_drive.specs.Actions.{ControlClaimAfter};
-ghost use Rattle.tb_drive.specs.Plan.{is_refused};
+ghost use Rattle.tb_drive.specs.clauses.Actions.{ControlClaimAfter};
+ghost use Rattle.tb_drive.specs.clauses.Plan.{is_refused};
 
 use std::sync::Wait;
 use tb_work::Refusal;
@@ -51,9 +51,9 @@ pub trait ControlDriver: Drop {
     /// Receives the result of the last pulse: it is queued, or refused as `MomentTooLarge`, since its moment is above
     /// 2^62. After `Full` the pulse is tried again, and there is no result yet; nor is there one if the run is given up
     /// meanwhile.
-    fn pulsed(&mut self, told: Result<(), Refusal>)
+    fn pulsed(&mut self, response: Result<(), Refusal>)
         ensures queued { (first : Self) (moment : ℕ) (items : List ItemValue) → has_asked first self.old moment items
-            → told ≡ Ok tt → is_refused moment ≡ false → has_queued first self.new (items ++ item.Pulse moment ∷ []) }
+            → response ≡ Ok tt → is_refused moment ≡ false → has_queued first self.new (items ++ item.Pulse moment ∷ []) }
         ensures refused { (first : Self) (moment : ℕ) (items : List ItemValue) → has_asked first self.old moment items
-            → told ≡ Err refusal.MomentTooLarge → is_refused moment ≡ true → has_queued first self.new items };
+            → response ≡ Err refusal.MomentTooLarge → is_refused moment ≡ true → has_queued first self.new items };
 }

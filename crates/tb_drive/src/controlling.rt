@@ -1,12 +1,12 @@
 //! The control's thread.
 
 ghost use Rattle.std.specs.Prelude.{◌≡◌, [], ◌∷◌, ◌++◌, List, ◌⊎◌, ◌<◌, ◌≤◌, length, true, false, Err, IfErr, IfSome, OnOk, OnSome};
-ghost use Rattle.tb_layout.specs.inside.Limits.{moment_max, queued_max};
-ghost use Rattle.tb_submit.specs.Ends.{sender_with};
+ghost use Rattle.tb_layout.specs.claim.Bounds.{moment_max, queued_max};
+ghost use Rattle.tb_submit.specs.clauses.Ends.{sender_with};
 ghost use Rattle.tb_work.specs.declared.item.Item.{Item as ItemValue};
 ghost use Rattle.tb_work.specs.declared.refusal.Refusal.TheVariants as refusal;
-ghost use Rattle.tb_drive.specs.Plan.{is_refused, last_item, pulse_of, with_items};
-ghost use Rattle.tb_drive.specs.Threads.{HasQueued, IsControlResultOf};
+ghost use Rattle.tb_drive.specs.clauses.Plan.{is_refused, last_item, pulse_of, with_items};
+ghost use Rattle.tb_drive.specs.clauses.Threads.{HasQueued, IsControlResultOf};
 
 use crate::control_driver::{ControlAction, ControlDriver};
 use crate::stop::Stop;
@@ -28,7 +28,7 @@ pub(crate) struct ControlTask<C: ControlDriver> {
 
 impl<C: ControlDriver> Model for ControlTask<C> {
     ghost use Rattle.std.specs.Prelude.{[]};
-    ghost use Rattle.tb_drive.specs.Tasks.{ControlTaskState};
+    ghost use Rattle.tb_drive.specs.clauses.Tasks.{ControlTaskState};
 
     ghost Value = { ControlTaskState C };
 
@@ -53,7 +53,7 @@ pub(crate) struct ControlPromise<C: ControlDriver> {
 
 impl<C: ControlDriver> Promise<Option<ControlResult<C>>> for ControlPromise<C> {
     ghost use Rattle.std.specs.Prelude.{IfSome};
-    ghost use Rattle.tb_drive.specs.Threads.{IsControlResultOf};
+    ghost use Rattle.tb_drive.specs.clauses.Threads.{IsControlResultOf};
 
     ghost kept_by = { λ p r. IfSome r (IsControlResultOf C.has_ended p.task.value) };
 }
@@ -83,7 +83,7 @@ fn pulse<C: ControlDriver, R: Wait>(
     stop: &Stop,
 ) -> Option<()>
     ensures queued { OnSome result (control.new ≡ with_items control.old (pulse_of moment)) }
-    ensures told { (first : C) (items : List ItemValue) → C.has_asked first driver.old moment items
+    ensures response { (first : C) (items : List ItemValue) → C.has_asked first driver.old moment items
         → OnSome result (C.has_queued first driver.new (items ++ pulse_of moment)) }
 {
     let backoff = Backoff::new();
@@ -93,7 +93,7 @@ fn pulse<C: ControlDriver, R: Wait>(
             Err(Refusal::Full) => {}
             Err(refusal) => return Some(driver.pulsed(Err(refusal))),
         }
-        if stop.is_asked() {
+        if stop.is_given_up() {
             return None;
         }
         backoff.snooze();
@@ -114,7 +114,7 @@ fn follow<C: ControlDriver, R: Wait>(
 {
     let backoff = Backoff::new();
     for _ in rt.forever() {
-        if stop.is_asked() {
+        if stop.is_given_up() {
             return None;
         }
         match driver.next(rt) {
@@ -149,7 +149,7 @@ pub fn end_control<R: Wait>(
             Ok(end) => return Some(end),
             Err((back, _)) => control = back,
         }
-        if stop.is_asked() && control.give_up() {
+        if stop.is_given_up() && control.give_up() {
             return None;
         }
         backoff.snooze();

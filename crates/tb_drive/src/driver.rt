@@ -1,11 +1,11 @@
 //! What an application says of a submitter.
 
 ghost use Rattle.std.specs.Prelude.{◌≡◌, ◌<◌, ℕ, List, [], ◌∷◌, ◌++◌, length, None, Ok, Err, ⊤};
-ghost use Rattle.tb_work.specs.Packet.{Numbered, ReplyValue};
+ghost use Rattle.tb_work.specs.claim.Packet.{Numbered, ReplyValue};
 ghost use Rattle.tb_work.specs.declared.packet.Packet as packets;
 ghost use Rattle.tb_work.specs.declared.refusal.Refusal.{Refusal as RefusalValue};
-ghost use Rattle.tb_drive.specs.Actions.{ClaimAfter};
-ghost use Rattle.tb_drive.specs.Refusing.{IsFinalRefusal, final_refusal};
+ghost use Rattle.tb_drive.specs.clauses.Actions.{ClaimAfter};
+ghost use Rattle.tb_drive.specs.clauses.Refusing.{IsFinalRefusal, final_refusal};
 
 use std::alloc::Global;
 use std::sync::Wait;
@@ -56,12 +56,12 @@ pub trait Driver: Drop {
     /// Receives the result of the last packet: the number under which it is queued, which only an admitted packet is,
     /// or why it is refused. After `InFlight` and `Full` the packet is tried again, and there is no result yet; nor is
     /// there one if the run is given up meanwhile.
-    fn submitted(&mut self, told: Result<u64, Refusal>)
+    fn submitted(&mut self, response: Result<u64, Refusal>)
         ensures queued { (job : Numbered) (limit : ℕ) (queued : List Numbered) (read : List ReplyValue)
-            → has_asked self.old job.packet limit queued read → told ≡ Ok job.number
+            → has_asked self.old job.packet limit queued read → response ≡ Ok job.number
             → final_refusal limit read job.packet ≡ None → has_seen self.new limit (queued ++ job ∷ []) read }
         ensures refused { (packet : packets.Packet) (refusal : RefusalValue) (limit : ℕ) (queued : List Numbered)
-            (read : List ReplyValue) → has_asked self.old packet limit queued read → told ≡ Err refusal
+            (read : List ReplyValue) → has_asked self.old packet limit queued read → response ≡ Err refusal
             → IsFinalRefusal limit read packet refusal → has_seen self.new limit queued read }
         ensures share { share self.new ≡ share self.old };
 

@@ -1,7 +1,7 @@
 //! A control whose pulses are known beforehand.
 
 ghost use Rattle.std.specs.Prelude.{◌≡◌, [], false};
-ghost use Rattle.tb_drive.specs.Plan.{HasAskedOf, HasEndedOf, HasQueuedOf};
+ghost use Rattle.tb_drive.specs.clauses.Plan.{HasAskedOf, HasEndedOf, HasQueuedOf};
 
 use crate::control_driver::{ControlAction, ControlDriver};
 use std::alloc::Global;
@@ -73,8 +73,8 @@ impl ControlDriver for PlanDriver {
         }
     }
 
-    fn pulsed(&mut self, told: Result<(), Refusal>) {
-        if told.is_err() {
+    fn pulsed(&mut self, response: Result<(), Refusal>) {
+        if response.is_err() {
             self.refused = self.refused.saturating_add(1);
         }
     }

@@ -14,14 +14,17 @@ use tb_submit::Submitter;
 /// An application that starts threads of its own needs one. If a thread can't be started nobody serves, and the threads
 /// that run already would wait for ever.
 pub struct Stop {
-    asked: AtomicBool,
+    given_up: AtomicBool,
     wakers: Vec<Waker>,
 }
 
 impl Drop for Stop {
     /// Frees everything held in one call, so that no owner's proof repeats it.
     fn drop(self) {
-        let Stop { asked: _, wakers } = self;
+        let Stop {
+            given_up: _,
+            wakers,
+        } = self;
         drop(wakers);
     }
 }
@@ -45,7 +48,7 @@ impl Stop {
             wakers.push(submitter.waker()?)?;
         }
         Ok(Stop {
-            asked: AtomicBool::new(false),
+            given_up: AtomicBool::new(false),
             wakers,
         })
     }
@@ -56,15 +59,15 @@ impl Stop {
     /// for no slot of the queue, and a `serve` that begins after that is refused.
     ///
     /// Costs an atomic exchange for each submitter, and a system call for each that sleeps.
-    pub fn ask(&self) {
-        self.asked.store(true, Ordering::SeqCst);
+    pub fn give_up(&self) {
+        self.given_up.store(true, Ordering::SeqCst);
         for waker in &self.wakers {
             waker.wake();
         }
     }
 
     /// Returns whether the run is given up. Costs an atomic load.
-    pub fn is_asked(&self) -> bool {
-        self.asked.load(Ordering::SeqCst)
+    pub fn is_given_up(&self) -> bool {
+        self.given_up.load(Ordering::SeqCst)
     }
 }

@@ -1,16 +1,16 @@
 //! A submitter's thread.
 
 ghost use Rattle.std.specs.Prelude.{◌≡◌, [], ◌∷◌, ◌++◌, ◌<◌, ◌≤◌, length, None, Err, OnOk, IfOk, IfErr, IfSome};
-ghost use Rattle.tb_layout.specs.inside.Limits.{queued_max};
-ghost use Rattle.tb_submit.specs.Ends.{origin_of};
-ghost use Rattle.tb_submit.specs.Refusals.{IsSubmitRefusal, submit_refusal};
-ghost use Rattle.tb_work.specs.Job.{numbered_packet};
+ghost use Rattle.tb_layout.specs.claim.Bounds.{queued_max};
+ghost use Rattle.tb_submit.specs.clauses.Ends.{origin_of};
+ghost use Rattle.tb_submit.specs.clauses.Refusals.{IsSubmitRefusal, submit_refusal};
+ghost use Rattle.tb_work.specs.claim.Job.{numbered_packet};
 ghost use Rattle.tb_work.specs.declared.packet.Packet as packets;
 ghost use Rattle.tb_work.specs.declared.refusal.Refusal.TheVariants as refusal;
-ghost use Rattle.tb_drive.specs.Ahead.{with_packet};
-ghost use Rattle.tb_drive.specs.Seen.{HasSeen, HasSeenEnd, HasAsked, IsFront, jobs_in};
-ghost use Rattle.tb_drive.specs.Refusing.{IsFinalRefusal, final_refusal};
-ghost use Rattle.tb_drive.specs.Tasks.{IsEnd, IsResultOf};
+ghost use Rattle.tb_drive.specs.clauses.Ahead.{with_packet};
+ghost use Rattle.tb_drive.specs.clauses.Seen.{HasSeen, HasSeenEnd, HasAsked, IsPrefixOf, jobs_in};
+ghost use Rattle.tb_drive.specs.clauses.Refusing.{IsFinalRefusal, final_refusal};
+ghost use Rattle.tb_drive.specs.clauses.Tasks.{IsEnd, IsResultOf};
 
 use crate::driver::{Action, Driver};
 use crate::stop::Stop;
@@ -21,7 +21,7 @@ use std::snapshot::Snapshot;
 use std::sync::Wait;
 use std::thread::Promise;
 use tb_layout::QUEUED_MAX;
-use tb_rings::SpinWait;
+use tb_rings::IdleWait;
 use tb_submit::{Ended, Submitter};
 use tb_work::{Packet, Refusal};
 
@@ -36,8 +36,8 @@ pub(crate) struct SubmitterTask<D: Driver> {
 }
 
 impl<D: Driver> Model for SubmitterTask<D> {
-    ghost use Rattle.tb_drive.specs.Seen.{HasSeen};
-    ghost use Rattle.tb_drive.specs.Tasks.{SubmitterTaskState};
+    ghost use Rattle.tb_drive.specs.clauses.Seen.{HasSeen};
+    ghost use Rattle.tb_drive.specs.clauses.Tasks.{SubmitterTaskState};
 
     ghost Value = { SubmitterTaskState };
 
@@ -56,8 +56,8 @@ pub(crate) struct SubmitterResult<D: Driver> {
 
 impl<D: Driver> Model for SubmitterResult<D> {
     ghost use Rattle.std.specs.Prelude.{IfSome};
-    ghost use Rattle.tb_drive.specs.Seen.{HasSeenEnd};
-    ghost use Rattle.tb_drive.specs.Tasks.{SubmitterResultState};
+    ghost use Rattle.tb_drive.specs.clauses.Seen.{HasSeenEnd};
+    ghost use Rattle.tb_drive.specs.clauses.Tasks.{SubmitterResultState};
 
     ghost Value = { SubmitterResultState };
 
@@ -74,7 +74,7 @@ pub(crate) struct SubmitterPromise<D: Driver> {
 }
 
 impl<D: Driver> Promise<SubmitterResult<D>> for SubmitterPromise<D> {
-    ghost use Rattle.tb_drive.specs.Tasks.{IsResultOf};
+    ghost use Rattle.tb_drive.specs.clauses.Tasks.{IsResultOf};
 
     ghost kept_by = { λ p r. IsResultOf p.task.value r };
 }
@@ -93,14 +93,14 @@ pub fn submit_once<R: Wait>(
     ensures job { IfOk result (λ number. jobs_in submitter.new.queued
         ≡ jobs_in submitter.old.queued ++ numbered_packet submitter.old.origin.seat.number number packet ∷ []) }
     ensures read { submitter.new.read ≡ submitter.old.read }
-    ensures front { IsFront submitter.old.queued submitter.new.queued }
+    ensures front { IsPrefixOf submitter.old.queued submitter.new.queued }
     ensures admitted { OnOk result (submit_refusal submitter.old packet ≡ None) }
     ensures back { IfErr result (λ refused. (refused.0 ≡ packet) × (submitter.new ≡ submitter.old)) }
     ensures refusal { length submitter.old.queued < queued_max
         → IfErr result (λ refused. IsSubmitRefusal submitter.old packet refused.1) }
     ensures full { queued_max ≤ length submitter.old.queued → result ≡ Err (packet, refusal.Full) }
     ensures kept { OnOk result (final_refusal submitter.old.origin.seat.limit submitter.old.read packet ≡ None) }
-    ensures told { IfErr result (λ refused. (refused.1 ≡ refusal.InFlight → ⊥) → (refused.1 ≡ refusal.Full → ⊥)
+    ensures refused { IfErr result (λ refused. (refused.1 ≡ refusal.InFlight → ⊥) → (refused.1 ≡ refusal.Full → ⊥)
         → IsFinalRefusal submitter.old.origin.seat.limit submitter.old.read packet refused.1) }
 {
     if submitter.queued() >= QUEUED_MAX {
@@ -142,20 +142,20 @@ fn submit<D: Driver, R: Wait>(
     stop: &Stop,
 ) -> Result<(), Stopped>
     ensures own { origin_of submitter.new ≡ origin_of submitter.old }
-    ensures front { IsFront submitter.old.queued submitter.new.queued }
+    ensures front { IsPrefixOf submitter.old.queued submitter.new.queued }
     ensures seen { HasAsked D.has_asked driver.old packet submitter.old
         → OnOk result (HasSeen D.has_seen driver.new submitter.new) }
     ensures share { D.share driver.new ≡ D.share driver.old }
 {
     let mut packet = packet;
-    let spin = SpinWait::new();
+    let idle = IdleWait::new();
     let backoff = Backoff::new();
     for _ in rt.forever() {
         match submit_once(rt, alloc, submitter, packet) {
             Ok(number) => return Ok(driver.submitted(Ok(number))),
             Err((back, Refusal::InFlight)) => {
                 packet = back;
-                submitter.wait(rt, &spin);
+                submitter.wait(rt, &idle);
             }
             Err((back, Refusal::Full)) => {
                 packet = back;
@@ -163,7 +163,7 @@ fn submit<D: Driver, R: Wait>(
             }
             Err((_, refusal)) => return Ok(driver.submitted(Err(refusal))),
         }
-        if stop.is_asked() {
+        if stop.is_given_up() {
             return Err(Stopped);
         }
         read(submitter, driver);
@@ -178,13 +178,13 @@ fn receive<D: Driver, R: Wait>(rt: &R, submitter: &mut Submitter, driver: &mut D
     ensures seen { HasSeen D.has_seen driver.old submitter.old → HasSeen D.has_seen driver.new submitter.new }
     ensures share { D.share driver.new ≡ D.share driver.old }
 {
-    let spin = SpinWait::new();
+    let idle = IdleWait::new();
     for _ in rt.forever() {
-        let waits = submitter.in_flight() > 0 && !stop.is_asked();
+        let waits = submitter.in_flight() > 0 && !stop.is_given_up();
         if !waits || read(submitter, driver) {
             return;
         }
-        submitter.wait(rt, &spin);
+        submitter.wait(rt, &idle);
     }
     unreachable!()
 }
@@ -198,14 +198,14 @@ fn follow<D: Driver, R: Wait>(
     stop: &Stop,
 ) -> Result<(), Stopped>
     ensures own { origin_of submitter.new ≡ origin_of submitter.old }
-    ensures front { IsFront submitter.old.queued submitter.new.queued }
+    ensures front { IsPrefixOf submitter.old.queued submitter.new.queued }
     ensures seen { HasSeen D.has_seen driver.old submitter.old
         → OnOk result (HasSeen D.has_seen driver.new submitter.new × HasSeen D.has_ended driver.new submitter.new) }
     ensures share { D.share driver.new ≡ D.share driver.old }
 {
     let backoff = Backoff::new();
     for _ in rt.forever() {
-        if stop.is_asked() {
+        if stop.is_given_up() {
             return Err(Stopped);
         }
         match driver.next(rt, alloc) {
@@ -240,7 +240,7 @@ fn end<D: Driver, R: Wait>(
             Ok(ended) => return Some(ended),
             Err((back, _)) => submitter = back,
         }
-        if stop.is_asked() && submitter.give_up() {
+        if stop.is_given_up() && submitter.give_up() {
             return None;
         }
         read(&mut submitter, driver);

@@ -1,11 +1,11 @@
 //! The threads of a run: how they are started, and how they are joined.
 
 ghost use Rattle.std.specs.Prelude.{◌≡◌, ◌≤◌, [], ◌∷◌, ◌++◌, List, map, length, vec_len, vec_capacity, OnOk, IfOk, IfErr, IfSome};
-ghost use Rattle.tb_submit.specs.Ends.{origin_of};
+ghost use Rattle.tb_submit.specs.clauses.Ends.{origin_of};
 ghost use Rattle.tb_drive.specs.declared.drive_fault.DriveFault.TheVariants as fault;
-ghost use Rattle.tb_drive.specs.Seen.{HaveSeen, HaveSeenEnds};
-ghost use Rattle.tb_drive.specs.Tasks.{AreResultsOf, IsResultOf, SubmitterTaskState, task_origin, task_share, task_submitter};
-ghost use Rattle.tb_drive.specs.Threads.{HaveJoined, IsControlResultOf, started_from};
+ghost use Rattle.tb_drive.specs.clauses.Seen.{HaveSeen, HaveSeenEnds};
+ghost use Rattle.tb_drive.specs.clauses.Tasks.{AreResultsOf, IsResultOf, SubmitterTaskState, task_origin, task_share, task_submitter};
+ghost use Rattle.tb_drive.specs.clauses.Threads.{HaveJoined, IsControlResultOf, started_from};
 
 use crate::control_driver::ControlDriver;
 use crate::controlling::{ControlPromise, ControlResult, ControlTask};
@@ -28,7 +28,7 @@ pub struct Tasks<D: Driver, C: ControlDriver> {
 }
 
 impl<D: Driver, C: ControlDriver> Model for Tasks<D, C> {
-    ghost use Rattle.tb_drive.specs.Tasks.{TasksState};
+    ghost use Rattle.tb_drive.specs.clauses.Tasks.{TasksState};
 
     ghost Value = { TasksState C };
 
@@ -64,8 +64,8 @@ pub struct Running<D: Driver, C: ControlDriver> {
 
 impl<D: Driver, C: ControlDriver> Model for Running<D, C> {
     ghost use Rattle.std.specs.Prelude.{◌≡◌, [], map};
-    ghost use Rattle.tb_drive.specs.Tasks.{TasksState};
-    ghost use Rattle.tb_drive.specs.Threads.{started_from};
+    ghost use Rattle.tb_drive.specs.clauses.Tasks.{TasksState};
+    ghost use Rattle.tb_drive.specs.clauses.Threads.{started_from};
 
     ghost Value = { TasksState C };
 

@@ -1,19 +1,11 @@
 -- What was committed of a parcel.
 use Rattle.std.proofs.Common.{◌≡◌, ◌+◌, ℕ, Bool, true, false, List, [], ◌∷◌, ◌++◌, refl, ap, sym, subst, ◌∙◌, append-nil, length, map}
-use Rattle.std.specs.Prelude.{if◌then◌else◌, ◌||◌, nat_lt}
-use Rattle.tb_layout.specs.Events.{Input, Pulse}
-use Rattle.tb_layout.specs.inside.Limits.{places_max}
-use Rattle.tb_work.specs.Answer.{reply_with}
-use Rattle.tb_work.specs.Packet.{Numbered, input_of}
+use Rattle.tb_durable.proofs.Words.{if◌then◌else◌, ◌||◌, nat_lt, Input, Pulse, places_max, Numbered, input_of, Outcomes, LedgerState, inputs, Applied, apply_result, apply_step, must_stop, step_of_batch, with_entry, with_stop, BareLedgerState, HasCommitted, Applies, with_journal, groups_in, AddsGroup, groups_of_parcel}
+use Rattle.tb_work.specs.claim.Answer.{reply_with}
 use Rattle.tb_work.specs.declared.outcome.Outcome.TheVariants as outcome
 use Rattle.tb_core.specs.declared.parcel.Parcel.{Parcel}
 use Rattle.tb_core.specs.declared.parcel.Parcel.TheVariants as parcel
-use Rattle.tb_core.specs.declared.outcomes.Outcomes.{Outcomes}
 use Rattle.tb_core.specs.declared.outcomes.Outcomes.TheVariants.{Cut, Nothing}
-use Rattle.tb_core.specs.Journal.{LedgerState, inputs}
-use Rattle.tb_core.specs.Ledger.{Applied, apply_result, apply_step, must_stop, step_of_batch, with_entry, with_stop}
-use Rattle.tb_core.specs.BareLedger.{BareLedgerState, HasCommitted, Applies, with_journal, groups_in}
-use Rattle.tb_durable.specs.Durable.{AddsGroup, groups_of_parcel}
 
 module _ (before after : LedgerState) (group : List Input) (outcomes refusal answers : Outcomes) where
   -- a ledger that didn't stop has the group

@@ -1,34 +1,23 @@
 -- A batch's packets that are read one by one.
 use Rattle.std.proofs.Common.{◌≡◌, ◌%◌, ◌<◌, ◌≤◌, ◌+◌, ◌*◌, ℕ, true, List, [], ◌∷◌, ◌++◌, refl, sym, ap, subst, ◌∙◌, arith, length, length-append, map, take, drop, ◌/◌, Some, append_assoc, append-nil}
-use Rattle.std.specs.Prelude.{◌==◌, IsOk, IsSome, get_or, nat_le, ◌&&◌}
-use Rattle.std.specs.List.{list_all}
-use Rattle.std.proofs.lemmas.Bool.{and_from, and_parts, eq-eqb, le-leb, leb-true}
-use Rattle.std.proofs.lemmas.List.{drop_all, drop_at, drop_more, get_or-map, length-map, map_more, take_all, take_at, take-append-drop, map-append}
-use Rattle.std.proofs.lemmas.List.Folds.{list_all-append, list_all-map}
+use Rattle.tb_durable.proofs.Words.{◌==◌, IsOk, IsSome, get_or, and_from, and_parts, eq-eqb, le-leb, drop_all, drop_at, drop_more, get_or-map, length-map, map_more, take_all, take_at, take-append-drop, map-append, flat_map-append, chunks, Stub, admission_of, count_of, count_of_size, event_size, Numbered, events_in, input_of, count_of_all, numbered_packet, stub_of, admitted_are_whole, AreAdmitted, IsLawful, all_share, are_of, body_of, can_share, is_taken, joins, first_is, joins_by, size_of, AreColumnsOf, BeginsWith, without_user, stub_at}
+use Rattle.std.proofs.lemmas.List.Folds.{list_all-append}
 use Rattle.std.proofs.Math.Nat.{mul-div_cancel}
-use Rattle.std.proofs.lemmas.Grind.{flat_map-append}
-use Rattle.tb_layout.specs.Events.{chunks}
-use Rattle.tb_work.specs.declared.stub.Stub.{Stub}
-use Rattle.tb_work.specs.Admission.{admission_of, count_of, count_of_size, event_size}
-use Rattle.tb_work.specs.Packet.{Numbered}
-use Rattle.tb_work.specs.Job.{count_of_all, numbered_packet, stub_of}
-use Rattle.tb_work.proofs.Admissions.{admitted_are_whole}
-use Rattle.tb_batch.specs.Batch.{AreAdmitted, IsLawful, body_of}
-use Rattle.tb_batch.specs.Grouping.{are_of, can_share, is_taken}
-use Rattle.tb_core.specs.Ledger.{size_of}
-use Rattle.tb_durable.specs.Entries.{AreColumnsOf, BeginsWith, without_user}
-use Rattle.tb_durable.specs.Rows.{stub_at}
-use Rattle.tb_durable.proofs.Cutting.{first_is}
+use Rattle.tb_batch.proofs.Groups.{lawful_more}
 
 -- ---- packets without their user words are of the same group
 
-count-without_user : (jobs : List Numbered) → count_of_all (map without_user jobs) ≡ count_of_all jobs
-count-without_user [] = refl
-count-without_user (job ∷ jobs) = ap (λ n. count_of job.packet + n) (count-without_user jobs)
+inputs-without_user : (jobs : List Numbered) → map input_of (map without_user jobs) ≡ map input_of jobs
+inputs-without_user [] = refl
+inputs-without_user (job ∷ jobs) = ap (λ inputs. input_of job ∷ inputs) (inputs-without_user jobs)
 
 count-append : (front jobs : List Numbered) → count_of_all (front ++ jobs) ≡ count_of_all front + count_of_all jobs
 count-append [] jobs = omega arith
 count-append (job ∷ front) jobs = omega (arith, count-append front jobs)
+
+first_admitted : (front jobs : List Numbered) → AreAdmitted (front ++ jobs) → AreAdmitted front
+first_admitted [] jobs all = tt
+first_admitted (first ∷ front) jobs all = (all.0, first_admitted front jobs all.1)
 
 all_admitted_at : (front jobs : List Numbered) (job : Numbered) → AreAdmitted (front ++ job ∷ jobs)
     → IsOk (admission_of 8190 job.packet)
@@ -94,13 +83,6 @@ module _ (operation : ℕ) (front jobs : List Numbered) (job : Numbered) (lawful
   own_operation : job.packet.operation ≡ operation
   own_operation = (first_is operation job jobs one_operation.1).0
 
-  shares : 0 < length front → (list_all can_share front ≡ true) × (can_share job ≡ true)
-  shares some =
-      let all : list_all can_share (front ++ job ∷ jobs) ≡ true = lawful.alone (omega (arith, some, length-append front (job ∷ jobs))) in
-      let parts = and_parts (list_all can_share front) (list_all can_share (job ∷ jobs))
-      (sym (list_all-append can_share front (job ∷ jobs)) ∙ all) in
-      (parts.0, (and_parts (can_share job) (list_all can_share jobs) parts.1).0)
-
   -- it joins those before it, as they are read
   taken : is_taken 8190 (map without_user front) (without_user job) ≡ true
   taken = by front refl
@@ -108,18 +90,17 @@ module _ (operation : ℕ) (front jobs : List Numbered) (job : Numbered) (lawful
       by : (group : List Numbered) → front ≡ group → is_taken 8190 (map without_user group) (without_user job) ≡ true
       by [] is = refl
       by (first ∷ rest) is =
-          let group = first ∷ rest in
-          let both = shares (omega (arith, ap length is)) in
-          let all_share : list_all can_share (map without_user group) ≡ true =
-          list_all-map can_share without_user group ∙ ap (list_all can_share) (sym is) ∙ both.0 in
-          let one : are_of job.packet.operation (map without_user group) ≡ true =
-          list_all-map (λ (other : Numbered). other.packet.operation == job.packet.operation) without_user group
-          ∙ ap (are_of job.packet.operation) (sym is)
-          ∙ ap (λ o. are_of o front) own_operation ∙ one_operation.0 in
-          let few : nat_le (count_of_all (map without_user group) + count_of job.packet) 8190 ≡ true =
-          le-leb (count_of_all (map without_user group) + count_of job.packet) 8190
-          (omega (arith, count-without_user group, ap count_of_all is, count-append front (job ∷ jobs), lawful.few)) in
-          and_from _ _ all_share (and_from _ _ both.1 (and_from _ _ one few))
+          let more : 1 < length (front ++ job ∷ jobs) = omega (arith, ap length is, length-append front (job ∷ jobs)) in
+          let shares = and_parts (all_share front) (all_share (job ∷ jobs))
+          (sym (list_all-append (λ (job : Numbered). can_share (events_in job.packet)) front (job ∷ jobs)) ∙ lawful.alone more) in
+          let few = le-leb (count_of_all front + count_of job.packet) 8190
+          (omega (arith, count-append front (job ∷ jobs), lawful.few)) in
+          ap (λ group. joins 8190 (map input_of (map without_user group)) (input_of job)) (sym is)
+          ∙ ap (λ inputs. joins 8190 inputs (input_of job)) (inputs-without_user front)
+          ∙ joins_by 8190 front job (first_admitted front (job ∷ jobs) lawful.all_admitted)
+          (all_admitted_at front jobs job lawful.all_admitted)
+          ∙ and_from _ _ shares.0 (and_from _ _ (and_parts _ (all_share jobs) shares.1).0
+          (and_from _ _ (ap (λ o. are_of o front) own_operation ∙ one_operation.0) few))
 
 -- ---- in a loop
 
@@ -205,41 +186,12 @@ lawful_alone operation job ok same =
       alone = λ more. absurd (omega (arith, more));
     }
 
-admitted-push : (jobs : List Numbered) (job : Numbered) → AreAdmitted jobs → IsOk (admission_of 8190 job.packet)
-    → AreAdmitted (jobs ++ job ∷ [])
-admitted-push [] job all ok = (ok, tt)
-admitted-push (first ∷ jobs) job all ok = (all.0, admitted-push jobs job all.1 ok)
-
-lawful_more : (operation : ℕ) (first : Numbered) (rest : List Numbered) (job : Numbered) → IsLawful operation (first ∷ rest)
-    → is_taken 8190 (first ∷ rest) job ≡ true → IsOk (admission_of 8190 job.packet) → job.packet.operation ≡ operation
-    → IsLawful operation ((first ∷ rest) ++ job ∷ [])
-lawful_more operation first rest job lawful taken ok same =
-    let jobs = first ∷ rest in
-    let few_test = nat_le (count_of_all jobs + count_of job.packet) 8190 in
-    let shares = and_parts (list_all can_share jobs) (can_share job && (are_of job.packet.operation jobs && few_test)) taken in
-    let own = and_parts (can_share job) (are_of job.packet.operation jobs && few_test) shares.1 in
-    let few = and_parts (are_of job.packet.operation jobs) few_test own.1 in
-    record {
-      some = omega (arith, length-append jobs (job ∷ []));
-      all_admitted = admitted-push jobs job lawful.all_admitted ok;
-      one_operation = list_all-append (λ (other : Numbered). other.packet.operation == operation) jobs (job ∷ [])
-          ∙ and_from (are_of operation jobs) (are_of operation (job ∷ [])) lawful.one_operation
-          (and_from (job.packet.operation == operation) true (eq-eqb job.packet.operation operation same) refl);
-      few = omega (
-        arith,
-        count-append jobs (job ∷ []),
-        leb-true (count_of_all jobs + count_of job.packet) 8190 few.1,
-      );
-      alone = λ _. list_all-append can_share jobs (job ∷ [])
-          ∙ and_from (list_all can_share jobs) (can_share job && true) shares.0 (and_from (can_share job) true own.0 refl);
-    }
-
 lawful_push : (operation : ℕ) (jobs : List Numbered) (job : Numbered) → (0 < length jobs → IsLawful operation jobs)
     → is_taken 8190 jobs job ≡ true → IsOk (admission_of 8190 job.packet) → job.packet.operation ≡ operation
     → IsLawful operation (jobs ++ job ∷ [])
 lawful_push operation [] job lawful taken ok same = lawful_alone operation job ok same
 lawful_push operation (first ∷ rest) job lawful taken ok same =
-    lawful_more operation first rest job (lawful (omega arith)) taken ok same
+    lawful_more operation 8190 (first ∷ rest) job (lawful (omega arith)) (omega arith) ok taken
 
 -- one packet more
 module _ (operation : ℕ) (stubs : List Stub) (body : List ℕ) (left : List Stub) (rest : List ℕ) (jobs : List Numbered)

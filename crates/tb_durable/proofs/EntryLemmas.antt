@@ -1,20 +1,8 @@
 -- Rows of entries, and their columns.
 use Rattle.std.proofs.Common.{◌≡◌, ◌+◌, ◌<◌, ◌≤◌, ◌%◌, ℕ, pos, List, [], ◌∷◌, ◌++◌, refl, sym, ap, subst, ◌∙◌, arith, length, length-append, map, inl, inr, Some}
-use Rattle.std.specs.Prelude.{IsSome, OnOk, Result, Ok, Err}
-use Rattle.std.specs.Option.{is_some}
-use Rattle.std.specs.List.{flat_map}
-use Rattle.sqlite_value.specs.declared.value.Value.TheVariants.{Int}
-use Rattle.sqlite_value.specs.Order.{Row, bytes}
-use Rattle.sqlite_trees.specs.Tree.{rowid}
-use Rattle.tb_layout.specs.inside.Limits.{moment_max}
-use Rattle.tb_work.specs.Packet.{Numbered}
-use Rattle.tb_work.specs.Job.{stub_of}
-use Rattle.tb_batch.specs.Batch.{IsLawful, body_of, operation_of}
-use Rattle.tb_durable.specs.declared.counts.PacketCounts.{PacketCounts}
-use Rattle.tb_durable.specs.Counts.{counted_all}
-use Rattle.tb_durable.specs.Entries.{AreColumnsOf, AreEntryRows, IsBatchRow, IsEntryRow, IsPulseRow}
-use Rattle.tb_durable.specs.Rows.{HasColumns, group_in, jobs_row, pulse_row, stubs_bytes, stubs_in, whole_number}
-use Rattle.tb_durable.proofs.Cutting.{Kind, OfAccounts, OfIds, OfTransfers, kind_of_batch, not_zero}
+use Rattle.tb_durable.proofs.Words.{IsSome, OnOk, Result, Ok, Err, is_some, flat_map, Int, Row, bytes, rowid, moment_max, Numbered, stub_of, IsLawful, body_of, operation_of, PacketCounts, AreColumnsOf, AreEntryRows, IsBatchRow, IsEntryRow, IsPulseRow, HasColumns, group_in, jobs_row, pulse_row, stubs_bytes, stubs_in, whole_number, Kind, OfAccounts, OfIds, OfTransfers, kind_of_batch}
+use Rattle.tb_durable.specs.clauses.Counts.{counted_all}
+use Rattle.tb_durable.proofs.Cutting.{not_zero}
 use Rattle.tb_durable.proofs.StubLemmas.{counted_in_range, stubs_read, stubs_whole}
 
 -- ---- one row

@@ -1,12 +1,7 @@
 -- A ledger's file with a pulse and a batch, and its counts.
 use Rattle.std.proofs.Common.{◌≡◌, [], ◌∷◌, refl, arith, inl, inr, Some}
-use Rattle.tb_work.specs.Packet.{Numbered}
-use Rattle.tb_work.specs.Job.{numbered_packet, stub_of}
-use Rattle.tb_batch.specs.Batch.{IsLawful}
-use Rattle.tb_durable.specs.declared.settings.Settings.{Settings}
-use Rattle.tb_durable.specs.Counts.{counted, counted_all, no_packets}
-use Rattle.tb_durable.specs.Entries.{IsLedgerFile}
-use Rattle.tb_durable.specs.Rows.{jobs_row, pulse_row, settings_row}
+use Rattle.tb_durable.proofs.Words.{Numbered, numbered_packet, stub_of, IsLawful, Settings, counted, no_packets, IsLedgerFile, jobs_row, pulse_row, settings_row}
+use Rattle.tb_durable.specs.clauses.Counts.{counted_all}
 use Rattle.tb_durable.proofs.EntryLemmas.{batch_row_is, pulse_row_is}
 use Rattle.tb_durable.proofs.FileLemmas.{is_first_row}
 

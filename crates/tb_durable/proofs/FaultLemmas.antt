@@ -1,14 +1,7 @@
 -- Which row keeps a ledger from being opened.
 use Rattle.std.proofs.Common.{◌≡◌, ◌≢◌, pos, true, List, ◌∷◌, ◌++◌, sym, ap, subst, ◌∙◌}
-use Rattle.sqlite_value.specs.declared.value.Value.TheVariants.{Int}
-use Rattle.sqlite_value.specs.Order.{Row}
-use Rattle.sqlite_trees.specs.Tree.{rowid}
-use Rattle.sqlite_trees.specs.View.{View, Advances}
-use Rattle.tb_core.specs.BareLedger.{BareLedgerState}
-use Rattle.tb_durable.specs.declared.fault.OpenFault.{OpenFault}
+use Rattle.tb_durable.proofs.Words.{Int, Row, rowid, View, Advances, BareLedgerState, OpenFault, IsJournal, IsReading, IsCause, IsRowFault}
 use Rattle.tb_durable.specs.declared.fault.OpenFault.TheVariants as fault
-use Rattle.tb_durable.specs.Durable.{IsJournal, IsReading}
-use Rattle.tb_durable.specs.Faults.{IsCause, IsRowFault}
 use Rattle.tb_durable.proofs.StoreLemmas.{left_is}
 
 -- a row after those of a journal

@@ -1,24 +1,9 @@
 -- A ledger's file, read row by row and with one row more.
 use Rattle.std.proofs.Common.{◌≡◌, ◌⊎◌, inl, inr, Some, ◌<◌, ◌≤◌, ◌+◌, ℕ, pos, true, false, List, [], ◌∷◌, ◌++◌, refl, sym, ap, subst, ◌∙◌, arith, length, map}
-use Rattle.std.specs.List.{flat_map}
-use Rattle.sqlite_value.specs.declared.value.Value.TheVariants.{Int}
-use Rattle.sqlite_value.specs.Order.{Row}
-use Rattle.sqlite_trees.specs.Tree.{Trees, rowid}
-use Rattle.sqlite_trees.specs.View.{View, Advances}
-use Rattle.tb_layout.specs.Events.{Input}
-use Rattle.tb_layout.specs.Limits.{clock_max}
-use Rattle.tb_layout.specs.inside.Limits.{moment_max}
-use Rattle.tb_batch.specs.Batch.{AreParts, IsLawful}
-use Rattle.tb_batch.specs.declared.parts.Parts.{Parts}
-use Rattle.tb_core.specs.BareLedger.{BareLedgerState, new_bare_ledger}
-use Rattle.tb_durable.specs.declared.counts.PacketCounts.{PacketCounts}
-use Rattle.tb_durable.specs.declared.fault.OpenFault.{OpenFault}
+use Rattle.tb_durable.proofs.Words.{flat_map, Int, Row, Trees, rowid, View, Advances, Input, moment_max, AreParts, IsLawful, Parts, BareLedgerState, new_bare_ledger, PacketCounts, OpenFault, Settings, no_packets, Adds, AddsGroup, IsAdded, IsFirst, IsJournal, IsReading, IsSettled, IsStored, opened_rows, AreEntryRows, CanBeOpened, HasEntries, HasReadFile, IsEntryRow, IsFailure, IsFirstRow, IsHalfway, IsLedgerFile, group_in, jobs_row, pulse_row, settings_row, settings_stub, stub_bytes}
+use Rattle.tb_layout.specs.claim.Limits.{clock_max}
 use Rattle.tb_durable.specs.declared.fault.OpenFault.TheVariants as fault
-use Rattle.tb_durable.specs.declared.settings.Settings.{Settings}
-use Rattle.tb_durable.specs.Counts.{counted_all, no_packets}
-use Rattle.tb_durable.specs.Durable.{Adds, AddsGroup, IsAdded, IsFirst, IsJournal, IsReading, IsSettled, IsStored, opened_rows}
-use Rattle.tb_durable.specs.Entries.{AreEntryRows, CanBeOpened, HasEntries, HasReadFile, IsEntryRow, IsFailure, IsFirstRow, IsHalfway, IsLedgerFile}
-use Rattle.tb_durable.specs.Rows.{group_in, jobs_row, pulse_row, settings_row, settings_stub, stub_bytes}
+use Rattle.tb_durable.specs.clauses.Counts.{counted_all}
 use Rattle.tb_durable.proofs.Cutting.{operation_is}
 use Rattle.tb_durable.proofs.EntryLemmas.{batch_row_is, entry_place, pulse_row_is, rows_push}
 use Rattle.tb_durable.proofs.Journals.{added_last, left_last, more_places, new_journal, one_more}

@@ -1,19 +1,7 @@
 -- A journal with one row more.
 use Rattle.std.proofs.Common.{◌≡◌, ◌<◌, ◌+◌, ◌⊎◌, inl, inr, ℕ, pos, false, List, [], ◌∷◌, ◌++◌, refl, sym, ap, subst, ◌∙◌, arith, length, length-append, append-nil, map}
-use Rattle.std.specs.List.{flat_map}
-use Rattle.std.proofs.lemmas.Grind.{flat_map-append}
-use Rattle.std.proofs.lemmas.List.{length-map, map-append}
-use Rattle.sqlite_value.specs.declared.value.Value.TheVariants.{Int}
-use Rattle.sqlite_value.specs.Order.{Row, value_cmp}
-use Rattle.sqlite_trees.specs.Tree.{Trees, rowid, put_row}
-use Rattle.sqlite_trees.specs.View.{View}
-use Rattle.tb_layout.specs.Events.{Input}
-use Rattle.tb_work.specs.Packet.{Numbered, input_of}
-use Rattle.tb_core.specs.declared.outcomes.Outcomes.{Outcomes}
+use Rattle.tb_durable.proofs.Words.{flat_map, flat_map-append, length-map, map-append, Int, Row, value_cmp, Trees, rowid, put_row, View, Input, Numbered, input_of, Outcomes, Applies, BareLedgerState, HasCommitted, new_bare_ledger, group_in, jobs_row, IsBelow, IsFirst, IsJournal, IsSettled, IsStored, Adds, IsAdded, AddsGroup, LeavesWith, groups_of}
 use Rattle.tb_core.specs.declared.parcel.Parcel.TheVariants as parcel
-use Rattle.tb_core.specs.BareLedger.{Applies, BareLedgerState, HasCommitted, new_bare_ledger}
-use Rattle.tb_durable.specs.Rows.{group_in, jobs_row}
-use Rattle.tb_durable.specs.Durable.{IsBelow, IsFirst, IsJournal, IsSettled, IsStored, Adds, IsAdded, AddsGroup, LeavesWith, groups_of}
 use Rattle.tb_durable.proofs.Applied.{adds_batch}
 use Rattle.tb_durable.proofs.RowLemmas.{all_below_later, all_below_push, first-Less, put_row-last, place-Less}
 

@@ -1,3 +1,4 @@
+pub mod Words
 mod Cutting
 mod RowLemmas
 mod StoreLemmas

@@ -1,17 +1,10 @@
 -- What opening finds after a crash.
 use Rattle.std.proofs.Common.{◌≡◌, inl, inr, ℕ, List, [], ◌∷◌, ◌++◌, sym, ap, subst, ◌∙◌, append-nil, append_assoc, map}
-use Rattle.std.proofs.lemmas.Grind.{flat_map-append}
-use Rattle.std.proofs.lemmas.List.{map-append}
+use Rattle.tb_durable.proofs.Words.{flat_map-append, map-append, Row, Trees, Input, BareLedgerState, HasCommitted, group_in, clock_in, IsJournal, groups_of}
 use Rattle.std.proofs.lemmas.List.Elements.{filter-append}
-use Rattle.sqlite_value.specs.Order.{Row}
-use Rattle.sqlite_trees.specs.Tree.{Trees}
-use Rattle.tb_layout.specs.Events.{Input}
-use Rattle.tb_core.specs.BareLedger.{BareLedgerState, HasCommitted}
-use Rattle.tb_core.specs.EachSubmitter.{is_packet_of, packets_of}
-use Rattle.tb_core.specs.EndedRun.{IsPrefix}
-use Rattle.tb_durable.specs.Rows.{group_in, clock_in}
-use Rattle.tb_durable.specs.Durable.{IsJournal, groups_of}
-use Rattle.tb_durable.specs.Recovery.{AreOfQueued, RecoversFromCrashes, inputs_of}
+use Rattle.tb_core.specs.claim.EachSubmitter.{is_packet_of, packets_of}
+use Rattle.tb_core.specs.claim.EndedRun.{IsPrefix}
+use Rattle.tb_durable.specs.claim.Recovery.{AreOfQueued, RecoversFromCrashes, inputs_of}
 
 packets-append : (submitter : ℕ) (groups more : List (List Input))
     → packets_of submitter (inputs_of (groups ++ more)) ≡ packets_of submitter (inputs_of groups) ++ packets_of submitter (inputs_of more)

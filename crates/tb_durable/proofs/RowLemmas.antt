@@ -1,13 +1,9 @@
 -- Rows in the order of their places.
 use Rattle.std.proofs.Common.{◌≡◌, ◌<◌, ℕ, pos, negsuc, List, [], ◌∷◌, ◌++◌, refl, ap, ◌∙◌, arith, Less}
-use Rattle.std.specs.List.{AllByRecursion}
+use Rattle.tb_durable.proofs.Words.{AllByRecursion, Int, Row, value_cmp, rowid, put_row, IsBelow}
 use Rattle.std.proofs.lemmas.Int.{ints}
-use Rattle.sqlite_value.specs.declared.value.Value.TheVariants.{Int}
-use Rattle.sqlite_value.specs.Order.{Row, value_cmp}
 use Rattle.sqlite_value.proofs.OrderLemmas.{value_cmp_total, value_cmp-Int}
 use Rattle.sqlite_keyed.proofs.KeyedLemmas.{Less-from_lt}
-use Rattle.sqlite_trees.specs.Tree.{rowid, put_row}
-use Rattle.tb_durable.specs.Durable.{IsBelow}
 
 -- a row above all others comes last
 pub put_row-last : (new : Row) (place : ℕ) (rows : List Row) → rowid new ≡ Int (pos place)

@@ -1,13 +1,7 @@
 -- What the rows of a store say of a ledger.
 use Rattle.std.proofs.Common.{◌≡◌, ◌∙◌, arith, refl, ap, subst, sym, ℕ, zero, suc, List, [], ◌∷◌, false}
-use Rattle.std.specs.List.{flat_map}
-use Rattle.sqlite_value.specs.Order.{Row}
-use Rattle.sqlite_trees.specs.View.{View, IsClean, doubt}
-use Rattle.tb_core.specs.BareLedger.{BareLedgerState, with_journal, HasCommitted}
-use Rattle.tb_core.specs.Journal.{LedgerState}
-use Rattle.tb_durable.specs.Rows.{clock_in}
-use Rattle.tb_durable.specs.Durable.{HasJournal, IsJournal, IsKept, IsStored, groups_of}
-use Rattle.tb_durable.specs.Runs.{RunsFollow, ShowsJournal}
+use Rattle.tb_durable.proofs.Words.{flat_map, Row, View, IsClean, doubt, BareLedgerState, with_journal, HasCommitted, LedgerState, clock_in, HasJournal, IsJournal, IsKept, IsStored, groups_of}
+use Rattle.tb_durable.specs.clauses.Runs.{RunsFollow, ShowsJournal}
 
 abbrev opening_of : List Row → ℕ
 opening_of [] = 0

@@ -1,14 +1,9 @@
 -- One row put and committed.
 use Rattle.std.proofs.Common.{◌≡◌, ◌≤◌, Bool, true, false, List, [], ◌∷◌, ◌++◌, refl, sym, ap, subst, ◌∙◌, arith, append-nil, append_assoc, Option, Some, IsTrue}
-use Rattle.std.specs.Prelude.{unwrap_or}
+use Rattle.tb_durable.proofs.Words.{unwrap_or, Row, Table, Trees, put_row, from_key, order_of, sought, View, IsClean, doubt, SetsTree, Commits, Advances, IsRolledBack, with_cursor, IsSettled, IsReading, Adds, IsAdded}
 use Rattle.sqlite_value.specs.declared.keys.Order.{Order}
-use Rattle.sqlite_value.specs.Order.{Row}
-use Rattle.sqlite_trees.specs.declared.store.Shape.TheVariants.{Table}
-use Rattle.sqlite_trees.specs.Tree.{Trees, put_row, from_key, order_of, sought}
 use Rattle.sqlite_trees.specs.declared.store.Direction.TheVariants.{Forward}
-use Rattle.sqlite_trees.specs.View.{View, IsClean, doubt, SetsTree, Commits, Advances, IsRolledBack, with_cursor}
 use Rattle.sqlite_trees.proofs.Doubt.{no_doubt}
-use Rattle.tb_durable.specs.Durable.{IsSettled, IsReading, Adds, IsAdded}
 
 module _ (v : View) (shut : v.is_open ≡ false → IsTrue v.is_broken) (sound : v.is_broken ≡ false) where
   pub open_if_sound : IsTrue v.is_open

@@ -1,20 +1,9 @@
 -- Stubs that are counted are read back as they were written.
 use Rattle.std.proofs.Common.{◌≡◌, suc, ◌<◌, ◌+◌, ◌*◌, ◌^◌, ◌/◌, ◌%◌, ℕ, Bool, true, false, List, [], ◌∷◌, Option, Some, None, refl, sym, ap, ◌∙◌, arith, length, length-append, map, drop}
-use Rattle.std.specs.Prelude.{◌==◌, ◌&&◌, ◌||◌, IsSome, get_or, nat_lt, slice_index_or, if◌then◌else◌}
-use Rattle.std.specs.List.{flat_map, AllByRecursion}
+use Rattle.tb_durable.proofs.Words.{◌==◌, ◌&&◌, ◌||◌, IsSome, get_or, nat_lt, slice_index_or, if◌then◌else◌, flat_map, AllByRecursion, and_parts, ltb-true, drop_at, drop_more, take_at, Stub, event_size, Numbered, stub_of, admitted_are_whole, AreAdmitted, PacketCounts, counted, follows, stub_at, stub_bytes, stub_in, stubs_bytes, stubs_in, word_of}
 use Rattle.std.specs.Simd.{first_chunks}
-use Rattle.std.proofs.lemmas.Bool.{and_parts, ltb-true}
-use Rattle.std.proofs.lemmas.List.{drop_at, drop_more, take_at}
 use Rattle.tb_layout.proofs.Numbers.{length-bytes_of, little_endian-bytes_of}
-use Rattle.tb_work.specs.declared.stub.Stub.{Stub}
-use Rattle.tb_work.specs.Admission.{event_size}
-use Rattle.tb_work.specs.Packet.{Numbered}
-use Rattle.tb_work.specs.Job.{stub_of}
-use Rattle.tb_work.proofs.Admissions.{admitted_are_whole}
-use Rattle.tb_batch.specs.Batch.{AreAdmitted}
-use Rattle.tb_durable.specs.declared.counts.PacketCounts.{PacketCounts}
-use Rattle.tb_durable.specs.Counts.{counted, counted_all, follows}
-use Rattle.tb_durable.specs.Rows.{stub_at, stub_bytes, stub_in, stubs_bytes, stubs_in, word_of}
+use Rattle.tb_durable.specs.clauses.Counts.{counted_all}
 
 -- ---- one after the other, in bytes of one size
 

@@ -1,7 +1,2 @@
-pub mod Rows
-pub mod Durable
-pub mod Faults
-pub mod Recovery
-pub mod Runs
-pub mod Counts
-pub mod Entries
+pub mod claim
+pub mod clauses

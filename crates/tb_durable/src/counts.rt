@@ -13,7 +13,7 @@ pub(crate) struct PacketCounts {
 }
 
 impl PacketCounts {
-    ghost use Rattle.tb_durable.specs.Counts.{counted, counted_all, follows, no_packets};
+    ghost use Rattle.tb_durable.specs.clauses.Counts.{counted, counted_all, follows, no_packets};
 
     /// Returns the counts of an empty journal.
     pub(crate) fn new() -> PacketCounts
@@ -44,7 +44,7 @@ impl PacketCounts {
     }
 
     /// Counts the packets of a batch, as `count` does.
-    #[tactic(auto, unfolding(crate::specs::Counts::counted_all))]
+    #[tactic(auto, unfolding(crate::specs::clauses::Counts::counted_all))]
     pub(crate) fn count_all(&mut self, stubs: &[Stub]) -> Option<()>
         ensures counted { IfSome result (λ _. counted_all self.old stubs.now ≡ Some self.new) }
         ensures refused { IfNone result (counted_all self.old stubs.now ≡ None) }

@@ -1,14 +1,14 @@
 //! The ledger.
 
 ghost use Rattle.std.specs.Prelude.{◌≡◌, ◌⊎◌, ◌<◌, ◌≤◌, ◌++◌, false, true, IfOk, OnOk, IfErr, map};
-ghost use Rattle.tb_layout.specs.Limits.{clock_max};
-ghost use Rattle.tb_layout.specs.inside.Limits.{places_max};
-ghost use Rattle.tb_work.specs.Packet.{input_of};
-ghost use Rattle.tb_batch.specs.Batch.{AreParts};
+ghost use Rattle.tb_layout.specs.claim.Limits.{clock_max};
+ghost use Rattle.tb_layout.specs.claim.Bounds.{places_max};
+ghost use Rattle.tb_work.specs.claim.Packet.{input_of};
+ghost use Rattle.tb_batch.specs.claim.Batch.{AreParts};
 ghost use Rattle.sqlite_trees.specs.Tree.{Trees};
 ghost use Rattle.sqlite_trees.specs.View.{IsClean, doubt};
-ghost use Rattle.tb_durable.specs.Rows.{jobs_row, group_in};
-ghost use Rattle.tb_durable.specs.Durable.{Adds, IsAdded, LeavesNothingNew};
+ghost use Rattle.tb_durable.specs.claim.Rows.{jobs_row, group_in};
+ghost use Rattle.tb_durable.specs.claim.Durable.{Adds, IsAdded, LeavesNothingNew};
 
 use crate::counts::PacketCounts;
 use crate::fault::OpenFault;
@@ -91,16 +91,15 @@ fn store_batch<S: Store>(
 impl<S: Store + Drop> DurableLedger<S> {
     ghost use Rattle.std.specs.Prelude.{List};
     ghost use Rattle.tb_core.specs.declared.parcel.Parcel.TheVariants as parcel;
-    ghost use Rattle.tb_core.specs.BareLedger.{Applies};
-    ghost use Rattle.tb_core.specs.AnyLedger.{Applying, IsWithJournal};
-    ghost use Rattle.tb_core.specs.BareLedger.{after_refusal, refusal_of, with_journal};
-    ghost use Rattle.tb_core.specs.Journal.{LedgerState};
-    ghost use Rattle.tb_durable.specs.Durable.{IsJournal, IsKept, IsStored, LeavesWith, groups_of, groups_of_parcel, opened_rows, rows_of};
-    ghost use Rattle.tb_durable.specs.Runs.{ShowsJournal};
-    ghost use Rattle.tb_durable.specs.Entries.{CanBeOpened, HasEntries, IsFailure, IsLedgerFile};
-    ghost use Rattle.tb_durable.specs.Faults.{IsCause};
+    ghost use Rattle.tb_core.specs.claim.BareLedger.{Applies, after_refusal, refusal_of, with_journal};
+    ghost use Rattle.tb_core.specs.claim.AnyLedger.{Applying, IsWithJournal};
+    ghost use Rattle.tb_core.specs.claim.Journal.{LedgerState};
+    ghost use Rattle.tb_durable.specs.claim.Durable.{IsJournal, IsStored, LeavesWith, groups_of, groups_of_parcel, opened_rows, rows_of};
+    ghost use Rattle.tb_durable.specs.clauses.Runs.{ShowsJournal};
+    ghost use Rattle.tb_durable.specs.clauses.Entries.{CanBeOpened, HasEntries, IsFailure, IsInFile, IsLedgerFile};
+    ghost use Rattle.tb_durable.specs.clauses.Faults.{IsCause};
     ghost use Rattle.tb_durable.specs.declared.counts.PacketCounts.{PacketCounts as Counts};
-    ghost use Rattle.tb_durable.specs.Recovery.{RecoversFromCrashes};
+    ghost use Rattle.tb_durable.specs.claim.Recovery.{RecoversFromCrashes};
 
     /// Opens the ledger of a store. If its table is empty, the ledger is new, and the given settings are stored. Otherwise
     /// the ledger has the settings that are stored, and all rows are applied. It costs as much as applying them did.
@@ -119,7 +118,8 @@ impl<S: Store + Drop> DurableLedger<S> {
         ensures stored { IfOk result (λ ledger. IsStored (S.Store.view ledger.table.store) ledger.bare) }
         ensures rows { IfOk result (λ ledger. IsClean (S.Store.view ledger.table.store)
             → (S.Store.view ledger.table.store).committed 0 ≡ opened_rows settings ((S.Store.view store).committed 0)) }
-        ensures kept { IfOk result (λ ledger. (now : LedgerState) × IsKept (S.Store.view ledger.table.store) ledger.bare now) }
+        ensures kept { IfOk result (λ ledger. (now : LedgerState) × IsInFile (S.Store.recovers ledger.table.store)
+            (S.Store.view ledger.table.store) ledger.bare ledger.counts now) }
         ensures goes_on { IfOk result (λ ledger. (ledger.bare.stopped ≡ false) × (ledger.in_doubt ≡ false)) }
         ensures fault { IfErr result (λ refused. IsClean (S.Store.view refused.1)
             → IsCause (opened_rows settings ((S.Store.view store).committed 0)) refused.0) }
@@ -407,10 +407,15 @@ impl<S: Store + Drop> DurableLedger<S> {
     /// Establishes which ledger a pipeline begins with over this one, unless it stopped: the one whose journal is in the rows. So what
     /// `drive_over` says of each ledger that it may be, it says of that one.
     pub fn shows_rows(&self)
-        ensures { IsStored (S.Store.view self.now.table.store) self.now.bare
+        ensures shows { IsStored (S.Store.view self.now.table.store) self.now.bare
             → IsClean (S.Store.view self.now.table.store) → self.now.bare.stopped ≡ false
             → ShowsJournal (S.Store.view self.now.table.store) self.now.bare (with_journal self.now.bare
             (groups_of ((S.Store.view self.now.table.store).committed 0))) }
+        ensures file { IsStored (S.Store.view self.now.table.store) self.now.bare
+            → HasEntries (S.Store.view self.now.table.store) self.now.bare self.now.counts
+            → IsClean (S.Store.view self.now.table.store) → self.now.bare.stopped ≡ false
+            → IsInFile (S.Store.recovers self.now.table.store) (S.Store.view self.now.table.store) self.now.bare self.now.counts
+            (with_journal self.now.bare (groups_of ((S.Store.view self.now.table.store).committed 0))) }
     {}
 
     /// Establishes that on whatever a crash leaves, opening finds a prefix of what was committed and being stored, with all
@@ -431,9 +436,10 @@ impl<S: Store + Drop> DurableLedger<S> {
 }
 
 impl<S: Store + Drop> AnyLedger for DurableLedger<S> {
-    ghost use Rattle.tb_durable.specs.Durable.{IsKept};
+    ghost use Rattle.tb_durable.specs.clauses.Entries.{IsInFile};
 
-    ghost is = { λ durable ledger. IsKept (S.Store.view durable.table.store) durable.bare ledger };
+    ghost is = { λ durable ledger. IsInFile (S.Store.recovers durable.table.store) (S.Store.view durable.table.store)
+        durable.bare durable.counts ledger };
 
     fn stopped(&self) -> bool {
         AnyLedger::stopped(&self.bare)

@@ -1,12 +1,12 @@
 //! A ledger read from its table.
 
 ghost use Rattle.std.specs.Prelude.{◌≡◌, ◌≤◌, ◌∷◌, [], true, false, Ok, List, IsSome, IsOk, IfOk, OnOk, IfErr};
-ghost use Rattle.tb_layout.specs.Limits.{clock_max};
+ghost use Rattle.tb_layout.specs.claim.Limits.{clock_max};
 ghost use Rattle.sqlite_trees.specs.View.{IsClean, doubt};
-ghost use Rattle.tb_durable.specs.Rows.{settings_row};
-ghost use Rattle.tb_durable.specs.Durable.{HasJournal, IsReading, IsReplaying, IsSettled, IsStored, IsJournal, IsFirst, opened_rows};
-ghost use Rattle.tb_durable.specs.Entries.{HasReadFile, IsFailure, IsFirstRow, IsHalfway, IsLedgerFile};
-ghost use Rattle.tb_durable.specs.Faults.{IsCause, IsFirstFault};
+ghost use Rattle.tb_durable.specs.claim.Rows.{settings_row};
+ghost use Rattle.tb_durable.specs.claim.Durable.{HasJournal, IsReading, IsReplaying, IsSettled, IsStored, IsJournal, IsFirst, opened_rows};
+ghost use Rattle.tb_durable.specs.clauses.Entries.{HasReadFile, IsFailure, IsFirstRow, IsHalfway, IsLedgerFile};
+ghost use Rattle.tb_durable.specs.clauses.Faults.{IsCause, IsFirstFault};
 ghost use Rattle.tb_durable.specs.declared.counts.PacketCounts.{PacketCounts as Counts};
 ghost use Rattle.sqlite_value.specs.Order.{Row};
 

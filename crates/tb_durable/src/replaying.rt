@@ -2,22 +2,22 @@
 
 ghost use Rattle.std.specs.Prelude.{◌≡◌, ◌≢◌, ◌⊎◌, ◌≤◌, ◌<◌, ◌++◌, ℕ, List, [], ◌∷◌, map, pos, length, true, false, Some, IsSome, IfSome, IsOk, OnOk, IfOk, IfErr};
 ghost use Rattle.std.specs.Result.{is_ok};
-ghost use Rattle.tb_layout.specs.Events.{Pulse as PulseInput};
-ghost use Rattle.tb_layout.specs.inside.Limits.{batch_max, moment_max};
-ghost use Rattle.tb_work.specs.Admission as spec;
-ghost use Rattle.tb_work.specs.Admission.{admission_of};
-ghost use Rattle.tb_work.specs.Packet.{Numbered, input_of};
-ghost use Rattle.tb_work.specs.Job.{numbered_packet, stub_of};
+ghost use Rattle.tb_layout.specs.claim.Events.{Pulse as PulseInput};
+ghost use Rattle.tb_layout.specs.claim.Bounds.{batch_max, moment_max};
+ghost use Rattle.tb_work.specs.claim.Admission as spec;
+ghost use Rattle.tb_work.specs.claim.Admission.{admission_of};
+ghost use Rattle.tb_work.specs.claim.Packet.{Numbered, input_of};
+ghost use Rattle.tb_work.specs.claim.Job.{numbered_packet, stub_of};
 ghost use Rattle.tb_work.specs.declared.stub.Stub.{Stub};
-ghost use Rattle.tb_batch.specs.Grouping.{is_taken};
-ghost use Rattle.tb_core.specs.Ledger.{batch_packets, size_of};
+ghost use Rattle.tb_batch.specs.claim.Grouping.{is_taken};
+ghost use Rattle.tb_core.specs.claim.Ledger.{batch_packets, size_of};
 ghost use Rattle.sqlite_value.specs.declared.value.Value.TheVariants.{Int as IntValue};
 ghost use Rattle.sqlite_trees.specs.Tree.{rowid};
-ghost use Rattle.tb_durable.specs.Rows.{stubs_in, group_in};
-ghost use Rattle.tb_durable.specs.Counts.{counted, counted_all, follows};
-ghost use Rattle.tb_durable.specs.Durable.{AddsGroup};
-ghost use Rattle.tb_durable.specs.Entries.{AreColumnsOf, BeginsWith, IsEntryRow, without_user};
-ghost use Rattle.tb_durable.specs.Faults.{IsEntryFault, IsRowFault};
+ghost use Rattle.tb_durable.specs.claim.Rows.{stubs_in, group_in};
+ghost use Rattle.tb_durable.specs.clauses.Counts.{counted, counted_all, follows};
+ghost use Rattle.tb_durable.specs.claim.Durable.{AddsGroup};
+ghost use Rattle.tb_durable.specs.clauses.Entries.{AreColumnsOf, BeginsWith, IsEntryRow, without_user};
+ghost use Rattle.tb_durable.specs.clauses.Faults.{IsEntryFault, IsRowFault};
 ghost use Rattle.tb_durable.specs.declared.counts.PacketCounts.{PacketCounts as Counts};
 ghost use Rattle.tb_durable.specs.declared.fault.OpenFault.TheVariants.{BadEntry as BadEntryFault, NoMemory as NoMemoryFault};
 

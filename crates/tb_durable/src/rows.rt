@@ -7,15 +7,15 @@
 //! | of the pulse | 0 | its nanoseconds | empty | empty |
 
 ghost use Rattle.std.specs.Prelude.{◌≡◌, ◌≢◌, ◌≤◌, ◌<◌, ◌++◌, map, pos, negsuc, length, ℕ, List, IfOk, OnOk, IfSome, IfNone};
-ghost use Rattle.tb_layout.specs.Bytes.{little_endian};
-ghost use Rattle.tb_layout.specs.Limits.{clock_max};
-ghost use Rattle.tb_layout.specs.inside.Limits.{moment_max, places_max};
-ghost use Rattle.tb_work.specs.Packet.{input_of};
-ghost use Rattle.tb_batch.specs.Batch.{AreParts};
+ghost use Rattle.tb_layout.specs.claim.Bytes.{little_endian};
+ghost use Rattle.tb_layout.specs.claim.Limits.{clock_max};
+ghost use Rattle.tb_layout.specs.claim.Bounds.{moment_max, places_max};
+ghost use Rattle.tb_work.specs.claim.Packet.{input_of};
+ghost use Rattle.tb_batch.specs.claim.Batch.{AreParts};
 ghost use Rattle.sqlite_value.specs.declared.value.Value.TheVariants.{Int as IntValue, Blob as BlobValue};
 ghost use Rattle.sqlite_value.specs.Order.{column as column_of};
-ghost use Rattle.tb_durable.specs.Entries.{IsFirstRow};
-ghost use Rattle.tb_durable.specs.Rows.{HasColumns, word_of, stub_in, stub_at, stub_bytes, stubs_bytes, stubs_in, row_of, jobs_row, pulse_row, settings_row, clock_in, group_in};
+ghost use Rattle.tb_durable.specs.clauses.Entries.{IsFirstRow};
+ghost use Rattle.tb_durable.specs.claim.Rows.{HasColumns, word_of, stub_in, stub_at, stub_bytes, stubs_bytes, stubs_in, row_of, jobs_row, pulse_row, settings_row, clock_in, group_in};
 
 use crate::settings::Settings;
 use sqlite_value::row::Row;

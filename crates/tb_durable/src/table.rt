@@ -1,14 +1,14 @@
 //! The table of entries.
 
 ghost use Rattle.std.specs.Prelude.{◌≡◌, ◌⊎◌, ◌<◌, ◌≤◌, [], false, map, IsTrue, IsSome, IfOk, OnOk, IfErr};
-ghost use Rattle.tb_layout.specs.Limits.{clock_max};
-ghost use Rattle.tb_layout.specs.inside.Limits.{moment_max, places_max};
-ghost use Rattle.tb_work.specs.Packet.{input_of};
-ghost use Rattle.tb_batch.specs.Batch.{AreParts};
+ghost use Rattle.tb_layout.specs.claim.Limits.{clock_max};
+ghost use Rattle.tb_layout.specs.claim.Bounds.{moment_max, places_max};
+ghost use Rattle.tb_work.specs.claim.Packet.{input_of};
+ghost use Rattle.tb_batch.specs.claim.Batch.{AreParts};
 ghost use Rattle.sqlite_trees.specs.Tree.{Trees, rowid};
 ghost use Rattle.sqlite_trees.specs.View.{IsClean, doubt, is_int, Advances};
-ghost use Rattle.tb_durable.specs.Rows.{jobs_row, pulse_row, settings_row, group_in};
-ghost use Rattle.tb_durable.specs.Durable.{Adds, IsAdded, IsReading, LeavesNothingNew};
+ghost use Rattle.tb_durable.specs.claim.Rows.{jobs_row, pulse_row, settings_row, group_in};
+ghost use Rattle.tb_durable.specs.claim.Durable.{Adds, IsAdded, IsReading, LeavesNothingNew};
 
 use crate::rows::{fill_batch, fill_pulse, fill_settings};
 use crate::settings::Settings;

@@ -1,14 +1,7 @@
 -- Engines in which the same was queued.
 use Rattle.std.proofs.Common.{◌≡◌, sym, ap, ◌∙◌, List, [], ◌++◌, append-nil, map, length}
-use Rattle.tb_machine.specs.Replay.{replay}
-use Rattle.tb_core.proofs.Since.{inputs-parts}
-use Rattle.tb_core.specs.Due.{all_due}
-use Rattle.tb_core.specs.Journal.{LedgerState, inputs, inputs_since}
-use Rattle.tb_core.specs.inside.Decision.{Admitted, inputs_in}
-use Rattle.tb_work.specs.Ahead.{ahead, items_in}
-use Rattle.tb_work.specs.Packet.{ReplyValue}
-use Rattle.tb_work.specs.declared.item.Ticket.{Ticket}
-use Rattle.tb_embed.specs.Engine.{EngineState, HasPlaces, IsServed, ServingIsLawful, QueueDecides}
+use Rattle.tb_machine.specs.claim.Replay.{replay}
+use Rattle.tb_embed.proofs.Words.{inputs-parts, all_due, LedgerState, inputs, inputs_since, Admitted, inputs_in, ahead, items_in, ReplyValue, Ticket, EngineState, HasPlaces, IsServed, ServingIsLawful, QueueDecides}
 
 -- all that is ahead of the Close is committed, behind what was there
 all_committed : (start : LedgerState) (queue : List Ticket) (read : List ReplyValue) (engine : EngineState)

@@ -1,25 +1,7 @@
 -- What follows of what an engine over any ledger was handed.
 use Rattle.std.proofs.Common.{◌≡◌, ◌≤◌, ◌<◌, ◌+◌, refl, sym, ap, ◌∙◌, subst, arith, ℕ, Bool, false, if◌then◌else◌, List, [], ◌∷◌, ◌++◌, length, map, append-nil, get_or, replicate}
-use Rattle.std.specs.Prelude.{slice_set}
-use Rattle.std.proofs.lemmas.List.{map-append}
-use Rattle.tb_work.specs.Ahead.{items_in}
-use Rattle.tb_work.specs.Packet.{ReplyValue}
-use Rattle.tb_work.specs.Queue.{is_end, IsSubmitted}
-use Rattle.tb_work.specs.declared.item.Item.{Item}
-use Rattle.tb_work.specs.declared.item.Ticket.{Ticket}
-use Rattle.tb_work.specs.declared.packet.Packet.{Packet}
-use Rattle.tb_core.specs.AnyLedger.{Applying, IsApplied}
+use Rattle.tb_embed.proofs.Words.{slice_set, map-append, items_in, ReplyValue, is_end, IsSubmitted, Item, Ticket, Packet, Applying, IsApplied, Parcel, FrontState, IsFront, all_decisions_in, decisions_in, held_by, take_step, with_group, AreJoined, AreJoinedParcels, Decision, Admitted, AreDecisions, LedgerState, groups_since, Commits, EachPartIsLawful, RunIsLawful, replies_in, has_taken, Steps, ended_run, AnyEngineState, AnyServingIsLawful, ContinuesBy, HasSentBy, HasTakenBy, IsOpenedBy, QueuesBy, AreQueued, packets_in, packet_ticket, ticket_of}
 use Rattle.tb_core.specs.declared.outcomes.Outcomes.{Outcomes}
-use Rattle.tb_core.specs.declared.parcel.Parcel.{Parcel}
-use Rattle.tb_core.specs.Front.{FrontState, IsFront, all_decisions_in, decisions_in, held_by, take_step, with_group}
-use Rattle.tb_core.specs.Grouping.{AreJoined, AreJoinedParcels}
-use Rattle.tb_core.specs.inside.Decision.{Decision, Admitted, AreDecisions}
-use Rattle.tb_core.specs.Journal.{LedgerState, groups_since}
-use Rattle.tb_core.specs.Run.{Commits, EachPartIsLawful, RunIsLawful, replies_in}
-use Rattle.tb_core.proofs.TicketDecisions.{has_taken}
-use Rattle.tb_embed.specs.Engine.{Steps, ended_run}
-use Rattle.tb_embed.specs.AnyEngine.{AnyEngineState, AnyServingIsLawful, ContinuesBy, HasSentBy, HasTakenBy, IsOpenedBy, QueuesBy}
-use Rattle.tb_embed.specs.Queued.{AreQueued, packets_in, packet_ticket, ticket_of}
 use Rattle.tb_embed.proofs.Queued.{IsNext, control_queued, packet_queued_as, passes_ended, queue_ended}
 use Rattle.tb_embed.proofs.Opened.{none_queued}
 

@@ -1,22 +1,6 @@
 -- What follows of what an engine was handed.
 use Rattle.std.proofs.Common.{◌≡◌, refl, sym, ap, ◌∙◌, subst, ℕ, ◌+◌, Bool, List, [], ◌∷◌, ◌++◌, length, get_or, ◌<◌, ◌≤◌, false, None, arith}
-use Rattle.std.specs.Prelude.{slice_set}
-use Rattle.std.proofs.lemmas.List.{map-append}
-use Rattle.tb_work.specs.Ahead.{items_in}
-use Rattle.tb_work.specs.Queue.{is_end, IsSubmitted}
-use Rattle.tb_work.specs.Packet.{ReplyValue}
-use Rattle.tb_work.specs.declared.item.Item.{Item}
-use Rattle.tb_work.specs.declared.item.Ticket.{Ticket}
-use Rattle.tb_work.specs.declared.packet.Packet.{Packet}
-use Rattle.tb_core.specs.Front.{FrontState, IsFront, take_step, with_group}
-use Rattle.tb_core.proofs.TicketDecisions.{has_taken}
-use Rattle.tb_core.specs.AnyLedger.{IsWithJournal}
-use Rattle.tb_core.specs.BareLedger.{BareLedgerState, halts, with_journal}
-use Rattle.tb_core.specs.Journal.{LedgerState}
-use Rattle.tb_core.specs.Run.{EachPartIsLawful, RunIsLawful}
-use Rattle.tb_embed.specs.Engine.{EngineState, Continues, HasPlaces, HasTaken, Serves, Steps, Queues, has_stopped, places_of, sender_refusal, ServingIsLawful}
-use Rattle.tb_embed.specs.AnyEngine.{AnyEngineState, ServesBy}
-use Rattle.tb_embed.specs.Queued.{AreQueued, packets_in, ticket_of, packet_ticket}
+use Rattle.tb_embed.proofs.Words.{slice_set, map-append, items_in, is_end, IsSubmitted, ReplyValue, Item, Ticket, Packet, FrontState, IsFront, take_step, with_group, has_taken, IsWithJournal, BareLedgerState, halts, with_journal, LedgerState, EachPartIsLawful, RunIsLawful, EngineState, Continues, HasPlaces, HasTaken, Serves, Steps, Queues, has_stopped, places_of, sender_refusal, ServingIsLawful, AnyEngineState, ServesBy, AreQueued, packets_in, ticket_of, packet_ticket}
 use Rattle.tb_embed.proofs.Places.{group_goes, places_before, ticket_goes}
 use Rattle.tb_embed.proofs.Queued.{IsNext, control_queued, packet_queued_as}
 use Rattle.tb_embed.proofs.AnyRun.{any_serving_is_lawful}

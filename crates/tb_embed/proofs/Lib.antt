@@ -1,3 +1,4 @@
+pub mod Words
 mod Queued
 mod Opened
 mod Parcels

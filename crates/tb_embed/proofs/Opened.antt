@@ -1,13 +1,6 @@
 -- Engines in which nothing was queued.
 use Rattle.std.proofs.Common.{◌≡◌, refl, sym, subst, false, ℕ, zero, suc, List, [], get_or, replicate}
-use Rattle.tb_layout.specs.Events.{Input}
-use Rattle.tb_core.specs.BareLedger.{BareLedgerState, HasCommitted, HasSent, new_bare_ledger, with_journal}
-use Rattle.tb_core.specs.Front.{FrontState, held_by}
-use Rattle.tb_core.specs.Grouping.{AreJoined}
-use Rattle.tb_core.specs.inside.Decision.{AreDecisions}
-use Rattle.tb_core.proofs.Since.{begun, drop-whole}
-use Rattle.tb_embed.specs.Engine.{EngineState, IsOpened, IsOpenedOver}
-use Rattle.tb_embed.specs.Queued.{AreQueued}
+use Rattle.tb_embed.proofs.Words.{Input, BareLedgerState, HasCommitted, HasSent, new_bare_ledger, with_journal, FrontState, held_by, AreJoined, AreDecisions, begun, drop-whole, EngineState, IsOpened, IsOpenedOver, AreQueued}
 
 -- a ledger that hasn't stopped has sent nothing since
 nothing_sent : (ledger : BareLedgerState) (groups : List (List Input)) (limit : ℕ) → HasCommitted ledger groups

@@ -1,22 +1,8 @@
 -- What a front passes on of a ticket, or of what it holds.
 use Rattle.std.proofs.Common.{◌≡◌, ◌≤◌, ◌+◌, ◌||◌, refl, sym, ap, ◌∙◌, subst, arith, ℕ, Bool, true, false, if◌then◌else◌, List, [], ◌∷◌, ◌++◌, length, map, append-nil}
-use Rattle.std.specs.Prelude.{◌==◌, not}
-use Rattle.std.proofs.lemmas.Bool.Decides.{nat_tests}
-use Rattle.tb_layout.specs.inside.Limits.{places_max}
-use Rattle.tb_work.specs.Packet.{Numbered}
-use Rattle.tb_work.specs.declared.item.Item.{Item}
+use Rattle.tb_embed.proofs.Words.{◌==◌, not, nat_tests, places_max, Numbered, Item, Ticket, Parcel, Pulse, FrontState, IsFront, all_decisions_in, group_as_batch, take_result, take_step, with_group, has_taken, AreJoinedParcels, Decision, Admitted, AreDecisions, BareLedgerState, halts, places_with, HasPassed, IsControl, places_in, places_of, ticket_of}
 use Rattle.tb_work.specs.declared.item.Item.TheVariants as item
-use Rattle.tb_work.specs.declared.item.Ticket.{Ticket}
-use Rattle.tb_batch.specs.Grouping.{IsGroup}
-use Rattle.tb_core.specs.declared.parcel.Parcel.{Parcel}
-use Rattle.tb_core.specs.declared.parcel.Parcel.TheVariants.{Pulse}
-use Rattle.tb_core.specs.Front.{FrontState, IsFront, all_decisions_in, group_as_batch, take_result, take_step, with_group}
-use Rattle.tb_core.proofs.TicketDecisions.{has_taken}
-use Rattle.tb_core.specs.Grouping.{AreJoinedParcels}
-use Rattle.tb_core.specs.inside.Decision.{Decision, Admitted, AreDecisions}
-use Rattle.tb_core.specs.BareLedger.{BareLedgerState, halts, places_with}
-use Rattle.tb_embed.specs.Engine.{HasPassed, IsControl, places_in, places_of}
-use Rattle.tb_embed.specs.Queued.{ticket_of}
+use Rattle.tb_batch.specs.claim.Grouping.{IsGroup}
 
 -- ---- the group held
 

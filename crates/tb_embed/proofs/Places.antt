@@ -1,26 +1,8 @@
 -- An engine stops only if places are used up.
 use Rattle.std.proofs.Common.{◌≡◌, ◌≤◌, ◌+◌, refl, sym, ap, ◌∙◌, arith, ℕ, Bool, false, List, [], ◌∷◌, ◌++◌, map, length, length-append, Option, Some, None}
-use Rattle.std.specs.Prelude.{is_some}
-use Rattle.std.proofs.lemmas.Bool.Decides.{nat_tests}
-use Rattle.tb_layout.specs.Events.{Input}
-use Rattle.tb_layout.specs.Events as input
-use Rattle.tb_layout.specs.inside.Limits.{places_max}
-use Rattle.tb_work.specs.Ahead.{ahead}
-use Rattle.tb_work.specs.Packet.{Numbered, ReplyValue, input_of}
-use Rattle.tb_work.specs.declared.item.Item.{Item}
+use Rattle.tb_embed.proofs.Words.{is_some, nat_tests, Input, places_max, ahead, Numbered, ReplyValue, input_of, Item, Ticket, Parcel, Batch, Pulse, Return, Last, Ahead, Behind, FrontState, IsFront, all_decisions_in, held_by, take_step, Decision, Admitted, AreDecisions, decisions_from, decisions_of, inputs_in, BareLedgerState, HasSent, halts, with_journal, LedgerState, inputs, ahead-first, inputs_in-append, has_taken, HasPlaces, HasTaken, places_in, places_of}
+use Rattle.tb_layout.specs.claim.Events as input
 use Rattle.tb_work.specs.declared.item.Item.TheVariants as item
-use Rattle.tb_work.specs.declared.item.Ticket.{Ticket}
-use Rattle.tb_core.specs.declared.parcel.Parcel.{Parcel}
-use Rattle.tb_core.specs.declared.parcel.Parcel.TheVariants.{Batch, Pulse, Return, Last}
-use Rattle.tb_core.specs.Due.{Ahead, Behind}
-use Rattle.tb_core.specs.Front.{FrontState, IsFront, all_decisions_in, held_by, take_step}
-use Rattle.tb_core.specs.inside.Decision.{Decision, Admitted, AreDecisions, decisions_from, decisions_of, inputs_in}
-use Rattle.tb_core.specs.BareLedger.{BareLedgerState, HasSent, halts, with_journal}
-use Rattle.tb_core.specs.Journal.{LedgerState, inputs}
-use Rattle.tb_core.proofs.FrontDecisions.{ahead-first}
-use Rattle.tb_core.proofs.LedgerSteps.{inputs_in-append}
-use Rattle.tb_core.proofs.TicketDecisions.{has_taken}
-use Rattle.tb_embed.specs.Engine.{HasPlaces, HasTaken, places_in, places_of}
 
 -- ---- decisions without a stop
 

@@ -1,21 +1,9 @@
 -- What senders queued, with one ticket more and with the ends of a run.
 use Rattle.std.proofs.Common.{refl, sym, ap, ◌∙◌, subst, arith, ◌≡◌, ◌≢◌, ⊎_elim, ℕ, zero, suc, ◌+◌, ◌<◌, ◌≤◌, Bool, true, false, not, ◌&&◌, if◌then◌else◌, List, [], ◌∷◌, ◌++◌, length, append-nil, append_assoc, get_or, get_or-set_other}
-use Rattle.std.specs.Prelude.{slice_set}
-use Rattle.std.proofs.lemmas.List.{get_or-set_same, map-append}
+use Rattle.tb_embed.proofs.Words.{slice_set, get_or-set_same, map-append, Numbered, items_in, items_from, is_end, IsUnended, IsSubmitted, AreSubmitted, AreNumbered, IsQueueOf, Item, Ticket, Packet, Decision, AreDecisions, part_push, all-push, passes_more, Stays, packets_in, HasEnded, HasQueued, AreQueued, ticket_of, packet_ticket, ends_of, ended_queue}
 use Rattle.std.proofs.lemmas.List.Folds.{list_all-append}
 use Rattle.std.proofs.lemmas.Bool.{cases_eq, eq-eqb, ne_eqb}
-use Rattle.tb_work.specs.Packet.{Numbered}
-use Rattle.tb_work.specs.Ahead.{items_in, items_from}
-use Rattle.tb_work.specs.Queue.{is_end, IsUnended, IsSubmitted, AreSubmitted, AreNumbered, IsQueueOf}
-use Rattle.tb_work.specs.declared.item.Item.{Item}
 use Rattle.tb_work.specs.declared.item.Item.TheVariants as item
-use Rattle.tb_work.specs.declared.item.Ticket.{Ticket}
-use Rattle.tb_work.specs.declared.packet.Packet.{Packet}
-use Rattle.tb_core.specs.inside.Decision.{Decision, AreDecisions}
-use Rattle.tb_core.proofs.TicketDecisions.{part_push}
-use Rattle.tb_core.proofs.LedgerSteps.{all-push}
-use Rattle.tb_core.proofs.FrontDecisions.{passes_more, Stays}
-use Rattle.tb_embed.specs.Queued.{packets_in, HasEnded, HasQueued, AreQueued, ticket_of, packet_ticket, ends_of, ended_queue}
 
 -- ---- one sender's items
 

@@ -1,17 +1,7 @@
 -- Reading an engine to the end.
 use Rattle.std.proofs.Common.{◌≡◌, refl, sym, ap, ◌∙◌, subst, arith, ℕ, List, [], ◌∷◌, ◌++◌, map, length, length-append, append-nil, append_assoc, Option, Some, None}
-use Rattle.std.proofs.lemmas.List.{nil_from_length}
-use Rattle.tb_layout.specs.Events.{Input}
-use Rattle.tb_work.specs.Packet.{ReplyValue}
-use Rattle.tb_work.specs.Ahead.{items_in}
-use Rattle.tb_work.specs.declared.item.Item.{Item}
+use Rattle.tb_embed.proofs.Words.{nil_from_length, Input, ReplyValue, items_in, Item, Ticket, all_due_from, Place, Ahead, next_place, FrontState, LedgerState, inputs, EngineState, Serves, IsReply, AreReplies, RepliesCome, ServingIsLawful, packets_in}
 use Rattle.tb_work.specs.declared.item.Item.TheVariants as item
-use Rattle.tb_work.specs.declared.item.Ticket.{Ticket}
-use Rattle.tb_core.specs.Due.{all_due_from, Place, Ahead, next_place}
-use Rattle.tb_core.specs.Front.{FrontState}
-use Rattle.tb_core.specs.Journal.{LedgerState, inputs}
-use Rattle.tb_embed.specs.Engine.{EngineState, Serves, IsReply, AreReplies, RepliesCome, ServingIsLawful}
-use Rattle.tb_embed.specs.Queued.{packets_in}
 
 -- a reply is due to each packet
 due_counted : (clock : ℕ) (journal : List Input) (place : Place) (items : List Item)

@@ -1,4 +1,2 @@
-pub mod AnyEngine
-pub mod Engine
-pub mod Queued
-pub mod Unread
+pub mod clauses
+pub mod inside

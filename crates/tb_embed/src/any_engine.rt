@@ -1,14 +1,14 @@
 //! The engine over any ledger.
 
 ghost use Rattle.std.specs.Prelude.{◌≡◌, ◌<◌, ◌≤◌, ◌+◌, ◌++◌, ◌∷◌, [], ℕ, List, None, false, true, length, IfErr, OnErr, OnOk, option_to_list};
-ghost use Rattle.tb_work.specs.Packet.{ReplyValue};
+ghost use Rattle.tb_work.specs.claim.Packet.{ReplyValue};
 ghost use Rattle.tb_work.specs.declared.item.Item.{Item as ItemValue};
-ghost use Rattle.tb_core.specs.Front.{IsFront, all_decisions_in, take_step, takes_memory, with_group};
-ghost use Rattle.tb_core.specs.Grouping.{AreJoinedParcels};
-ghost use Rattle.tb_core.specs.inside.Decision.{Decision};
-ghost use Rattle.tb_core.specs.Journal.{LedgerState};
-ghost use Rattle.tb_embed.specs.AnyEngine.{HasSentBy, HasTakenBy};
-ghost use Rattle.tb_embed.specs.Engine.{Steps};
+ghost use Rattle.tb_core.specs.claim.Front.{IsFront, all_decisions_in, take_step, takes_memory, with_group};
+ghost use Rattle.tb_core.specs.claim.Grouping.{AreJoinedParcels};
+ghost use Rattle.tb_core.specs.claim.Decision.{Decision};
+ghost use Rattle.tb_core.specs.claim.Journal.{LedgerState};
+ghost use Rattle.tb_embed.specs.clauses.AnyEngine.{HasSentBy, HasTakenBy};
+ghost use Rattle.tb_embed.specs.clauses.Engine.{Steps};
 
 use crate::engine::{offer, seal};
 use crate::unread::Unread;
@@ -52,8 +52,8 @@ impl<L: AnyLedger> Drop for AnyEngine<L> {
 }
 
 impl<L: AnyLedger> Model for AnyEngine<L> {
-    ghost use Rattle.tb_embed.specs.AnyEngine.{AnyEngineState};
-    ghost use Rattle.tb_embed.specs.Engine.{IsEngine};
+    ghost use Rattle.tb_embed.specs.clauses.AnyEngine.{AnyEngineState};
+    ghost use Rattle.tb_embed.specs.clauses.Engine.{IsEngine};
 
     ghost Value = { AnyEngineState L };
 
@@ -127,10 +127,10 @@ impl<L: AnyLedger> AnyEngine<L> {
     ghost use Rattle.std.specs.Option.{option_copied};
     ghost use Rattle.tb_work.specs.declared.item.Item.TheVariants as item;
     ghost use Rattle.tb_work.specs.declared.refusal.Refusal.TheVariants.{NoMemory as NoMemoryRefusal};
-    ghost use Rattle.tb_core.specs.Front.{opening_refusal};
-    ghost use Rattle.tb_embed.specs.AnyEngine.{ContinuesBy, HoldsNothingBy, IsOpenedBy, QueuesBy, ReadsBy};
-    ghost use Rattle.tb_embed.specs.Engine.{IsControl, IsRefusal, refusal_of_close, refusal_of_packet, refusal_of_pulse, refusal_of_sender};
-    ghost use Rattle.tb_embed.specs.Queued.{packet_ticket, ticket_of};
+    ghost use Rattle.tb_core.specs.claim.Front.{opening_refusal};
+    ghost use Rattle.tb_embed.specs.clauses.AnyEngine.{ContinuesBy, HoldsNothingBy, IsOpenedBy, QueuesBy, ReadsBy};
+    ghost use Rattle.tb_embed.specs.clauses.Engine.{IsControl, IsRefusal, refusal_of_close, refusal_of_packet, refusal_of_pulse, refusal_of_sender};
+    ghost use Rattle.tb_embed.specs.clauses.Queued.{packet_ticket, ticket_of};
 
     /// Returns an engine over a ledger, in which nothing was queued. If the ledger has stopped, packets and pulses are refused.
     /// Allocates nothing.

@@ -3,27 +3,27 @@
 ghost use Rattle.std.specs.Prelude.{◌≡◌, ◌<◌, ◌≤◌, ◌+◌, ◌++◌, ◌∷◌, [], ℕ, List, Some, None, true, false, ◌||◌, length, IfOk, IfErr, OnOk, OnErr, IfSome, IfNone, option_to_list, get_or, slice_get, slice_set};
 ghost use Rattle.std.specs.Option.{option_copied};
 ghost use Rattle.std.specs.List.{flat_map};
-ghost use Rattle.tb_layout.specs.Limits.{clock_max};
-ghost use Rattle.tb_tables.specs.Counts.{counts_of};
-ghost use Rattle.tb_tables.specs.Facts.{transfer_with};
-ghost use Rattle.tb_tables.specs.Balances.{balanced_account};
-ghost use Rattle.tb_tables.specs.inside.Status.{status_if_pending, status_with};
-ghost use Rattle.tb_machine.specs.inside.Accounts.{balanced_accounts};
-ghost use Rattle.tb_work.specs.Admission.{admission_of_size};
-ghost use Rattle.tb_work.specs.Admission as admission;
-ghost use Rattle.tb_work.specs.Packet.{ReplyValue};
+ghost use Rattle.tb_layout.specs.claim.Limits.{clock_max};
+ghost use Rattle.tb_tables.specs.clauses.Counts.{counts_of};
+ghost use Rattle.tb_tables.specs.claim.Facts.{transfer_with};
+ghost use Rattle.tb_tables.specs.claim.Balances.{balanced_account};
+ghost use Rattle.tb_tables.specs.clauses.Status.{status_if_pending, status_with};
+ghost use Rattle.tb_machine.specs.clauses.Accounts.{balanced_accounts};
+ghost use Rattle.tb_work.specs.claim.Admission.{admission_of_size};
+ghost use Rattle.tb_work.specs.claim.Admission as admission;
+ghost use Rattle.tb_work.specs.claim.Packet.{ReplyValue};
 ghost use Rattle.tb_work.specs.declared.item.Item.{Item as ItemValue};
 ghost use Rattle.tb_work.specs.declared.item.Item.TheVariants as item;
 ghost use Rattle.tb_work.specs.declared.refusal.Refusal.TheVariants.{NoMemory as NoMemoryRefusal};
-ghost use Rattle.tb_batch.specs.Grouping.{IsGroup};
+ghost use Rattle.tb_batch.specs.claim.Grouping.{IsGroup};
 ghost use Rattle.tb_core.specs.declared.parcel.Parcel.TheVariants.{Batch as BatchParcel};
-ghost use Rattle.tb_core.specs.Front.{IsFront, opening_refusal, all_decisions_in, group_as_batch, take_result, take_step, takes_memory, with_group};
-ghost use Rattle.tb_core.specs.Grouping.{AreJoinedParcels};
-ghost use Rattle.tb_core.specs.inside.Decision.{Decision};
-ghost use Rattle.tb_core.specs.BareLedger.{HasSent, halts, places_with};
-ghost use Rattle.tb_core.specs.Journal.{LedgerState};
-ghost use Rattle.tb_embed.specs.Engine.{HasTaken, IsControl, IsPacketItem, IsOpened, IsOpenedOver, HoldsNothing, Steps, places_in, places_of, Queues, Reads, Continues, IsRefusal, either, refusal_in, sender_refusal, packet_with, submit_refusal, pulse_refusal, shut_refusal, has_stopped, state_of};
-ghost use Rattle.tb_embed.specs.Queued.{ticket_of, packet_ticket};
+ghost use Rattle.tb_core.specs.claim.Front.{IsFront, opening_refusal, all_decisions_in, group_as_batch, take_result, take_step, takes_memory, with_group};
+ghost use Rattle.tb_core.specs.claim.Grouping.{AreJoinedParcels};
+ghost use Rattle.tb_core.specs.claim.Decision.{Decision};
+ghost use Rattle.tb_core.specs.claim.BareLedger.{HasSent, halts, places_with};
+ghost use Rattle.tb_core.specs.claim.Journal.{LedgerState};
+ghost use Rattle.tb_embed.specs.clauses.Engine.{HasTaken, IsControl, IsPacketItem, IsOpened, IsOpenedOver, HoldsNothing, Steps, places_in, places_of, Queues, Reads, Continues, IsRefusal, either, refusal_in, sender_refusal, packet_with, submit_refusal, pulse_refusal, shut_refusal, has_stopped, state_of};
+ghost use Rattle.tb_embed.specs.clauses.Queued.{ticket_of, packet_ticket};
 
 use crate::unread::Unread;
 use arrayvec::ArrayVec;
@@ -97,7 +97,7 @@ impl Drop for Engine {
 }
 
 impl Model for Engine {
-    ghost use Rattle.tb_embed.specs.Engine.{EngineState, IsEngine};
+    ghost use Rattle.tb_embed.specs.clauses.Engine.{EngineState, IsEngine};
 
     ghost Value = { EngineState };
 

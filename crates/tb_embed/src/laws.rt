@@ -1,7 +1,7 @@
 //! What follows from an engine's calls.
 
-ghost use Rattle.tb_embed.specs.AnyEngine.{AnyServingIsLawful};
-ghost use Rattle.tb_embed.specs.Engine.{QueueDecides, RepliesCome, ServingIsLawful};
+ghost use Rattle.tb_embed.specs.clauses.AnyEngine.{AnyServingIsLawful};
+ghost use Rattle.tb_embed.specs.clauses.Engine.{QueueDecides, RepliesCome, ServingIsLawful};
 
 use tb_core::{AnyLedger, each_part_is_lawful, run_is_lawful};
 

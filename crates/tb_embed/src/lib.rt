@@ -1,7 +1,7 @@
 //! The pipeline in one value and one thread, for callers that bring no queue and no threads.
 //!
 //! An `Engine` takes packets, pulses and a Close, joins neighbouring packets, commits them, and has a reply for each
-//! packet. Each call's clause says which ticket or which reply it adds to the run so far (`specs/Engine.antt`).
+//! packet. Each call's clause says which ticket or which reply it adds to the run so far (`specs/clauses/Engine.antt`).
 //! `serving_is_lawful` leads from any sequence of calls to the lawful report of that run. After a `flush` as many calls of
 //! `reply` as packets have unread replies return all of these (`replies_come`).
 //!

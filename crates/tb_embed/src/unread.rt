@@ -4,8 +4,8 @@ ghost use Rattle.std.specs.Prelude.{◌≡◌, ◌≤◌, ◌<◌, ◌+◌, ◌+
 ghost use Rattle.std.specs.Option.{option_copied};
 ghost use Rattle.std.specs.VecDeque.{deque_len, deque_capacity};
 ghost use Rattle.std.specs.List.{flat_map};
-ghost use Rattle.tb_core.specs.Run.{replies_in};
-ghost use Rattle.tb_embed.specs.Unread.{replies_of};
+ghost use Rattle.tb_core.specs.claim.Run.{replies_in};
+ghost use Rattle.tb_embed.specs.inside.Unread.{replies_of};
 
 use std::alloc::Global;
 use std::collections::VecDeque;
@@ -28,8 +28,8 @@ impl Model for Unread {
     ghost use Rattle.std.specs.Prelude.{◌≡◌, ◌-◌, List, [], ◌++◌, option_to_list, None};
     ghost use Rattle.std.specs.VecDeque.{deque_len, deque_capacity};
     ghost use Rattle.std.specs.List.{flat_map};
-    ghost use Rattle.tb_core.specs.Run.{replies_in};
-    ghost use Rattle.tb_embed.specs.Unread.{UnreadState, replies_of};
+    ghost use Rattle.tb_core.specs.claim.Run.{replies_in};
+    ghost use Rattle.tb_embed.specs.inside.Unread.{UnreadState, replies_of};
 
     ghost Value = { UnreadState };
 

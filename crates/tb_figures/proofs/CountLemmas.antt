@@ -1,28 +1,14 @@
 -- What one more stub, batch or pulse adds to counts.
-use Rattle.std.proofs.Common.{refl, sym, ap, subst, ◌∙◌, arith, ◌≡◌, ◌<◌, ◌≤◌, ℕ, zero, suc, ◌+◌, Bool, true, false, List, [], ◌∷◌, ◌++◌, map, drop, take, set, get_or, length, length-append, cond, append-nil}
-use Rattle.std.specs.Prelude.{◌==◌, IsOk, Some, None, if◌then◌else◌, slice_index, nat_lt}
-use Rattle.std.specs.List.{count_by, sum_by}
-use Rattle.std.specs.Simd.{first_chunks}
-use Rattle.std.proofs.lemmas.List.{length-map, get_or-set_same, get_or-set_other}
+use Rattle.std.proofs.Common.{refl, sym, ap, subst, ◌∙◌, arith, ◌≡◌, ◌<◌, ◌≤◌, ℕ, ◌+◌, Bool, true, false, List, [], ◌∷◌, ◌++◌, map, take, set, get_or, length, length-append, cond, append-nil}
+use Rattle.tb_figures.proofs.Words.{◌==◌, slice_index, nat_lt, count_by, sum_by, length-map, get_or-set_same, get_or-set_other, flat_map-append, eqb-true, Input, Packet, Pulse, Numbered, input_of, AreCounts, AreFull, capped, inputs_of, IsSplit, IsTally, is_of, Counts}
 use Rattle.std.proofs.lemmas.List.Sums.{count_by_more_yes, count_by_more_no, count_by-le-length, sum_by_more, sum_by-cons, length-filter}
 use Rattle.std.proofs.lemmas.List.Elements.{filter-append}
-use Rattle.std.proofs.lemmas.Grind.{flat_map-append}
-use Rattle.std.proofs.lemmas.Bool.{eqb-true}
-use Rattle.tb_layout.specs.Account.{account_of}
-use Rattle.tb_layout.specs.Transfer.{transfer_of}
-use Rattle.tb_layout.specs.Bytes.{little_endian}
-use Rattle.tb_layout.specs.Events.{Input, Packet, Pulse, chunks, events_of}
-use Rattle.tb_layout.specs.inside.Events.{count_of as count_of_events}
-use Rattle.tb_work.specs.Admission.{admission_of_size, count_of_size, event_size}
-use Rattle.tb_work.specs.Job.{stub_of}
-use Rattle.tb_work.specs.Packet.{Numbered, input_of}
+use Rattle.tb_work.specs.claim.Job.{stub_of}
 use Rattle.tb_work.specs.declared.stub.Stub.{Stub}
-use Rattle.tb_batch.specs.Batch.{AreAdmitted}
-use Rattle.tb_core.specs.EachSubmitter.{is_packet_of, moments_in, packets_of}
-use Rattle.tb_core.specs.Grouping.{events_together}
-use Rattle.tb_figures.specs.Counts.{AreCounts, AreFull, capped, inputs_of}
-use Rattle.tb_figures.specs.Tally.{IsSplit, IsTally, is_of}
-use Rattle.tb_figures.specs.declared.counts.Counts.{Counts}
+use Rattle.tb_batch.specs.claim.Batch.{AreAdmitted}
+use Rattle.tb_batch.specs.claim.Grouping.{events_together}
+use Rattle.tb_batch.proofs.Admitted.{seen}
+use Rattle.tb_core.specs.claim.EachSubmitter.{is_packet_of, moments_in, packets_of}
 
 -- ---- numbers
 
@@ -75,33 +61,6 @@ split_more stubs i d a b c below is long others events own unknown = record {
             ∙ get_or-set_other b.submitters _ k _ 0 (λ at. grind (arith, not, at))) not
         elsewhere k few not false is_known = same k few (ap (λ xs. slice_index xs k) (unknown (grind (arith, is_known)))) not
 
--- ---- the events of a packet
-
-length-chunks : {X : Type 0} (size k : ℕ) (xs : List X) → length (first_chunks size k xs) ≡ k
-length-chunks size zero xs = refl
-length-chunks size (suc k) xs = ap suc (length-chunks size k (drop size xs))
-
-abbrev HasCount : ℕ → List ℕ → Type 0
-HasCount operation bytes = count_of_events (events_of operation bytes) ≡ count_of_size bytes (event_size operation)
-
-has_count : (operation : ℕ) (bytes : List ℕ) → IsOk (admission_of_size 8190 bytes (event_size operation))
-    → HasCount operation bytes
-has_count operation bytes ok = by (operation == 129) (operation == 130) (operation == 131) refl refl refl ok
-  where
-    at : (number : ℕ) → HasCount number bytes → (operation == number) ≡ true → HasCount operation bytes
-    at number has is = subst (λ op. HasCount op bytes) (sym (eqb-true operation number is)) has
-
-    by : (a b c : Bool) → (operation == 129) ≡ a → (operation == 130) ≡ b → (operation == 131) ≡ c →
-        IsOk (admission_of_size 8190 bytes (if a then Some 128 else if b then Some 128 else if c then Some 16
-        else None)) → HasCount operation bytes
-    by true b c is_a is_b is_c ok =
-        at 129 (length-map (chunks 128 bytes) account_of ∙ length-chunks 128 _ bytes) is_a
-    by false true c is_a is_b is_c ok =
-        at 130 (length-map (chunks 128 bytes) transfer_of ∙ length-chunks 128 _ bytes) is_b
-    by false false true is_a is_b is_c ok =
-        at 131 (length-map (chunks 16 bytes) little_endian ∙ length-chunks 16 _ bytes) is_c
-    by false false false is_a is_b is_c ok = cc
-
 -- ---- the packets of a batch
 
 events_of_batch : (jobs : List Numbered) → AreAdmitted jobs
@@ -110,7 +69,7 @@ events_of_batch [] all = refl
 events_of_batch (job ∷ jobs) all =
     omega (
       arith,
-      has_count job.packet.operation job.packet.bytes all.0,
+      (seen job.packet all.0).count,
       events_of_batch jobs all.1,
       sum_by-cons (λ (stub : Stub). stub.count) (stub_of job) (map stub_of jobs),
     )

@@ -1,26 +1,18 @@
 -- What one more parcel adds to a ledger, and to its counts.
 use Rattle.std.proofs.Common.{refl, sym, ap, subst, ◌∙◌, arith, ◌≡◌, ◌≤◌, ℕ, ◌+◌, Bool, true, false, List, [], ◌∷◌, ◌++◌, map, length, length-append, append-nil}
-use Rattle.std.specs.Prelude.{◌||◌, if◌then◌else◌, nat_lt}
-use Rattle.std.proofs.lemmas.Bool.{or_parts}
-use Rattle.std.proofs.lemmas.Grind.{flat_map-append}
-use Rattle.std.proofs.lemmas.List.{append_assoc}
-use Rattle.tb_layout.specs.Events.{Input, Pulse}
-use Rattle.tb_layout.specs.inside.Limits.{places_max}
-use Rattle.tb_work.specs.Answer.{reply_with}
-use Rattle.tb_work.specs.Packet.{input_of}
+use Rattle.tb_figures.proofs.Words.{◌||◌, if◌then◌else◌, nat_lt, or_parts, flat_map-append, append_assoc, Input, Pulse, input_of, Parcel, AreCounts, AreFull, HasPlaces, groups_of, inputs_of, Counts}
+use Rattle.tb_layout.specs.claim.Bounds.{places_max}
+use Rattle.tb_work.specs.claim.Answer.{reply_with}
 use Rattle.tb_work.specs.declared.outcome.Outcome.TheVariants as outcome
-use Rattle.tb_core.specs.declared.parcel.Parcel.{Parcel}
 use Rattle.tb_core.specs.declared.parcel.Parcel.TheVariants as parcel
 use Rattle.tb_core.specs.declared.outcomes.Outcomes.{Outcomes}
 use Rattle.tb_core.specs.declared.outcomes.Outcomes.TheVariants.{Cut, Nothing}
 use Rattle.tb_core.proofs.Since.{groups-inputs, prefix-drop}
-use Rattle.tb_core.specs.Grouping.{AreJoined}
-use Rattle.tb_core.specs.Journal.{LedgerState, groups_since, inputs}
-use Rattle.tb_core.specs.AnyLedger.{Applying}
-use Rattle.tb_core.specs.Ledger.{Applied, apply_result, apply_step, must_stop, step_of_batch, with_entry, with_stop}
-use Rattle.tb_figures.specs.Counts.{AreCounts, AreFull, HasPlaces, groups_of, inputs_of}
-use Rattle.tb_figures.specs.Counted.{CountsAreExact, IsCounted}
-use Rattle.tb_figures.specs.declared.counts.Counts.{Counts}
+use Rattle.tb_core.specs.claim.Grouping.{AreJoined}
+use Rattle.tb_core.specs.claim.Journal.{LedgerState, groups_since, inputs}
+use Rattle.tb_core.specs.claim.AnyLedger.{Applying}
+use Rattle.tb_core.specs.claim.Ledger.{Applied, apply_result, apply_step, must_stop, step_of_batch, with_entry, with_stop}
+use Rattle.tb_figures.specs.clauses.Counted.{CountsAreExact, IsCounted}
 
 -- ---- one parcel
 

@@ -1,3 +1,4 @@
+pub mod Words
 mod CountLemmas
 mod LedgerLemmas
 mod RetryLemmas

@@ -1,8 +1,6 @@
 -- Where one more is added to what is to be tried again.
 use Rattle.std.proofs.Common.{refl, ap, sym, ◌∙◌, arith, ◌≡◌, ◌<◌, ◌≤◌, ℕ, zero, suc, Bool, true, false, List, [], ◌∷◌}
-use Rattle.std.specs.List.{insert}
-use Rattle.std.specs.Prelude.{nat_lt, if◌then◌else◌}
-use Rattle.tb_figures.specs.Retries.{AreFrom, AreOrdered, IsIndexFor, inserted}
+use Rattle.tb_figures.proofs.Words.{insert, nat_lt, if◌then◌else◌, AreFrom, AreOrdered, IsIndexFor, inserted}
 use Rattle.tb_figures.specs.declared.retries.Waiting.{Waiting}
 
 module _ {T : Type 0} (new : Waiting T) where

@@ -1,4 +1,2 @@
-pub mod Counts
-pub mod Tally
-pub mod Counted
-pub mod Retries
+pub mod clauses
+pub mod inside

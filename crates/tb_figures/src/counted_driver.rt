@@ -186,11 +186,11 @@ impl<D: Driver, R: Clock + Drop> Driver for CountedDriver<D, R> {
         self.driver.next(rt, alloc)
     }
 
-    fn submitted(&mut self, told: Result<u64, Refusal>) {
-        if let Ok(number) = told {
+    fn submitted(&mut self, response: Result<u64, Refusal>) {
+        if let Ok(number) = response {
             self.count_queued(number);
         }
-        self.driver.submitted(told);
+        self.driver.submitted(response);
     }
 
     fn receive(&mut self, reply: Reply) {

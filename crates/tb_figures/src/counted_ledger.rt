@@ -26,9 +26,9 @@ impl<L: AnyLedger> Drop for CountedLedger<L> {
 
 impl<L: AnyLedger> CountedLedger<L> {
     ghost use Rattle.std.specs.Prelude.{◌≡◌, []};
-    ghost use Rattle.tb_core.specs.Journal.{LedgerState};
-    ghost use Rattle.tb_figures.specs.Counted.{HasLast, IsCounted};
-    ghost use Rattle.tb_figures.specs.Counts.{AreCounts};
+    ghost use Rattle.tb_core.specs.claim.Journal.{LedgerState};
+    ghost use Rattle.tb_figures.specs.clauses.Counted.{HasLast, IsCounted};
+    ghost use Rattle.tb_figures.specs.clauses.Counts.{AreCounts};
 
     /// Returns the ledger with counts of nothing. What it committed before isn't counted.
     pub fn over(ledger: L, figures: Figures) -> CountedLedger<L>
@@ -75,7 +75,7 @@ impl<L: AnyLedger> CountedLedger<L> {
 }
 
 impl<L: AnyLedger> AnyLedger for CountedLedger<L> {
-    ghost use Rattle.tb_figures.specs.Counted.{IsCounted};
+    ghost use Rattle.tb_figures.specs.clauses.Counted.{IsCounted};
 
     ghost is = { λ counted state. IsCounted L.is counted.ledger counted.counts state };
 

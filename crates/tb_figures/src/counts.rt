@@ -1,11 +1,11 @@
 //! What is counted of a journal.
 
 ghost use Rattle.std.specs.Prelude.{◌≡◌, ◌≤◌, ◌+◌, ◌<◌, ℕ, [], ◌∷◌, ◌++◌, List, length, map, set, slice_index};
-ghost use Rattle.tb_layout.specs.Events.{Input};
-ghost use Rattle.tb_batch.specs.Batch.{AreAdmitted};
-ghost use Rattle.tb_work.specs.Job.{stub_of};
-ghost use Rattle.tb_figures.specs.Counts.{AreCounts, HasPlaces, capped, groups_of, inputs_of};
-ghost use Rattle.tb_figures.specs.Tally.{IsTally};
+ghost use Rattle.tb_layout.specs.claim.Events.{Input};
+ghost use Rattle.tb_batch.specs.claim.Batch.{AreAdmitted};
+ghost use Rattle.tb_work.specs.claim.Job.{stub_of};
+ghost use Rattle.tb_figures.specs.clauses.Counts.{AreCounts, HasPlaces, capped, groups_of, inputs_of};
+ghost use Rattle.tb_figures.specs.inside.Tally.{IsTally};
 
 use tb_batch::Batch;
 use tb_core::Parcel;

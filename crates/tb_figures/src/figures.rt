@@ -1,7 +1,7 @@
 //! What threads may read of a pipeline that runs.
 
 ghost use Rattle.std.specs.Prelude.{◌≡◌, ◌+◌, ◌-◌, max, IfOk};
-ghost use Rattle.tb_figures.specs.Counts.{capped};
+ghost use Rattle.tb_figures.specs.clauses.Counts.{capped};
 
 use crate::counts::Counts;
 use std::alloc::{AllocError, Global};

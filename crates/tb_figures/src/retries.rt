@@ -1,6 +1,6 @@
 //! What is to be tried again later.
 
-ghost use Rattle.tb_figures.specs.Retries.{IsIndexFor};
+ghost use Rattle.tb_figures.specs.clauses.Retries.{IsIndexFor};
 
 use std::alloc::{AllocError, Global};
 use std::marker::Model;
@@ -31,7 +31,7 @@ impl<T: Drop> Drop for Retries<T> {
 }
 
 impl<T> Model for Retries<T> {
-    ghost use Rattle.tb_figures.specs.Retries.{AreWaiting, RetriesState};
+    ghost use Rattle.tb_figures.specs.clauses.Retries.{AreWaiting, RetriesState};
 
     ghost Value = { RetriesState T };
 
@@ -54,7 +54,7 @@ fn index_for<T>(waiting: &[Waiting<T>], moment: u64) -> usize
 
 impl<T: Drop> Retries<T> {
     ghost use Rattle.std.specs.Prelude.{◌≡◌, ◌<◌, ◌≤◌, [], length, IfOk, IfErr, IfSome, OnOk, OnErr};
-    ghost use Rattle.tb_figures.specs.Retries.{AreFrom, due, inserted, next_moment, waiting_one, without_due};
+    ghost use Rattle.tb_figures.specs.clauses.Retries.{AreFrom, due, inserted, next_moment, waiting_one, without_due};
 
     /// Returns an empty queue for at most `bound` items. Allocates all that it needs.
     pub fn with_bound(alloc: Global, bound: usize) -> Result<Retries<T>, AllocError>

@@ -3,13 +3,13 @@ use Rattle.std.proofs.Common.{◌≡◌, ℕ, ◌+◌, ◌<◌, List, map, drop,
 use Rattle.std.specs.Borrow.{Bor}
 use Rattle.std.specs.Prelude.{is_some, get_or}
 use Rattle.std.proofs.Math.Seq.{drop-cons}
-use Rattle.tb_layout.specs.inside.Codes.{first_with, read_row}
-use Rattle.tb_layout.specs.AccountCode as account
-use Rattle.tb_layout.specs.inside.AccountCodes as accounts
+use Rattle.tb_layout.specs.clauses.Codes.{first_with, read_row}
+use Rattle.tb_layout.specs.claim.AccountCode as account
+use Rattle.tb_layout.specs.clauses.AccountCodes as accounts
 use Rattle.tb_layout.specs.declared.account_code.AccountCode.{AccountCode}
 use Rattle.tb_layout.specs.declared.account_code.AccountCode.TheVariants as account_code
-use Rattle.tb_layout.specs.TransferCode as transfer
-use Rattle.tb_layout.specs.inside.TransferCodes as transfers
+use Rattle.tb_layout.specs.claim.TransferCode as transfer
+use Rattle.tb_layout.specs.clauses.TransferCodes as transfers
 use Rattle.tb_layout.specs.declared.transfer_code.TransferCode.{TransferCode}
 use Rattle.tb_layout.specs.declared.transfer_code.TransferCode.TheVariants as transfer_code
 

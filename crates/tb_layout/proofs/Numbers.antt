@@ -8,8 +8,8 @@ use Rattle.std.proofs.lemmas.List.{take_at, drop-drop, take-append-drop, drop_al
 use Rattle.std.proofs.lemmas.Slice.{take-put_mid}
 use Rattle.std.specs.Int.{byte_at, bytes_low_first}
 use borrow.Rule.Slice.PartMut.{put_mid}
-use Rattle.tb_layout.specs.Bytes.{little_endian, number_at}
-use Rattle.tb_layout.specs.inside.Bytes.{bytes_of, bytes_in_turn}
+use Rattle.tb_layout.specs.claim.Bytes.{little_endian, number_at}
+use Rattle.tb_layout.specs.claim.BytesOfNumbers.{bytes_of, bytes_in_turn}
 
 pub length-bytes_of : (size number : ℕ) → length (bytes_of size number) ≡ size
 unfolding bytes_of

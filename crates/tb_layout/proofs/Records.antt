@@ -3,11 +3,11 @@ use Rattle.std.proofs.Common.{◌≡◌, ℕ, ◌^◌, ◌<◌, List, [], ◌∷
 use Rattle.tb_layout.specs.declared.account.Account.{Account}
 use Rattle.tb_layout.specs.declared.transfer.Transfer.{Transfer}
 use Rattle.tb_layout.specs.declared.failure.Failure.{Failure}
-use Rattle.tb_layout.specs.Account.{account_of}
-use Rattle.tb_layout.specs.inside.Records.{account_bytes, transfer_bytes}
-use Rattle.tb_layout.specs.Transfer.{transfer_of}
-use Rattle.tb_layout.specs.Failure.{failure_of, failure_bytes}
-use Rattle.tb_layout.specs.inside.Bytes.{IsBytes}
+use Rattle.tb_layout.specs.claim.Account.{account_of}
+use Rattle.tb_layout.specs.clauses.Records.{account_bytes, transfer_bytes}
+use Rattle.tb_layout.specs.claim.Transfer.{transfer_of}
+use Rattle.tb_layout.specs.clauses.Failure.{failure_of, failure_bytes}
+use Rattle.tb_layout.specs.claim.BytesOfNumbers.{IsBytes}
 use Rattle.tb_layout.proofs.Numbers.{number_at-laid, laid-fields_from}
 
 abbrev account_fields : Account → List (ℕ × ℕ)

@@ -1,7 +1,7 @@
 -- Failures in rising index.
 use Rattle.std.proofs.Common.{◌≡◌, ℕ, zero, suc, ◌+◌, ◌<◌, ◌≤◌, List, [], ◌∷◌, length, get_or, map, subst, ◌-◌, arith}
 use Rattle.tb_layout.specs.declared.failure.Failure.{Failure}
-use Rattle.tb_layout.specs.Failures.{RiseWithin, from_offset}
+use Rattle.tb_layout.specs.claim.Failures.{RiseWithin, from_offset}
 
 -- there are as many failures before one as there are indices for
 pub rise_at : (low high : ℕ) (failures : List Failure) (place : ℕ) (d : Failure) → RiseWithin low high failures

@@ -1,10 +1,2 @@
-pub mod Limits
-pub mod Bytes
-pub mod Account
-pub mod AccountCode
-pub mod Transfer
-pub mod TransferCode
-pub mod Failure
-pub mod Events
-pub mod Failures
-pub mod inside
+pub mod claim
+pub mod clauses

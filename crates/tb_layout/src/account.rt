@@ -1,10 +1,10 @@
 //! Accounts.
 
 ghost use Rattle.std.specs.Prelude.{◌≡◌, ℕ, List};
-ghost use Rattle.tb_layout.specs.inside.Bytes.{IsBytes};
-ghost use Rattle.tb_layout.specs.Account as spec;
-ghost use Rattle.tb_layout.specs.inside.Records.{account_bytes};
-ghost use Rattle.tb_layout.specs.Bytes.{has_reserved_flag as is_reserved_in};
+ghost use Rattle.tb_layout.specs.claim.BytesOfNumbers.{IsBytes};
+ghost use Rattle.tb_layout.specs.claim.Account as spec;
+ghost use Rattle.tb_layout.specs.clauses.Records.{account_bytes};
+ghost use Rattle.tb_layout.specs.claim.Bytes.{has_reserved_flag as is_reserved_in};
 
 use crate::flags::has_reserved_flag;
 use crate::number::{

@@ -34,8 +34,8 @@ pub enum AccountCode {
 }
 
 impl AccountCode {
-    ghost use Rattle.tb_layout.specs.AccountCode.{number_of};
-    ghost use Rattle.tb_layout.specs.inside.AccountCodes.{code_of, name_of};
+    ghost use Rattle.tb_layout.specs.claim.AccountCode.{number_of};
+    ghost use Rattle.tb_layout.specs.clauses.AccountCodes.{code_of, name_of};
 
     /// Returns the number that a failure carries. 0 is no failure.
     pub fn number(self) -> u32
@@ -60,7 +60,7 @@ impl AccountCode {
 }
 
 impl Code for AccountCode {
-    ghost use Rattle.tb_layout.specs.AccountCode.{number_of as number_of_code};
+    ghost use Rattle.tb_layout.specs.claim.AccountCode.{number_of as number_of_code};
 
     ghost number_of = { number_of_code };
 

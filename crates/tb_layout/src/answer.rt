@@ -5,6 +5,8 @@ ghost use Rattle.std.specs.Prelude.{◌≡◌};
 use crate::account::Account;
 use crate::failure::Failure;
 use crate::failure_room::FailureRoom;
+use std::fmt;
+use std::fmt::{Debug, Formatter};
 use std::marker::Model;
 
 /// The failed events of a packet, seen as their list.
@@ -54,6 +56,13 @@ impl Failures {
     }
 }
 
+impl Debug for Failures {
+    /// Writes the failures as a list.
+    fn fmt<W: fmt::Write>(&self, f: &mut Formatter<W>) -> fmt::Result {
+        self.as_slice().fmt(f)
+    }
+}
+
 /// The accounts that a lookup found, seen as their list.
 #[derive(Drop)]
 pub struct Accounts {
@@ -85,8 +94,15 @@ impl Accounts {
     }
 }
 
+impl Debug for Accounts {
+    /// Writes the accounts as a list.
+    fn fmt<W: fmt::Write>(&self, f: &mut Formatter<W>) -> fmt::Result {
+        self.as_slice().fmt(f)
+    }
+}
+
 /// The answer to a packet that was committed.
-#[derive(Drop)]
+#[derive(Debug, Drop)]
 pub enum Answer {
     Failures(Failures),
     Accounts(Accounts),

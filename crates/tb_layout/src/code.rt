@@ -2,7 +2,7 @@
 
 ghost use Rattle.std.specs.Prelude.{◌≡◌, ℕ, map, is_some, true};
 ghost use Rattle.std.specs.Option.{option_map};
-ghost use Rattle.tb_layout.specs.inside.Codes.{first_with, code_in, name_in, read_row};
+ghost use Rattle.tb_layout.specs.clauses.Codes.{first_with, code_in, name_in, read_row};
 
 /// A result of an event.
 pub(crate) trait Code: Copy {

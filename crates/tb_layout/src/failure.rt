@@ -1,6 +1,8 @@
 //! The failed events of a packet.
 
+use crate::account_code::AccountCode;
 use crate::number::{read_u32, write_u32};
+use crate::transfer_code::TransferCode;
 
 /// A failed event: its index in its packet, counted from 0, and the number of its result.
 #[derive(Clone, Copy, Debug, Default, PartialEq, Eq)]
@@ -9,9 +11,30 @@ pub struct Failure {
     pub code: u32,
 }
 
+impl Failure {
+    ghost use Rattle.tb_layout.specs.clauses.AccountCodes.{code_of as account_code_of};
+    ghost use Rattle.tb_layout.specs.clauses.TransferCodes.{code_of as transfer_code_of};
+
+    /// Returns the result if the event is of create_accounts, or `None` if no result of that operation has this number.
+    /// Compares up to 23 numbers.
+    pub fn account_code(&self) -> Option<AccountCode>
+        ensures { result ≡ account_code_of self.now.code }
+    {
+        AccountCode::of_number(self.code)
+    }
+
+    /// Returns the result if the event is of create_transfers, or `None` if no result of that operation has this number.
+    /// Compares up to 58 numbers.
+    pub fn transfer_code(&self) -> Option<TransferCode>
+        ensures { result ≡ transfer_code_of self.now.code }
+    {
+        TransferCode::of_number(self.code)
+    }
+}
+
 ghost use Rattle.std.specs.Prelude.{◌≡◌, ℕ, List};
-ghost use Rattle.tb_layout.specs.Failure.{failure_of, failure_bytes};
-ghost use Rattle.tb_layout.specs.inside.Bytes.{IsBytes};
+ghost use Rattle.tb_layout.specs.clauses.Failure.{failure_of, failure_bytes};
+ghost use Rattle.tb_layout.specs.claim.BytesOfNumbers.{IsBytes};
 
 /// Returns the failure in 8 bytes: the index, then the code (requests reference of TigerBeetle, results).
 pub fn read_failure(bytes: &[u8; 8]) -> Failure

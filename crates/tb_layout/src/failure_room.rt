@@ -34,7 +34,7 @@ impl Drop for FailureRoom {
 }
 
 impl Model for FailureRoom {
-    ghost use Rattle.tb_layout.specs.inside.FailureRoom.{FailureRoomState, IsSlots, room_of};
+    ghost use Rattle.tb_layout.specs.claim.FailureRoom.{FailureRoomState, IsSlots, room_of};
 
     ghost Value = { FailureRoomState };
 

@@ -1,7 +1,7 @@
 //! Flags of an event.
 
 ghost use Rattle.std.specs.Prelude.{◌≡◌};
-ghost use Rattle.tb_layout.specs.Bytes as spec;
+ghost use Rattle.tb_layout.specs.claim.Bytes as spec;
 
 /// The flags that stand for something, bits 0 to 3. An account and a transfer of the requests reference have further
 /// ones (imported, balancing and closing events); they are reserved here.

@@ -1,8 +1,8 @@
 //! Ids.
 
 ghost use Rattle.std.specs.Prelude.{◌≡◌};
-ghost use Rattle.tb_layout.specs.inside.Bytes.{bytes_of};
-ghost use Rattle.tb_layout.specs.Bytes.{number_at};
+ghost use Rattle.tb_layout.specs.claim.BytesOfNumbers.{bytes_of};
+ghost use Rattle.tb_layout.specs.claim.Bytes.{number_at};
 
 use crate::number::{read_u128, write_u128};
 

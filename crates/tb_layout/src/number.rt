@@ -1,8 +1,8 @@
 //! Numbers in bytes, the least significant first.
 
 ghost use Rattle.std.specs.Prelude.{◌≡◌, ◌+◌, ◌^◌, ◌<◌, ◌≤◌, ◌++◌, length, take};
-ghost use Rattle.tb_layout.specs.Bytes.{number_at};
-ghost use Rattle.tb_layout.specs.inside.Bytes.{bytes_of};
+ghost use Rattle.tb_layout.specs.claim.Bytes.{number_at};
+ghost use Rattle.tb_layout.specs.claim.BytesOfNumbers.{bytes_of};
 
 use byteorder::{ByteOrder, LittleEndian};
 

@@ -20,7 +20,7 @@ pub enum Operation {
 }
 
 impl Operation {
-    ghost use Rattle.tb_layout.specs.inside.Operations.{name_of, number_of, operation_of};
+    ghost use Rattle.tb_layout.specs.clauses.Operations.{name_of, number_of, operation_of};
 
     /// Returns the number that a packet carries.
     pub fn number(self) -> u8

@@ -1,10 +1,10 @@
 //! Transfers.
 
 ghost use Rattle.std.specs.Prelude.{◌≡◌, ℕ, List};
-ghost use Rattle.tb_layout.specs.inside.Bytes.{IsBytes};
-ghost use Rattle.tb_layout.specs.Bytes.{has_reserved_flag as is_reserved_in};
-ghost use Rattle.tb_layout.specs.Transfer as spec;
-ghost use Rattle.tb_layout.specs.inside.Records.{transfer_bytes};
+ghost use Rattle.tb_layout.specs.claim.BytesOfNumbers.{IsBytes};
+ghost use Rattle.tb_layout.specs.claim.Bytes.{has_reserved_flag as is_reserved_in};
+ghost use Rattle.tb_layout.specs.claim.Transfer as spec;
+ghost use Rattle.tb_layout.specs.clauses.Records.{transfer_bytes};
 
 use crate::flags::has_reserved_flag;
 use crate::number::{

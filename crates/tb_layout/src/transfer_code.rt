@@ -69,8 +69,8 @@ pub enum TransferCode {
 }
 
 impl TransferCode {
-    ghost use Rattle.tb_layout.specs.TransferCode.{number_of};
-    ghost use Rattle.tb_layout.specs.inside.TransferCodes.{code_of, name_of};
+    ghost use Rattle.tb_layout.specs.claim.TransferCode.{number_of};
+    ghost use Rattle.tb_layout.specs.clauses.TransferCodes.{code_of, name_of};
 
     /// Returns the number that a failure carries. 0 is no failure.
     #[inline(always)]
@@ -96,7 +96,7 @@ impl TransferCode {
 }
 
 impl Code for TransferCode {
-    ghost use Rattle.tb_layout.specs.TransferCode.{number_of as number_of_code};
+    ghost use Rattle.tb_layout.specs.claim.TransferCode.{number_of as number_of_code};
 
     ghost number_of = { number_of_code };
 

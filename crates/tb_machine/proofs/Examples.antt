@@ -1,18 +1,10 @@
 -- Worked examples, computed from the definitions. Each account has ledger and code 1 and nothing else, and each plain
 -- or pending transfer too, unless said.
 use Rattle.std.proofs.Common.{refl, ◌≡◌, ℕ, List, [], ◌∷◌, map}
-use Rattle.std.specs.Prelude.{Some, None}
-use Rattle.tb_layout.specs.declared.account.Account.{Account}
-use Rattle.tb_layout.specs.declared.transfer.Transfer.{Transfer}
-use Rattle.tb_layout.specs.declared.failure.Failure.{Failure}
-use Rattle.tb_layout.specs.Events.{Events, Accounts, Transfers, Ids, Input, Packet, Pulse}
-use Rattle.tb_tables.specs.Facts.{no_facts}
-use Rattle.tb_tables.specs.inside.Balances.{debits_pending, debits_posted, credits_pending, credits_posted}
-use Rattle.tb_tables.specs.inside.Status.{status_with}
-use Rattle.tb_tables.specs.declared.status.Status.TheVariants.{Pending, Voided, Expired}
+use Rattle.tb_machine.proofs.Words.{Some, None, Account, Transfer, Failure, Events, Accounts, Transfers, Ids, Input, Packet, Pulse, no_facts, debits_pending, debits_posted, credits_pending, credits_posted, Pending, Voided, Expired, replay, failures_of}
+use Rattle.tb_tables.specs.clauses.Status.{status_with}
 use Rattle.tb_layout.specs.declared.answer.Answer.TheVariants as answer
-use Rattle.tb_machine.specs.Replay.{replay, failures_of}
-use Rattle.tb_machine.specs.AnswerAt.{answer_at}
+use Rattle.tb_machine.specs.claim.AnswerAt.{answer_at}
 
 abbrev most : ℕ
 most = 340282366920938463463374607431768211455

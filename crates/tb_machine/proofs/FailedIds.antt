@@ -1,17 +1,6 @@
 -- A transient code is only that of an event whose id isn't among those that failed.
 use Rattle.std.proofs.Common.{refl, ◌≡◌, ℕ, Bool, true, false, not, List, [], ◌∷◌, Option, Some, None}
-use Rattle.std.specs.Prelude.{◌&&◌, if◌then◌else◌}
-use Rattle.std.specs.List.{list_all}
-use Rattle.tb_layout.specs.declared.transfer.Transfer.{Transfer}
-use Rattle.tb_layout.specs.declared.transfer_code.TransferCode.{TransferCode}
-use Rattle.tb_layout.specs.declared.transfer_code.TransferCode.TheVariants.{Exists, IdAlreadyFailed, FlagsAreMutuallyExclusive}
-use Rattle.tb_layout.specs.TransferCode.{number_of}
-use Rattle.tb_layout.specs.Transfer.{is_resolving}
-use Rattle.tb_tables.specs.Facts.{Facts, transfer_with, is_failed}
-use Rattle.tb_machine.specs.Checks.{first_row}
-use Rattle.tb_machine.specs.Operations.{is_transient, transfers_operation}
-use Rattle.tb_machine.specs.TransferVerdict.{event_checks, stored_checks, against_id, new_id_verdict, resolving_verdict, moving_verdict, resolved_transfer_of, has_exclusive_flags}
-use Rattle.tb_machine.specs.inside.Faults.{verdict_at}
+use Rattle.tb_machine.proofs.Words.{◌&&◌, if◌then◌else◌, list_all, Transfer, TransferCode, Exists, IdAlreadyFailed, FlagsAreMutuallyExclusive, number_of, is_resolving, Facts, transfer_with, is_failed, first_row, is_transient, transfers_operation, event_checks, stored_checks, against_id, new_id_verdict, resolving_verdict, moving_verdict, resolved_transfer_of, has_exclusive_flags, verdict_at}
 
 -- no code of the table is transient
 abbrev lasts : List (Bool × TransferCode) → Bool

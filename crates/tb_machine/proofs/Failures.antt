@@ -1,13 +1,6 @@
 -- The failures that results make, with their indices.
 use Rattle.std.proofs.Common.{refl, sym, ap, ◌∙◌, arith, ◌≡◌, ◌≢◌, ℕ, zero, suc, ◌+◌, Bool, true, false, List, [], ◌∷◌, ◌++◌, length, replicate, Option, Some, None}
-use Rattle.std.specs.Prelude.{if◌then◌else◌, ◌==◌, is_some}
-use Rattle.std.proofs.lemmas.List.{length-replicate, replicate_more}
-use Rattle.tb_layout.specs.declared.failure.Failure.{Failure}
-use Rattle.tb_tables.specs.Facts.{Facts}
-use Rattle.tb_machine.specs.declared.fault.ChainFault.{ChainFault}
-use Rattle.tb_machine.specs.Chain.{Operation, failures_from}
-use Rattle.tb_machine.specs.inside.Faults.{closed_results, results_of_failed}
-use Rattle.tb_machine.specs.Examining.{LiesBelow}
+use Rattle.tb_machine.proofs.Words.{if◌then◌else◌, ◌==◌, is_some, length-replicate, replicate_more, Failure, Facts, ChainFault, Operation, failures_from, closed_results, results_of_failed, LiesBelow}
 use Rattle.tb_machine.proofs.Faults.{eqb-false, length-failed_results}
 
 abbrev failure : ℕ → ℕ → Failure

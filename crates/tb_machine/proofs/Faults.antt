@@ -1,16 +1,6 @@
 -- The first fault of events, and how many results a chain has.
 use Rattle.std.proofs.Common.{refl, ap, nat_lt, ◌∙◌, arith, ◌≡◌, ◌≢◌, ℕ, suc, ◌+◌, ◌-◌, ◌<◌, ◌≤◌, Bool, true, false, List, [], ◌∷◌, length, replicate, eqb, Option, Some, None, map, take, length-append, length-take-le, ⊎_elim}
-use Rattle.std.specs.Prelude.{if◌then◌else◌, ◌==◌, is_some}
-use Rattle.std.proofs.lemmas.Bool.{ltb-true}
-use Rattle.std.proofs.lemmas.List.{length-map, length-replicate}
-use Rattle.std.proofs.lemmas.Bool.Decides.{eqb_tells}
-use Rattle.tb_layout.specs.Events.{is_last_linked}
-use Rattle.tb_tables.specs.Facts.{Facts}
-use Rattle.tb_machine.specs.declared.fault.ChainFault.{ChainFault}
-use Rattle.tb_layout.specs.Limits.{clock_max}
-use Rattle.tb_machine.specs.Chain.{clock_after, Operation, Results, Attempt, Stored, Failed, try_events, closed_chain, open_chain, chain_results}
-use Rattle.tb_machine.specs.inside.Faults.{next_timestamp, verdict_at, facts_with, facts_with_all, first_fault, results_of_failed, closed_results, open_results}
-use Rattle.tb_machine.specs.Examining.{LiesBelow, fault_as}
+use Rattle.tb_machine.proofs.Words.{if◌then◌else◌, ◌==◌, is_some, ltb-true, length-map, length-replicate, eqb_tells, is_last_linked, Facts, ChainFault, clock_max, clock_after, Operation, Results, Attempt, Stored, Failed, try_events, closed_chain, open_chain, chain_results, next_timestamp, verdict_at, facts_with, facts_with_all, first_fault, results_of_failed, closed_results, open_results, LiesBelow, fault_as}
 
 pub eqb-false : (a b : ℕ) → a ≢ b → (a == b) ≡ false
 eqb-false a b ne =

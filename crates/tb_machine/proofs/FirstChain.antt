@@ -1,13 +1,6 @@
 -- The first chain of some events, and the rest.
 use Rattle.std.proofs.Common.{refl, sym, ap, ◌∙◌, arith, ◌≡◌, ℕ, suc, ◌+◌, ◌-◌, ◌<◌, ◌≤◌, Bool, true, false, List, [], ◌∷◌, ◌++◌, length, take, drop, get_or, map, append_assoc, length-take-le, length-drop}
-use Rattle.std.specs.Prelude.{if◌then◌else◌}
-use Rattle.std.proofs.lemmas.List.{length-map, take-map, get_or-map, take_rest, drop-map, drop-drop}
-use Rattle.tb_layout.specs.declared.failure.Failure.{Failure}
-use Rattle.tb_layout.specs.Events.{is_last_linked}
-use Rattle.tb_tables.specs.Facts.{Facts}
-use Rattle.tb_machine.specs.Chain.{Operation, Results, before_chains, chains_of, chain_results, chains_results, open_chain, closed_chain, try_events, clock_after, events_results, failures_from}
-use Rattle.tb_machine.specs.inside.Faults.{open_results, closed_results, first_fault}
-use Rattle.tb_machine.specs.Examining.{first_chain_length, then_results}
+use Rattle.tb_machine.proofs.Words.{if◌then◌else◌, length-map, take-map, get_or-map, take_rest, drop-map, drop-drop, Failure, is_last_linked, Facts, Operation, Results, before_chains, chains_of, chain_results, chains_results, open_chain, closed_chain, try_events, clock_after, events_results, failures_from, open_results, closed_results, first_fault, first_chain_length, then_results}
 use Rattle.tb_machine.proofs.Faults.{length-chain_results, open_is, closed_is}
 use Rattle.tb_machine.proofs.Failures.{failures_from-append}
 

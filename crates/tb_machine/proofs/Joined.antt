@@ -1,17 +1,9 @@
 -- Packets laid one after another, none of them open, give what each gives by itself.
 use Rattle.std.proofs.Common.{refl, sym, ap, subst, ◌∙◌, arith, ◌≡◌, ℕ, ◌+◌, ◌-◌, ◌≤◌, Bool, true, false, not, List, [], ◌∷◌, ◌++◌, map, filter, length, append_assoc, length-append, append-nil, cond}
-use Rattle.std.specs.Prelude.{if◌then◌else◌, ◌==◌, ◌&&◌, nat_le, nat_lt, fold}
-use Rattle.std.proofs.lemmas.Bool.Decides.{nat_tests}
+use Rattle.tb_machine.proofs.Words.{if◌then◌else◌, ◌==◌, ◌&&◌, nat_le, nat_lt, fold, nat_tests, Failure, Events, is_last_linked, Facts, clock_max, clock_after, Operation, Results, before_chains, chains_of, chain_results, chains_results, events_results, failures_from, State, results_of, after_packet, failures_of, after_results, then_results}
 use Rattle.std.proofs.lemmas.List.Elements.{filter-append}
-use Rattle.tb_layout.specs.declared.failure.Failure.{Failure}
-use Rattle.tb_layout.specs.Events.{Events, is_last_linked}
-use Rattle.tb_layout.specs.Failures.{RiseWithin, is_within, from_offset, failures_within}
-use Rattle.tb_tables.specs.Facts.{Facts}
-use Rattle.tb_layout.specs.Limits.{clock_max}
-use Rattle.tb_machine.specs.Chain.{clock_after, Operation, Results, before_chains, chains_of, chain_results, chains_results, events_results, failures_from}
-use Rattle.tb_machine.specs.Replay.{State, results_of, after_packet, failures_of}
-use Rattle.tb_machine.specs.Joining.{events_in_turn, none_open, cuts, failures_each, GiveAsEach, JoiningIsInvisible}
-use Rattle.tb_machine.specs.Examining.{after_results, then_results}
+use Rattle.tb_layout.specs.claim.Failures.{RiseWithin, is_within, from_offset, failures_within}
+use Rattle.tb_machine.specs.clauses.Joining.{events_in_turn, none_open, cuts, failures_each, GiveAsEach, JoiningIsInvisible}
 use Rattle.tb_machine.proofs.Faults.{length-chain_results}
 use Rattle.tb_machine.proofs.Failures.{failures_from-append, failing}
 

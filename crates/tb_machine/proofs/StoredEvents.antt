@@ -1,27 +1,9 @@
 -- An event whose checks find nothing may be stored.
 use Rattle.std.proofs.Common.{refl, sym, ap, subst, ◌∙◌, arith, ◌≡◌, ℕ, ◌+◌, ◌*◌, ◌<◌, ◌≤◌, ◌^◌, Bool, true, false, not, List, [], ◌∷◌, Option, Some, None}
-use Rattle.std.specs.Prelude.{◌==◌, ◌&&◌, ◌||◌, nat_lt, IsSome, if◌then◌else◌}
-use Rattle.std.specs.List.{AllByRecursion, list_all}
-use Rattle.std.specs.Option.{option_map}
-use Rattle.std.proofs.lemmas.Bool.{eqb-true}
-use Rattle.std.proofs.lemmas.Bool.Decides.{nat_tests}
-use Rattle.tb_layout.specs.declared.account.Account.{Account}
-use Rattle.tb_layout.specs.declared.transfer.Transfer.{Transfer}
-use Rattle.tb_layout.specs.declared.transfer_code.TransferCode.{TransferCode}
-use Rattle.tb_layout.specs.declared.transfer_code.TransferCode.TheVariants.{Ok}
-use Rattle.tb_layout.specs.TransferCode.{number_of}
-use Rattle.tb_layout.specs.Transfer.{is_pending, is_post, is_void, is_resolving}
-use Rattle.tb_tables.specs.Facts.{Facts, account_with, transfer_with, is_expired}
-use Rattle.tb_tables.specs.inside.Indices.{IsIndexOf}
-use Rattle.tb_tables.specs.Balances.{balanced_account, with_balances}
-use Rattle.tb_tables.specs.inside.Balances.{debits, credits}
-use Rattle.tb_tables.specs.Status.{is_named_by, status_of, is_due, expires_at}
-use Rattle.tb_tables.specs.declared.status.Status.TheVariants.{Pending, Posted, Voided, Expired}
-use Rattle.tb_tables.specs.Conditions.{MayAdd, MayResolve}
+use Rattle.tb_machine.proofs.Words.{◌==◌, ◌&&◌, ◌||◌, nat_lt, IsSome, if◌then◌else◌, AllByRecursion, list_all, option_map, eqb-true, nat_tests, Account, Transfer, TransferCode, Ok, number_of, is_pending, is_post, is_void, is_resolving, Facts, account_with, transfer_with, is_expired, balanced_account, with_balances, debits, credits, Pending, Posted, Voided, Expired, MayAdd, MayResolve, clock_max, nanoseconds_per_second, u128_max, first_row, new_id_verdict, new_id_checks, resolving_checks, resolving_verdict, against_named, pending_checks, status_checks, moving_checks, moving_verdict, against_accounts, balance_checks, resolved_transfer, resolved_transfer_of, stored_transfer, has_exclusive_flags}
+use Rattle.tb_tables.specs.clauses.Indices.{IsIndexOf}
+use Rattle.tb_tables.specs.claim.Status.{is_named_by, status_of, is_due, expires_at}
 use Rattle.tb_tables.proofs.FoundById.{found-id}
-use Rattle.tb_layout.specs.Limits.{clock_max, nanoseconds_per_second}
-use Rattle.tb_machine.specs.Checks.{u128_max, first_row}
-use Rattle.tb_machine.specs.TransferVerdict.{new_id_verdict, new_id_checks, resolving_checks, resolving_verdict, against_named, pending_checks, status_checks, moving_checks, moving_verdict, against_accounts, balance_checks, resolved_transfer, resolved_transfer_of, stored_transfer, has_exclusive_flags}
 
 -- ---- if a table doesn't end in a failure, none of its checks applies
 

@@ -1,12 +1,3 @@
-pub mod Checks
-pub mod AccountVerdict
-pub mod TransferVerdict
-pub mod Prefetch
-pub mod Chain
-pub mod Operations
-pub mod Replay
-pub mod AnswerAt
-pub mod Joining
-pub mod Examining
-pub mod Invariant
+pub mod claim
+pub mod clauses
 pub mod inside

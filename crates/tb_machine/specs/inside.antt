@@ -1,2 +1,4 @@
-pub mod Accounts
+-- What only proofs, private functions and invariants need.
+pub mod Prefetch
+pub mod Examining
 pub mod Faults

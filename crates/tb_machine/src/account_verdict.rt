@@ -3,10 +3,10 @@
 ghost use Rattle.std.specs.Prelude.{◌≡◌, ◌≢◌, None, MatchOption};
 ghost use Rattle.tb_layout.specs.declared.account_code.AccountCode.{AccountCode as Code};
 ghost use Rattle.tb_layout.specs.declared.account_code.AccountCode.TheVariants.{Exists, Ok};
-ghost use Rattle.tb_layout.specs.AccountCode.{number_of};
-ghost use Rattle.tb_machine.specs.AccountVerdict as spec;
-ghost use Rattle.tb_machine.specs.Checks.{first_row};
-ghost use Rattle.tb_machine.specs.Examining.{new_account_verdict as new_verdict_of};
+ghost use Rattle.tb_layout.specs.claim.AccountCode.{number_of};
+ghost use Rattle.tb_machine.specs.claim.AccountVerdict as spec;
+ghost use Rattle.tb_machine.specs.claim.Checks.{first_row};
+ghost use Rattle.tb_machine.specs.inside.Examining.{new_account_verdict as new_verdict_of};
 
 use tb_layout::{Account, AccountCode};
 use tb_tables::Tables;

@@ -1,9 +1,9 @@
 //! Where chains start and end.
 
 ghost use Rattle.std.specs.Prelude.{◌≡◌, ◌+◌, ◌^◌, ◌<◌, ◌≤◌, length, map};
-ghost use Rattle.tb_layout.specs.Limits.{clock_max};
-ghost use Rattle.tb_machine.specs.Chain as spec;
-ghost use Rattle.tb_machine.specs.Examining.{first_chain_length};
+ghost use Rattle.tb_layout.specs.claim.Limits.{clock_max};
+ghost use Rattle.tb_machine.specs.claim.Chain as spec;
+ghost use Rattle.tb_machine.specs.inside.Examining.{first_chain_length};
 
 use crate::clock::clock_after;
 use crate::event::CreateEvent;

@@ -1,8 +1,8 @@
 //! The clock, in nanoseconds.
 
 ghost use Rattle.std.specs.Prelude.{◌≡◌, ◌+◌, ◌*◌, ◌≤◌};
-ghost use Rattle.tb_layout.specs.Limits.{clock_max, nanoseconds_per_second};
-ghost use Rattle.tb_machine.specs.Chain as spec;
+ghost use Rattle.tb_layout.specs.claim.Limits.{clock_max, nanoseconds_per_second};
+ghost use Rattle.tb_machine.specs.claim.Chain as spec;
 ghost use Rattle.tb_machine.specs.inside.Faults as faults;
 
 use tb_layout::{CLOCK_MAX, NANOSECONDS_PER_SECOND};

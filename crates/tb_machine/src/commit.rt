@@ -1,12 +1,12 @@
 //! A packet's chains, one by one.
 
 ghost use Rattle.std.specs.Prelude.{◌≡◌, ◌≢◌, ◌+◌, ◌^◌, ◌<◌, ◌≤◌, ◌++◌, [], length, map, take, vec_len, vec_capacity, Ok, None, IfOk, OnOk};
-ghost use Rattle.tb_tables.specs.History.{mark_of, back_to, Extends};
-ghost use Rattle.tb_layout.specs.Limits.{clock_max};
+ghost use Rattle.tb_tables.specs.clauses.History.{mark_of, back_to, Extends};
+ghost use Rattle.tb_layout.specs.claim.Limits.{clock_max};
 ghost use Rattle.tb_machine.specs.inside.Faults as faults;
-ghost use Rattle.tb_machine.specs.Chain.{chain_results, events_results, failures_from};
+ghost use Rattle.tb_machine.specs.claim.Chain.{chain_results, events_results, failures_from};
 ghost use Rattle.tb_machine.specs.inside.Faults.{verdict_at, facts_with, facts_with_all, first_fault, facts_after_failure, open_results, closed_results};
-ghost use Rattle.tb_machine.specs.Examining.{event_results, fault_as, first_chain_length};
+ghost use Rattle.tb_machine.specs.inside.Examining.{event_results, fault_as, first_chain_length};
 
 use crate::chain::{ChainStart, first_chain_length};
 use crate::clock::{clock_after, next_timestamp};
@@ -29,7 +29,7 @@ const CACHED_ACCOUNTS: usize = 1 << 13;
 /// Stores the event, at the timestamp after the clock, if its checks find nothing, and returns the number of its
 /// result. An event for which the clock can't be raised isn't checked.
 #[inline(always)]
-fn examine_at<E: CreateEvent>(
+fn try_store_at<E: CreateEvent>(
     clock: u64,
     seems_stored: bool,
     tables: &mut Tables,
@@ -44,14 +44,14 @@ fn examine_at<E: CreateEvent>(
     ensures same { result ≢ Ok 0 → tables.new ≡ tables.old }
 {
     match next_timestamp(clock) {
-        Some(timestamp) => event.examine(tables, timestamp, seems_stored),
+        Some(timestamp) => event.try_store(tables, timestamp, seems_stored),
         None => Ok(CLOCK_EXHAUSTED),
     }
 }
 
 /// Stores the events in order up to the first fault, which is returned with its event's chunk: most chains have none,
 /// and returning a chunk's address costs less than an event. No event after it is examined.
-fn examine_all<'a, E: CreateEvent>(
+fn try_store_all<'a, E: CreateEvent>(
     clock: u64,
     tables: &mut Tables,
     chunks: &'a [[u8; 128]],
@@ -65,7 +65,7 @@ fn examine_all<'a, E: CreateEvent>(
 {
     let mut clock = clock;
     for (index, chunk) in chunks.iter().enumerate() {
-        let code = examine_at(clock, false, tables, E::read(chunk))?;
+        let code = try_store_at(clock, false, tables, E::read(chunk))?;
         if code != 0 {
             return Ok(Some(ChainFault {
                 index,
@@ -104,7 +104,7 @@ fn undo_chain<E: CreateEvent>(
 {
     tables.undo_to(mark);
     match fault {
-        Some(fault) => fault.event.remember(tables, fault.code),
+        Some(fault) => fault.event.record_failed(tables, fault.code),
         None => Ok(()),
     }
 }
@@ -128,9 +128,9 @@ fn commit_event<E: CreateEvent>(
     ensures len { vec_len out.new ≤ vec_len out.old + 1 }
     ensures capacity { vec_capacity out.new ≡ vec_capacity out.old }
 {
-    let code = examine_at(start.clock, start.seems_stored, tables, E::read(chunk))?;
+    let code = try_store_at(start.clock, start.seems_stored, tables, E::read(chunk))?;
     if code != 0 {
-        E::read(chunk).remember_checked(tables, code)?;
+        E::read(chunk).record_failed_checked(tables, code)?;
         out.push_reserved(Failure {
             index: start.index as u32,
             code,
@@ -161,7 +161,7 @@ fn commit_closed_chain<E: CreateEvent>(
     ensures capacity { vec_capacity out.new ≡ vec_capacity out.old }
 {
     let mark = tables.mark();
-    let fault = examine_all::<E>(start.clock, tables, chain)?;
+    let fault = try_store_all::<E>(start.clock, tables, chain)?;
     if fault.is_some() {
         let fault = with_event::<E>(fault);
         undo_chain(tables, mark, fault)?;
@@ -192,7 +192,7 @@ fn commit_open_chain<E: CreateEvent>(
     ensures capacity { vec_capacity out.new ≡ vec_capacity out.old }
 {
     let mark = tables.mark();
-    let fault = with_event::<E>(examine_all::<E>(start.clock, tables, front)?);
+    let fault = with_event::<E>(try_store_all::<E>(start.clock, tables, front)?);
     undo_chain(tables, mark, fault)?;
     report_failed(out, start.index, front.len(), fault);
     out.push_reserved(Failure {

@@ -1,22 +1,22 @@
 //! What the two operations that change the facts make of their events.
 
 ghost use Rattle.std.specs.Prelude.{◌≡◌, ◌≢◌, ◌≤◌, ◌&&◌, ◌||◌, ℕ, Bool, List, Option, Ok, IfOk, OnOk, is_some, not, true, false};
-ghost use Rattle.tb_layout.specs.Account.{account_of};
-ghost use Rattle.tb_layout.specs.Transfer.{transfer_of, is_resolving as is_resolving_event};
-ghost use Rattle.tb_layout.specs.TransferCode.{number_of};
-ghost use Rattle.tb_tables.specs.Facts.{Facts, account_with, add_transfer, is_failed, transfer_with};
-ghost use Rattle.tb_tables.specs.History.{with_change, Extends};
-ghost use Rattle.tb_tables.specs.Conditions.{MayResolve};
-ghost use Rattle.tb_tables.specs.inside.Indices.{IsIndexOfTransfer};
-ghost use Rattle.tb_layout.specs.Limits.{clock_max};
-ghost use Rattle.tb_machine.specs.Chain.{Operation};
-ghost use Rattle.tb_machine.specs.Checks.{differ};
+ghost use Rattle.tb_layout.specs.claim.Account.{account_of};
+ghost use Rattle.tb_layout.specs.claim.Transfer.{transfer_of, is_resolving as is_resolving_event};
+ghost use Rattle.tb_layout.specs.claim.TransferCode.{number_of};
+ghost use Rattle.tb_tables.specs.claim.Facts.{Facts, account_with, add_transfer, is_failed, transfer_with};
+ghost use Rattle.tb_tables.specs.clauses.History.{with_change, Extends};
+ghost use Rattle.tb_tables.specs.clauses.Conditions.{MayResolve};
+ghost use Rattle.tb_tables.specs.clauses.Indices.{IsIndexOfTransfer};
+ghost use Rattle.tb_layout.specs.claim.Limits.{clock_max};
+ghost use Rattle.tb_machine.specs.claim.Chain.{Operation};
+ghost use Rattle.tb_machine.specs.claim.Checks.{differ};
 ghost use Rattle.tb_machine.specs.inside.Faults.{verdict_at};
-ghost use Rattle.tb_machine.specs.TransferVerdict.{stored_transfer, new_id_verdict};
-ghost use Rattle.tb_machine.specs.Examining.{transfer_id_verdict};
-ghost use Rattle.tb_machine.specs.Prefetch.{IsTarget};
+ghost use Rattle.tb_machine.specs.claim.TransferVerdict.{stored_transfer, new_id_verdict};
+ghost use Rattle.tb_machine.specs.inside.Examining.{transfer_id_verdict};
+ghost use Rattle.tb_machine.specs.inside.Prefetch.{IsTarget};
 ghost use Rattle.tb_machine.specs.declared.prefetch.Target.TheVariants.{Between, Named};
-ghost use Rattle.tb_machine.specs.Operations as spec;
+ghost use Rattle.tb_machine.specs.claim.Operations as spec;
 
 use crate::account_verdict::{account_verdict, new_account_verdict};
 use crate::prefetch::{Sides, Target};
@@ -63,7 +63,7 @@ pub(crate) trait CreateEvent: Copy {
 
     /// Stores the event with this timestamp if its checks find nothing, and returns the number of its result. It is the
     /// same whether the id seems stored or not: a transfer's id that does is looked up first, and costs less if it is.
-    fn examine(
+    fn try_store(
         &self,
         tables: &mut Tables,
         timestamp: u64,
@@ -76,15 +76,15 @@ pub(crate) trait CreateEvent: Copy {
         ensures same { result ≢ Ok 0 → tables.new ≡ tables.old };
 
     /// Notes what the event's failing with this code leaves.
-    fn remember(&self, tables: &mut Tables, code: u32) -> Result<(), NoMemory>
-        ensures facts { IfOk result (λ _. tables.new.now ≡ operation.remembered tables.old.now code self.now) }
+    fn record_failed(&self, tables: &mut Tables, code: u32) -> Result<(), NoMemory>
+        ensures facts { IfOk result (λ _. tables.new.now ≡ operation.after_failure tables.old.now code self.now) }
         ensures extends { Extends tables.old tables.new };
 
     /// Does the same if the event's checks found this code on the facts as they are. Nothing is looked up that they
     /// looked up.
-    fn remember_checked(&self, tables: &mut Tables, code: u32) -> Result<(), NoMemory>
+    fn record_failed_checked(&self, tables: &mut Tables, code: u32) -> Result<(), NoMemory>
         requires { (timestamp : Option ℕ) × (code ≡ verdict_at operation tables.old.now timestamp self.now) }
-        ensures facts { IfOk result (λ _. tables.new.now ≡ operation.remembered tables.old.now code self.now) }
+        ensures facts { IfOk result (λ _. tables.new.now ≡ operation.after_failure tables.old.now code self.now) }
         ensures extends { Extends tables.old tables.new };
 }
 
@@ -119,24 +119,24 @@ impl CreateEvent for Account {
         true
     }
 
-    fn examine(
+    fn try_store(
         &self,
         tables: &mut Tables,
         timestamp: u64,
         _seems_stored: bool,
     ) -> Result<u32, NoMemory> {
         let code = new_account_verdict(self).number();
-        if code == 0 && tables.add_new_account(self, timestamp)? {
+        if code == 0 && tables.insert_account(self, timestamp)? {
             return Ok(0);
         }
         Ok(account_verdict(tables, self).number())
     }
 
-    fn remember(&self, _tables: &mut Tables, _code: u32) -> Result<(), NoMemory> {
+    fn record_failed(&self, _tables: &mut Tables, _code: u32) -> Result<(), NoMemory> {
         Ok(())
     }
 
-    fn remember_checked(&self, _tables: &mut Tables, _code: u32) -> Result<(), NoMemory> {
+    fn record_failed_checked(&self, _tables: &mut Tables, _code: u32) -> Result<(), NoMemory> {
         Ok(())
     }
 }
@@ -176,7 +176,7 @@ impl CreateEvent for Transfer {
                 && tables.account_index(self.credit_account_id).is_some()
     }
 
-    fn examine(
+    fn try_store(
         &self,
         tables: &mut Tables,
         timestamp: u64,
@@ -191,12 +191,12 @@ impl CreateEvent for Transfer {
             }
         }
         match Target::of(tables, self) {
-            Target::Between(sides) => examine_moving(tables, sides, timestamp, self),
-            Target::Named(pending) => examine_resolving(tables, pending, timestamp, self),
+            Target::Between(sides) => try_store_between(tables, sides, timestamp, self),
+            Target::Named(pending) => try_store_resolving(tables, pending, timestamp, self),
         }
     }
 
-    fn remember(&self, tables: &mut Tables, code: u32) -> Result<(), NoMemory> {
+    fn record_failed(&self, tables: &mut Tables, code: u32) -> Result<(), NoMemory> {
         if is_transient(code) && !tables.failed(self.id) {
             add_failed(tables, self.id)?;
         }
@@ -204,7 +204,7 @@ impl CreateEvent for Transfer {
     }
 
     #[inline(never)]
-    fn remember_checked(&self, tables: &mut Tables, code: u32) -> Result<(), NoMemory> {
+    fn record_failed_checked(&self, tables: &mut Tables, code: u32) -> Result<(), NoMemory> {
         if is_transient(code) {
             add_failed(tables, self.id)?;
         }
@@ -258,13 +258,13 @@ fn store_new(
     let Some(credit) = sides.credit else {
         unreachable!()
     };
-    tables.add_new_between(event, timestamp, debit, credit)
+    tables.insert_between(event, timestamp, debit, credit)
 }
 
 /// Stores a plain or pending transfer that passes the checks of any event, if its other checks find nothing, and
 /// returns the number of its result. Its id is looked up only as it is stored: most are new.
 #[inline(always)]
-fn examine_moving(
+fn try_store_between(
     tables: &mut Tables,
     sides: Sides,
     timestamp: u64,
@@ -302,13 +302,13 @@ fn store_resolved(
     ensures same { result ≢ Ok true → tables.new ≡ tables.old }
 {
     let Some(index) = pending else { unreachable!() };
-    tables.resolve_new_at(transfer, index)
+    tables.insert_resolving(transfer, index)
 }
 
 /// Stores a post or a void that passes the checks of any event, if its other checks find nothing, and returns the
 /// number of its result. The transfer that it names is read once.
 #[inline(never)]
-fn examine_resolving(
+fn try_store_resolving(
     tables: &mut Tables,
     pending: Option<usize>,
     timestamp: u64,

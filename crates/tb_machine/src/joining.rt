@@ -1,11 +1,11 @@
 //! What joined packets give.
 
 ghost use Rattle.std.specs.Prelude.{ℕ, List};
-ghost use Rattle.tb_layout.specs.Account.{is_linked as is_linked_account};
-ghost use Rattle.tb_layout.specs.Transfer.{is_linked as is_linked_transfer};
-ghost use Rattle.tb_layout.specs.Events.{Accounts, Transfers};
-ghost use Rattle.tb_machine.specs.Replay.{State};
-ghost use Rattle.tb_machine.specs.Joining.{JoiningIsInvisible, GivesAsAlone};
+ghost use Rattle.tb_layout.specs.claim.Account.{is_linked as is_linked_account};
+ghost use Rattle.tb_layout.specs.claim.Transfer.{is_linked as is_linked_transfer};
+ghost use Rattle.tb_layout.specs.claim.Events.{Accounts, Transfers};
+ghost use Rattle.tb_machine.specs.claim.Replay.{State};
+ghost use Rattle.tb_machine.specs.clauses.Joining.{JoiningIsInvisible, GivesAsAlone};
 
 /// Establishes that batching is invisible. The packets of a group, one packet, open or not, or several of one
 /// operation, none of them open, may be committed as one: the failures cut by the packets' ranges are those of each

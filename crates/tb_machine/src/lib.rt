@@ -11,6 +11,7 @@ mod account_verdict;
 mod chain;
 mod clock;
 mod commit;
+mod each_account;
 mod event;
 mod fault;
 mod joining;
@@ -23,6 +24,7 @@ mod resolved;
 mod resolving_verdict;
 mod transfer_verdict;
 
+pub use each_account::EachAccount;
 pub use joining::joining_is_invisible;
 pub use machine::Machine;
 pub use tb_tables::{Counts, Seed};

@@ -1,8 +1,8 @@
 //! Looking accounts up.
 
 ghost use Rattle.std.specs.Prelude.{◌≡◌, ◌<◌, ◌≤◌, ◌+◌, ◌++◌, [], ◌∷◌, length, map, vec_len, vec_capacity};
-ghost use Rattle.tb_layout.specs.Bytes.{little_endian};
-ghost use Rattle.tb_machine.specs.Replay.{accounts_found};
+ghost use Rattle.tb_layout.specs.claim.Bytes.{little_endian};
+ghost use Rattle.tb_machine.specs.claim.Replay.{accounts_found};
 
 use tb_layout::{Account, read_id};
 use tb_tables::Tables;

@@ -1,17 +1,18 @@
 //! The machine.
 
 ghost use Rattle.std.specs.Prelude.{◌≡◌, ◌==◌, ◌||◌, ◌/◌, ◌%◌, ◌≤◌, [], true, length, map, slice_get, vec_capacity, OnOk, OnErr};
-ghost use Rattle.tb_layout.specs.Events.{events_of, ids_of, chunks, create_accounts, create_transfers};
-ghost use Rattle.tb_tables.specs.Counts.{counts_of};
-ghost use Rattle.tb_tables.specs.Facts.{transfer_with};
-ghost use Rattle.tb_tables.specs.inside.Status.{status_if_pending, status_with};
-ghost use Rattle.tb_tables.specs.Balances.{balanced_account};
-ghost use Rattle.tb_layout.specs.inside.Limits.{batch_max, moment_max};
-ghost use Rattle.tb_layout.specs.Limits.{clock_max};
-ghost use Rattle.tb_machine.specs.Chain.{events_results, failures_from};
+ghost use Rattle.tb_layout.specs.claim.Events.{events_of, ids_of, chunks, create_accounts, create_transfers};
+ghost use Rattle.tb_tables.specs.clauses.Counts.{counts_of};
+ghost use Rattle.tb_tables.specs.claim.Facts.{transfer_with};
+ghost use Rattle.tb_tables.specs.clauses.Status.{status_if_pending, status_with};
+ghost use Rattle.tb_tables.specs.claim.Balances.{balanced_account};
+ghost use Rattle.tb_layout.specs.claim.Bounds.{batch_max, moment_max};
+ghost use Rattle.tb_layout.specs.claim.Limits.{clock_max};
+ghost use Rattle.tb_machine.specs.claim.Chain.{events_results, failures_from};
 
 use crate::clock::clock_after;
 use crate::commit::commit_chains;
+use crate::each_account::EachAccount;
 use crate::event::CreateEvent;
 use crate::lookup::look_up;
 use std::alloc::Global;
@@ -34,8 +35,8 @@ impl Drop for Machine {
 }
 
 impl Model for Machine {
-    ghost use Rattle.tb_machine.specs.Replay.{State};
-    ghost use Rattle.tb_machine.specs.Invariant.{IsMachine};
+    ghost use Rattle.tb_machine.specs.claim.Replay.{State};
+    ghost use Rattle.tb_machine.specs.clauses.Invariant.{IsMachine};
 
     ghost Value = { State };
 
@@ -45,9 +46,9 @@ impl Model for Machine {
 }
 
 impl Machine {
-    ghost use Rattle.tb_machine.specs.Replay.{opening, failures_of, accounts_found, after_packet, after_pulse};
-    ghost use Rattle.tb_machine.specs.Examining.{after_results};
-    ghost use Rattle.tb_machine.specs.inside.Accounts.{balanced_accounts};
+    ghost use Rattle.tb_machine.specs.claim.Replay.{opening, failures_of, accounts_found, after_packet, after_pulse};
+    ghost use Rattle.tb_machine.specs.inside.Examining.{after_results};
+    ghost use Rattle.tb_machine.specs.clauses.Accounts.{balanced_accounts};
 
     /// Returns a machine without facts. Its clock starts at a number of nanoseconds, 0 to `CLOCK_MAX`; the first event
     /// gets the next one as its timestamp. Takes no memory.
@@ -199,6 +200,14 @@ impl Machine {
         ensures { result ≡ length self.now.facts.accounts }
     {
         self.tables.accounts()
+    }
+
+    /// Returns an iterator over all accounts, in the order of making, each with its balances. Each step costs what
+    /// `account_at` costs, and takes no memory.
+    pub fn each_account(&self) -> EachAccount<'_>
+        ensures { result ≡ balanced_accounts self.now.facts }
+    {
+        EachAccount::of(self)
     }
 
     /// Returns how much is stored.

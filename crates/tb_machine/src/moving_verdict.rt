@@ -2,10 +2,10 @@
 
 ghost use Rattle.std.specs.Prelude.{◌≡◌, ◌+◌, nat_lt};
 ghost use Rattle.tb_layout.specs.declared.transfer_code.TransferCode.TheVariants.{Ok};
-ghost use Rattle.tb_tables.specs.Balances.{balanced_account};
-ghost use Rattle.tb_machine.specs.Checks.{first_row};
-ghost use Rattle.tb_machine.specs.Prefetch.{AreSides};
-ghost use Rattle.tb_machine.specs.TransferVerdict as spec;
+ghost use Rattle.tb_tables.specs.claim.Balances.{balanced_account};
+ghost use Rattle.tb_machine.specs.claim.Checks.{first_row};
+ghost use Rattle.tb_machine.specs.inside.Prefetch.{AreSides};
+ghost use Rattle.tb_machine.specs.claim.TransferVerdict as spec;
 
 use crate::clock::expires_at;
 use crate::prefetch::{Sides, account_at};

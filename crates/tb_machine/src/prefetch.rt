@@ -1,9 +1,9 @@
 //! What is looked up for a transfer before its checks.
 
 ghost use Rattle.std.specs.Prelude.{◌≡◌, ℕ};
-ghost use Rattle.tb_tables.specs.inside.Indices.{IsIndexOf};
-ghost use Rattle.tb_tables.specs.Balances.{balanced_account};
-ghost use Rattle.tb_machine.specs.Prefetch.{IsTarget};
+ghost use Rattle.tb_tables.specs.clauses.Indices.{IsIndexOf};
+ghost use Rattle.tb_tables.specs.claim.Balances.{balanced_account};
+ghost use Rattle.tb_machine.specs.inside.Prefetch.{IsTarget};
 
 use crate::resolved::is_resolving;
 use tb_layout::{Account, Transfer};

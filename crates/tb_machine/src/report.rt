@@ -1,9 +1,9 @@
 //! The failures of a chain that failed.
 
 ghost use Rattle.std.specs.Prelude.{◌≡◌, ◌+◌, ◌^◌, ◌<◌, ◌≤◌, ◌++◌, replicate, vec_len, vec_capacity};
-ghost use Rattle.tb_machine.specs.Chain.{linked_event_failed, failures_from};
+ghost use Rattle.tb_machine.specs.claim.Chain.{linked_event_failed, failures_from};
 ghost use Rattle.tb_machine.specs.inside.Faults.{results_of_failed};
-ghost use Rattle.tb_machine.specs.Examining.{LiesBelow};
+ghost use Rattle.tb_machine.specs.inside.Examining.{LiesBelow};
 
 use crate::fault::ChainFault;
 use tb_layout::Failure;

@@ -1,9 +1,9 @@
 //! What a post or a void leaves to the transfer that it names.
 
 ghost use Rattle.std.specs.Prelude.{◌≡◌, true};
-ghost use Rattle.tb_layout.specs.Transfer.{is_resolving as is_resolving_event};
-ghost use Rattle.tb_tables.specs.Facts.{transfer_with};
-ghost use Rattle.tb_machine.specs.TransferVerdict as spec;
+ghost use Rattle.tb_layout.specs.claim.Transfer.{is_resolving as is_resolving_event};
+ghost use Rattle.tb_tables.specs.claim.Facts.{transfer_with};
+ghost use Rattle.tb_machine.specs.claim.TransferVerdict as spec;
 
 use tb_layout::Transfer;
 use tb_tables::Tables;

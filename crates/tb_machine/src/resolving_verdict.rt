@@ -3,13 +3,13 @@
 ghost use Rattle.std.specs.Prelude.{◌≡◌, ◌≢◌, Some, true, slice_get, IfOk, OnOk, IfErr, IfNone, MatchOption};
 ghost use Rattle.tb_layout.specs.declared.transfer_code.TransferCode.{TransferCode as Code};
 ghost use Rattle.tb_layout.specs.declared.transfer_code.TransferCode.TheVariants.{Ok as OkCode};
-ghost use Rattle.tb_layout.specs.TransferCode.{number_of};
-ghost use Rattle.tb_layout.specs.Transfer.{is_pending};
-ghost use Rattle.tb_tables.specs.Status.{status_of, is_due as is_due_at};
-ghost use Rattle.tb_machine.specs.Checks.{first_row};
-ghost use Rattle.tb_machine.specs.Prefetch.{IsTarget};
+ghost use Rattle.tb_layout.specs.claim.TransferCode.{number_of};
+ghost use Rattle.tb_layout.specs.claim.Transfer.{is_pending};
+ghost use Rattle.tb_tables.specs.claim.Status.{status_of, is_due as is_due_at};
+ghost use Rattle.tb_machine.specs.claim.Checks.{first_row};
+ghost use Rattle.tb_machine.specs.inside.Prefetch.{IsTarget};
 ghost use Rattle.tb_machine.specs.declared.prefetch.Target.TheVariants.{Named};
-ghost use Rattle.tb_machine.specs.TransferVerdict as spec;
+ghost use Rattle.tb_machine.specs.claim.TransferVerdict as spec;
 
 use crate::clock::expires_at;
 use crate::resolved::resolved;

@@ -1,16 +1,16 @@
 //! The checks of an event that asks for a transfer, in their order.
 
 ghost use Rattle.std.specs.Prelude.{◌≡◌, ◌≢◌, ℕ, Some, None, IfNone, IfSome, IfOk, OnOk, IfErr, MatchOption, true};
-ghost use Rattle.tb_layout.specs.Transfer.{is_resolving as is_resolving_event};
+ghost use Rattle.tb_layout.specs.claim.Transfer.{is_resolving as is_resolving_event};
 ghost use Rattle.tb_layout.specs.declared.transfer_code.TransferCode.{TransferCode as Code};
 ghost use Rattle.tb_layout.specs.declared.transfer_code.TransferCode.TheVariants.{Exists};
-ghost use Rattle.tb_layout.specs.TransferCode.{number_of};
-ghost use Rattle.tb_tables.specs.inside.Indices.{IsIndexOfTransfer};
-ghost use Rattle.tb_tables.specs.Facts.{transfer_with};
-ghost use Rattle.tb_machine.specs.TransferVerdict as spec;
-ghost use Rattle.tb_machine.specs.Examining.{transfer_id_verdict};
-ghost use Rattle.tb_machine.specs.Checks.{first_row};
-ghost use Rattle.tb_machine.specs.Prefetch.{IsTarget};
+ghost use Rattle.tb_layout.specs.claim.TransferCode.{number_of};
+ghost use Rattle.tb_tables.specs.clauses.Indices.{IsIndexOfTransfer};
+ghost use Rattle.tb_tables.specs.claim.Facts.{transfer_with};
+ghost use Rattle.tb_machine.specs.claim.TransferVerdict as spec;
+ghost use Rattle.tb_machine.specs.inside.Examining.{transfer_id_verdict};
+ghost use Rattle.tb_machine.specs.claim.Checks.{first_row};
+ghost use Rattle.tb_machine.specs.inside.Prefetch.{IsTarget};
 ghost use Rattle.tb_machine.specs.declared.prefetch.Target.TheVariants.{Between, Named};
 
 use crate::moving_verdict::moving_verdict;

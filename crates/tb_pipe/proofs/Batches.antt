@@ -1,21 +1,9 @@
 -- One step of the batcher.
 use Rattle.std.proofs.Common.{refl, sym, ap, subst, ◌∙◌, arith, ◌≡◌, ◌<◌, ⊎_elim, ℕ, Bool, false, true≢false, List, [], ◌∷◌, ◌++◌, length, map, append-nil}
-use Rattle.std.specs.Prelude.{◌||◌}
-use Rattle.std.proofs.lemmas.List.{map-append}
-use Rattle.std.proofs.lemmas.Grind.{flat_map-append}
-use Rattle.tb_work.specs.Packet.{Numbered}
-use Rattle.tb_work.specs.Ahead.{items_in}
-use Rattle.tb_work.specs.declared.item.Item.{Item}
+use Rattle.tb_pipe.proofs.Words.{◌||◌, map-append, flat_map-append, Numbered, items_in, Item, Ticket, is_taken, IsGroup, Parcel, FrontState, Taken, take_result, with_group, group_as_batch, with_end, all_ended, take_step, all_decisions_in, decisions_in, held_by, KnowsEnds, HaveAllEnded, AreJoinedParcels, IsJoinedParcel, Decision, Admitted, AreDecisions, IntakeState, with_empty, with_taken, is_last, has_last, WasEmptyAfter, AreSealedLate, MaySeal, IsBatched, AllBatched}
 use Rattle.tb_work.specs.declared.item.Item.TheVariants as item
-use Rattle.tb_work.specs.declared.item.Ticket.{Ticket}
-use Rattle.tb_batch.specs.Grouping.{is_taken, IsGroup}
-use Rattle.tb_core.specs.declared.parcel.Parcel.{Parcel}
 use Rattle.tb_core.specs.declared.parcel.Parcel.TheVariants as parcel
-use Rattle.tb_core.specs.Front.{FrontState, Taken, take_result, with_group, group_as_batch, with_end, all_ended, take_step, all_decisions_in, decisions_in, held_by, KnowsEnds, HaveAllEnded}
-use Rattle.tb_core.specs.Grouping.{AreJoinedParcels, IsJoinedParcel}
-use Rattle.tb_core.specs.inside.Decision.{Decision, Admitted, AreDecisions}
-use Rattle.tb_submit.specs.Ends.{IntakeState, with_empty, with_taken}
-use Rattle.tb_pipe.specs.Carried.{is_last, has_last, WasEmptyAfter, AreSealedLate, MaySeal, IsBatched, AllBatched}
+use Rattle.tb_core.specs.clauses.Taking.{HasTakenOne}
 use Rattle.tb_pipe.proofs.Late.{StaysLate, step_late, empty_later, empty_again, empty_now, late_with}
 use Rattle.tb_pipe.proofs.Lists.{either_same, none_more, all_more}
 
@@ -44,39 +32,35 @@ no_last refused front sender item.Close = none_sealed front.held
 
 -- ---- one step
 
-pub ticket_more : (intake : IntakeState) (ticket : Ticket) (front next : FrontState)
-    (given parcels : List Parcel) → (refused : Bool)
-    × (take_result next parcels ≡ take_step refused front ticket.sender ticket.item) →
-    ((items : List Item) (sent : List Decision) → AreDecisions items front.closed front.stopped (sent ++ held_by front)
-    → AreDecisions (items ++ ticket.item ∷ []) next.closed next.stopped
-    ((sent ++ all_decisions_in parcels) ++ held_by next)) →
-    AreJoinedParcels front.limit parcels → ((queue : List Ticket) → KnowsEnds queue front
-    → KnowsEnds (queue ++ ticket ∷ []) next) → (next.limit ≡ front.limit)
-    × (next.submitters ≡ front.submitters) → all_ended front ≡ false →
-    IsBatched intake front given → IsBatched (with_taken intake ticket) next (given ++ parcels)
-ticket_more intake ticket front next given parcels step passes lawful ends same unended is = record {
-  under = same.0 ∙ is.under;
-  among = same.1 ∙ is.among;
+pub ticket_more : (intake : IntakeState) (ticket : Ticket) (front next : FrontState) (given parcels : List Parcel)
+    → (refused : Bool) × HasTakenOne refused front ticket (take_result next parcels) → all_ended front ≡ false
+    → IsBatched intake front given → IsBatched (with_taken intake ticket) next (given ++ parcels)
+ticket_more intake ticket front next given parcels step unended is = record {
+  under = took.same.0 ∙ is.under;
+  among = took.same.1 ∙ is.among;
   passes = subst (λ items. AreDecisions items next.closed next.stopped
       (all_decisions_in (given ++ parcels) ++ held_by next))
       (sym (map-append (λ (ticket : Ticket). ticket.item) intake.taken (ticket ∷ [])))
       (subst (λ ps. AreDecisions (items_in intake.taken ++ ticket.item ∷ []) next.closed next.stopped (ps ++ held_by next))
       (sym (flat_map-append decisions_in given parcels))
-      (passes (items_in intake.taken) (all_decisions_in given) is.passes));
+      (took.passes (items_in intake.taken) (all_decisions_in given) is.passes));
   joined = all_more (IsJoinedParcel intake.limit) given parcels is.joined
-      (subst (λ n. AreJoinedParcels n parcels) is.under lawful);
+      (subst (λ n. AreJoinedParcels n parcels) is.under took.lawful);
   late = stays.0;
   empty = stays.1;
   unended = none_more is_last given parcels is.unended
-      (ap (λ (taken : Taken). has_last taken.parcels) step.1 ∙ no_last step.0 front ticket.sender ticket.item);
-  knows = ends intake.taken is.knows;
+      (ap (λ (taken : Taken). has_last taken.parcels) took.took ∙ no_last step.0 front ticket.sender ticket.item);
+  knows = took.ends intake.taken is.knows;
 }
   where
+    took : HasTakenOne step.0 front ticket (take_result next parcels)
+    took = step.1
+
     Empty : List Parcel → Type 0
     Empty = WasEmptyAfter (with_taken intake ticket)
 
     stays : StaysLate intake.limit Empty given (take_result next parcels)
-    stays = subst (StaysLate intake.limit Empty given) (sym step.1)
+    stays = subst (StaysLate intake.limit Empty given) (sym took.took)
         (step_late intake.limit Empty step.0 front ticket.sender ticket.item given is.under unended
         (late_with intake.limit (WasEmptyAfter intake) Empty (given ++ group_as_batch front.held)
         (empty_later intake ticket) is.late)

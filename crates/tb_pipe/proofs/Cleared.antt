@@ -1,9 +1,7 @@
 -- Batches that a gate let through, one after the other.
 use Rattle.std.proofs.Common.{refl, ap, ◌∙◌, subst, sym, append_assoc, append-nil, ◌≡◌, ℕ, true, arith, length, List, [], ◌∷◌, ◌++◌}
 use Rattle.std.proofs.lemmas.Bool.{eqb-true}
-use Rattle.std.specs.Prelude.{◌==◌}
-use Rattle.tb_core.specs.declared.parcel.Parcel.{Parcel}
-use Rattle.tb_pipe.specs.Carried.{is_batch, next_number, number_after, AreLetThrough, AreCleared}
+use Rattle.tb_pipe.proofs.Words.{◌==◌, Parcel, is_batch, next_number, number_after, AreLetThrough, AreCleared}
 
 -- one parcel more is counted
 number_more : (number : ℕ) (xs : List Parcel) (handed : Parcel)

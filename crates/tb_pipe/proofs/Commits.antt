@@ -1,18 +1,10 @@
 -- One step of the committer.
 use Rattle.std.proofs.Common.{refl, sym, ap, subst, ◌∙◌, ◌≡◌, ℕ, Bool, true, false, List, [], ◌∷◌, ◌++◌, length, append-nil}
-use Rattle.std.specs.Prelude.{◌||◌}
-use Rattle.std.proofs.lemmas.Grind.{flat_map-append}
-use Rattle.tb_core.specs.declared.parcel.Parcel.{Parcel}
+use Rattle.tb_pipe.proofs.Words.{◌||◌, flat_map-append, Parcel, Outcomes, all_decisions_in, decisions_in, AreJoined, AreJoinedParcels, IsJoinedParcel, LedgerState, groups_since, Commits, replies_in, is_last, is_final, has_final, answers_in, given_on, IsCommitted, CommittedTo}
 use Rattle.tb_core.specs.declared.parcel.Parcel.TheVariants as parcel
-use Rattle.tb_core.specs.declared.outcomes.Outcomes.{Outcomes}
 use Rattle.tb_core.specs.declared.outcomes.Outcomes.TheVariants as outcomes
-use Rattle.tb_core.specs.Front.{all_decisions_in, decisions_in}
-use Rattle.tb_core.specs.Grouping.{AreJoined, AreJoinedParcels, IsJoinedParcel}
-use Rattle.tb_core.specs.AnyLedger.{Applying, IsApplied}
-use Rattle.tb_core.specs.Journal.{LedgerState, groups_since}
-use Rattle.tb_core.specs.Ledger.{Applied, apply_result, must_stop, apply_step}
-use Rattle.tb_core.specs.Run.{Commits, replies_in}
-use Rattle.tb_pipe.specs.Carried.{is_last, is_final, has_final, answers_in, given_on, IsCommitted, CommittedTo}
+use Rattle.tb_core.specs.claim.AnyLedger.{Applying, IsApplied}
+use Rattle.tb_core.specs.claim.Ledger.{Applied, apply_result, must_stop, apply_step}
 use Rattle.tb_pipe.proofs.Lists.{either_same, none_more, any_more, all_first}
 
 -- ---- the last parcel yields the last outcome, and no other does

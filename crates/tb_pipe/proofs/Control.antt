@@ -1,7 +1,6 @@
 -- The sender after the submitters is the control.
 use Rattle.std.proofs.Common.{◌≡◌, ℕ, zero, suc, List, [], ◌∷◌, length, map, refl, ap, sym, ◌∙◌, arith}
-use Rattle.std.proofs.lemmas.List.{length-map}
-use Rattle.tb_submit.specs.Ends.{EndedState, Origin, SenderState, end_origin, queued_by}
+use Rattle.tb_pipe.proofs.Words.{length-map, EndedState, Origin, SenderState, end_origin, queued_by}
 
 last_is_control : (ends : List EndedState) (control : SenderState) (n : ℕ) → length ends ≡ n
     → queued_by ends control n ≡ control.queued

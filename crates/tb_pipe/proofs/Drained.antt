@@ -1,36 +1,20 @@
 -- What a run that has ended did.
 use Rattle.std.proofs.Common.{refl, sym, ap, subst, ◌∙◌, arith, ◌≡◌, ◌<◌, ◌≤◌, ℕ, zero, suc, ◌/◌, Bool, true, false, true≢false, List, [], ◌∷◌, ◌++◌, append-nil, length, map, drop}
-use Rattle.std.specs.Prelude.{◌==◌, IsOk, Some, None, if◌then◌else◌}
+use Rattle.tb_pipe.proofs.Words.{◌==◌, IsOk, Some, None, if◌then◌else◌, length-map, flat_map-append, events_in, ReplyValue, ahead, items_in, Item, Ticket, Parcel, Outcomes, all_decisions_in, decisions_in, AreJoined, AreJoinedParcels, IsJoinedParcel, IsGrouping, IsInputWithin, AreInputsWithin, IsPrefix, LedgerState, groups_since, inputs_since, Commits, Ran, replies_in, Outlet, IntakeState, is_last, is_final, has_final, answers_in, AllBatched, AllCommitted}
 use Rattle.std.specs.Simd.{first_chunks}
-use Rattle.std.proofs.lemmas.List.{length-map}
-use Rattle.std.proofs.lemmas.Grind.{flat_map-append}
-use Rattle.tb_layout.specs.Events.{Input, Accounts, Transfers, Ids, accounts_of, transfers_of, ids_of, chunks}
-use Rattle.tb_layout.specs.Account.{account_of}
-use Rattle.tb_layout.specs.Bytes.{little_endian}
-use Rattle.tb_layout.specs.Transfer.{transfer_of}
-use Rattle.tb_layout.specs.inside.Events.{count_of}
+use Rattle.tb_layout.specs.claim.Events.{Input, Accounts, Transfers, Ids, accounts_of, transfers_of, ids_of, chunks}
+use Rattle.tb_layout.specs.claim.Account.{account_of}
+use Rattle.tb_layout.specs.claim.Bytes.{little_endian}
+use Rattle.tb_layout.specs.claim.Transfer.{transfer_of}
+use Rattle.tb_layout.specs.claim.EventCounts.{count_of}
 use Rattle.tb_work.proofs.Admissions.{admitted_are_whole}
-use Rattle.tb_work.specs.Admission.{admission_of, admission_of_size}
-use Rattle.tb_work.specs.Packet.{events_in, ReplyValue}
-use Rattle.tb_work.specs.Ahead.{ahead, items_in}
-use Rattle.tb_work.specs.declared.item.Item.{Item}
+use Rattle.tb_work.specs.claim.Admission.{admission_of, admission_of_size}
 use Rattle.tb_work.specs.declared.item.Item.TheVariants as item
-use Rattle.tb_work.specs.declared.item.Ticket.{Ticket}
 use Rattle.tb_work.specs.declared.packet.Packet.{Packet}
-use Rattle.tb_core.specs.declared.parcel.Parcel.{Parcel}
 use Rattle.tb_core.specs.declared.parcel.Parcel.TheVariants as parcel
-use Rattle.tb_core.specs.declared.outcomes.Outcomes.{Outcomes}
 use Rattle.tb_core.specs.declared.outcomes.Outcomes.TheVariants as outcomes
-use Rattle.tb_core.specs.Front.{all_decisions_in, decisions_in}
-use Rattle.tb_core.specs.Grouping.{AreJoined, AreJoinedParcels, IsJoinedParcel, IsGrouping, IsWithin as IsInputWithin, AreWithin as AreInputsWithin}
-use Rattle.tb_core.specs.EndedRun.{IsPrefix}
-use Rattle.tb_core.specs.Journal.{LedgerState, groups_since, inputs_since}
 use Rattle.tb_core.proofs.Since.{groups-inputs}
-use Rattle.tb_core.specs.Run.{Commits, Ran, replies_in}
-use Rattle.tb_rings.specs.declared.Outlet.{Outlet}
-use Rattle.tb_submit.specs.Ends.{IntakeState}
-use Rattle.tb_submit.specs.Lists.{IsWithin, AreWithin}
-use Rattle.tb_pipe.specs.Carried.{is_last, is_final, has_final, answers_in, AllBatched, AllCommitted}
+use Rattle.tb_submit.specs.clauses.Lists.{IsWithin, AreWithin}
 use Rattle.tb_pipe.proofs.Lists.{all_taken, all_more, all_first}
 
 pub record HasRun (start : LedgerState) (limit : ℕ) (queue : List Ticket) (ledger : LedgerState)

@@ -1,23 +1,7 @@
 -- Stages that took nothing.
 use Rattle.std.proofs.Common.{refl, sym, ap, subst, ◌∙◌, ◌≡◌, ℕ, List, [], ◌∷◌, ◌++◌}
-use Rattle.std.proofs.lemmas.List.Elements.{All-get_or}
-use Rattle.std.specs.Prelude.{All}
-use Rattle.tb_work.specs.Packet.{Numbered, ReplyValue}
-use Rattle.tb_work.specs.Ahead.{items_in}
-use Rattle.tb_core.specs.declared.parcel.Parcel.{Parcel}
+use Rattle.tb_pipe.proofs.Words.{All-get_or, All, Numbered, ReplyValue, items_in, Parcel, Outcomes, replies_to, AreJoined, LedgerState, groups_since, Commits, FrontState, group_as_batch, held_by, KnowsEnds, AreDecisions, given_to, Outlet, IntakeState, IsBatched, IsCommitted, answers_in, AllGiven}
 use Rattle.tb_core.specs.declared.parcel.Parcel.TheVariants as parcel
-use Rattle.tb_core.specs.declared.outcomes.Outcomes.{Outcomes}
-use Rattle.tb_core.specs.Due.{replies_to}
-use Rattle.tb_core.specs.Grouping.{AreJoined}
-use Rattle.tb_core.specs.Journal.{LedgerState, groups_since}
-use Rattle.tb_core.specs.Run.{Commits}
-use Rattle.tb_core.specs.Front.{FrontState, group_as_batch, held_by, KnowsEnds}
-use Rattle.tb_core.specs.inside.Decision.{AreDecisions}
-use Rattle.tb_rings.specs.Ends.{given as given_to}
-use Rattle.tb_rings.specs.declared.Outlet.{Outlet}
-use Rattle.tb_submit.specs.Ends.{IntakeState}
-use Rattle.tb_pipe.specs.Carried.{IsBatched, IsCommitted, answers_in}
-use Rattle.tb_pipe.specs.Outlets.{AllGiven}
 
 pub fresh_batched : (intake : IntakeState) (front : FrontState) (given : List Parcel)
     → front.limit ≡ intake.limit → front.submitters ≡ intake.submitters

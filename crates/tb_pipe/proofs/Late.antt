@@ -1,22 +1,10 @@
 -- Batches that are sealed only when they must be.
 use Rattle.std.proofs.Common.{refl, sym, ap, subst, ◌∙◌, ◌≡◌, ◌⊎◌, inl, inr, ⊎_elim, ℕ, ◌+◌, Bool, true, false, true≢false, List, [], ◌∷◌, ◌++◌, length, append_assoc, append-nil, Option, Some, None}
-use Rattle.std.specs.Prelude.{◌||◌, is_some, if◌then◌else◌, Contains}
-use Rattle.std.proofs.lemmas.List.Elements.{Contains-append_left}
-use Rattle.tb_work.specs.Packet.{Numbered, input_of}
-use Rattle.tb_work.specs.Ahead.{ahead, items_in}
-use Rattle.tb_layout.specs.Events as input
-use Rattle.tb_work.specs.declared.item.Item.{Item}
+use Rattle.tb_pipe.proofs.Words.{◌||◌, is_some, if◌then◌else◌, Contains, Contains-append_left, Numbered, input_of, ahead, items_in, Item, Ticket, is_taken, Parcel, FrontState, Taken, take_result, with_group, group_as_batch, with_end, all_ended, take_step, all_decisions_in, Decision, AreDecisions, decisions_from, inputs_in, Ahead, Behind, IntakeState, with_taken, with_empty, is_batch, goes_on, WasEmptyAfter, BeginsNext}
+use Rattle.tb_layout.specs.claim.Events as input
 use Rattle.tb_work.specs.declared.item.Item.TheVariants as item
-use Rattle.tb_work.specs.declared.item.Ticket.{Ticket}
-use Rattle.tb_batch.specs.Grouping.{is_taken}
 use Rattle.tb_core.specs.declared.parcel.Cause.TheVariants.{Shutdown, Stopped}
-use Rattle.tb_core.specs.declared.parcel.Parcel.{Parcel}
 use Rattle.tb_core.specs.declared.parcel.Parcel.TheVariants as parcel
-use Rattle.tb_core.specs.Front.{FrontState, Taken, take_result, with_group, group_as_batch, with_end, all_ended, take_step, all_decisions_in}
-use Rattle.tb_core.specs.inside.Decision.{Decision, AreDecisions, decisions_from, inputs_in}
-use Rattle.tb_core.specs.Due.{Ahead, Behind}
-use Rattle.tb_submit.specs.Ends.{IntakeState, with_taken, with_empty}
-use Rattle.tb_pipe.specs.Carried.{is_batch, goes_on, WasEmptyAfter, BeginsNext}
 
 -- ---- two values in a row
 

@@ -1,3 +1,4 @@
+pub mod Words
 pub mod Lists
 mod Late
 pub mod Batches

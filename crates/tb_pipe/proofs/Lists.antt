@@ -1,6 +1,6 @@
 -- Lists with one marked value.
 use Rattle.std.proofs.Common.{refl, sym, ap, ◌∙◌, ◌≡◌, ◌⊎◌, inl, inr, ⊎_elim, Bool, true, false, true≢false, List, [], ◌∷◌, ◌++◌, append-nil}
-use Rattle.std.specs.Prelude.{◌||◌, if◌then◌else◌}
+use Rattle.tb_pipe.proofs.Words.{◌||◌, if◌then◌else◌}
 use Rattle.std.specs.List.{list_any, AllByRecursion}
 use Rattle.std.proofs.lemmas.List.Folds.{list_any-append}
 

@@ -1,15 +1,8 @@
 -- Rings and origins that stay the same while the stages run.
 use Rattle.std.proofs.Common.{refl, sym, ap, subst, ◌∙◌, arith, ◌≡◌, ◌<◌, ℕ, zero, suc, ◌+◌, get_or, List, [], ◌∷◌, length}
-use Rattle.tb_work.specs.Packet.{ReplyValue}
-use Rattle.tb_rings.specs.Ends.{outlet_ring}
-use Rattle.tb_rings.specs.declared.Outlet.{Outlet}
-use Rattle.tb_submit.specs.Ends.{IntakeState, Origin, Seat, origins, origins_from, seat_at}
-use Rattle.tb_core.specs.Journal.{LedgerState}
-use Rattle.tb_pipe.specs.Outlets.{SameOutlets}
-use Rattle.tb_pipe.specs.Stages.{HaveServed}
-use Rattle.tb_pipe.specs.Run.{IsPipeline, IsServed, pipeline_of, served_of}
+use Rattle.tb_pipe.proofs.Words.{ReplyValue, outlet_ring, Outlet, IntakeState, Origin, Seat, origins, origins_from, seat_at, LedgerState, SameOutlets, IsPipeline, IsServed, pipeline_of, served_of, StoppedStages}
+use Rattle.tb_pipe.specs.clauses.Stages.{HaveServed}
 use Rattle.tb_pipe.specs.declared.stages.Stages.{Stages}
-use Rattle.tb_pipe.specs.declared.stages.Remains.{Remains}
 
 -- the same rings have the same origins
 same_origins : (seats : ℕ → Seat) (n : ℕ) (old new : List (Outlet ReplyValue)) → SameOutlets old new
@@ -43,12 +36,12 @@ seat-origins seats n (outlet ∷ outlets) (suc k) d below =
 -- ---- serving
 
 -- what serving leaves is known of what it was handed
-pub record IsServedOf {L : Type 0} (is : L → LedgerState → Type 0) (stages : Stages L) (remains : Remains L) : Type 0 where
+pub record IsServedOf {L : Type 0} (is : L → LedgerState → Type 0) (stages : Stages L) (remains : StoppedStages L) : Type 0 where
   pub served : IsServed is remains
   pub start : (served_of remains).start ≡ (pipeline_of stages).start
   pub submitters : (served_of remains).submitters ≡ (pipeline_of stages).submitters
 
-pub served_is : {L : Type 0} (may_be : L → LedgerState → Type 0) (stages : Stages L) (remains : Remains L)
+pub served_is : {L : Type 0} (may_be : L → LedgerState → Type 0) (stages : Stages L) (remains : StoppedStages L)
     → IsPipeline may_be stages → HaveServed may_be stages remains → IsServedOf may_be stages remains
 served_is {L = L} may_be stages remains is served =
     let same = served.intake in

@@ -1,10 +1,6 @@
 -- What drivers have seen, once their ends are settled.
 use Rattle.std.proofs.Common.{◌≡◌, ◌∙◌, ◌<◌, ℕ, zero, suc, List, [], ◌∷◌, Some, length, slice_get, get_or, ap, sym, subst, arith}
-use Rattle.std.specs.Prelude.{slice_index_or}
-use Rattle.std.proofs.lemmas.Option.{slice_get_within, slice_get-get_or, get_or_from_slice_get}
-use Rattle.tb_submit.specs.Ends.{EndedState, SenderState, queued_by}
-use Rattle.tb_work.specs.Packet.{Numbered, ReplyValue}
-use Rattle.tb_drive.specs.Seen.{HaveSeenEnds, jobs_in}
+use Rattle.tb_pipe.proofs.Words.{slice_index_or, slice_get_within, slice_get-get_or, get_or_from_slice_get, EndedState, SenderState, queued_by, Numbered, ReplyValue, HaveSeenEnds, jobs_in}
 
 -- what a submitter queued is in its end
 queued_by_end : (ends : List EndedState) (control : SenderState) (k : ℕ) (ended : EndedState)

@@ -1,6 +1,2 @@
-pub mod Carried
-pub mod Outlets
-pub mod Stages
-pub mod Run
-pub mod SettledRun
-pub mod Reported
+pub mod claim
+pub mod clauses

@@ -1,10 +1,10 @@
 //! The batcher's stage: tickets from the submission queue, batches into their ring.
 
 ghost use Rattle.std.specs.Prelude.{◌≡◌, ◌≤◌, [], ◌∷◌, ◌++◌, false};
-ghost use Rattle.tb_core.specs.Front.{all_ended};
-ghost use Rattle.tb_rings.specs.Ends.{given, SameOutlet};
-ghost use Rattle.tb_submit.specs.Ends.{IntakeState, with_taken};
-ghost use Rattle.tb_pipe.specs.Carried.{AllBatched, IsBatched, MaySeal, next_number, number_after};
+ghost use Rattle.tb_core.specs.claim.Front.{all_ended};
+ghost use Rattle.tb_rings.specs.clauses.Ends.{given, SameOutlet};
+ghost use Rattle.tb_submit.specs.clauses.Ends.{IntakeState, with_taken};
+ghost use Rattle.tb_pipe.specs.clauses.Carried.{AllBatched, IsBatched, MaySeal, next_number, number_after};
 
 use crate::clearing::is_batch;
 use crate::gate::Gate;
@@ -13,7 +13,7 @@ use arrayvec::ArrayVec;
 use std::mem;
 use std::sync::Wait;
 use tb_core::{Front, Parcel};
-use tb_rings::{Outlet, SpinWait};
+use tb_rings::{IdleWait, Outlet};
 use tb_submit::Intake;
 use tb_work::Ticket;
 
@@ -126,7 +126,7 @@ pub(crate) fn batch_all<R: Wait, G: Gate>(
     ensures all { AllBatched intake.new (given ring.new.outlet) }
 {
     let mut parcels = ArrayVec::new();
-    let spin = SpinWait::new();
+    let idle = IdleWait::new();
     for _ in rt.forever() {
         if front.finished() {
             ring.pass_group(rt, front);
@@ -136,11 +136,11 @@ pub(crate) fn batch_all<R: Wait, G: Gate>(
         match intake.take(rt) {
             Some(ticket) => {
                 ring.pass_ticket(rt, front, &mut parcels, ticket);
-                spin.reset();
+                idle.reset();
             }
             None => {
                 ring.pass_group(rt, front);
-                intake.wait(rt, &spin);
+                intake.wait(rt, &idle);
             }
         }
     }

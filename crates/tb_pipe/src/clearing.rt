@@ -1,7 +1,7 @@
 //! What the committer may apply.
 
 ghost use Rattle.std.specs.Prelude.{◌≡◌, true};
-ghost use Rattle.tb_pipe.specs.Carried.{is_batch, next_number};
+ghost use Rattle.tb_pipe.specs.clauses.Carried.{is_batch, next_number};
 
 use crate::gate::Gate;
 use crossbeam_utils::Backoff;

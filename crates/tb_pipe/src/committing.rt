@@ -1,10 +1,10 @@
 //! The committer's stage: batches from their ring through the ledger, their replies into the next ring.
 
 ghost use Rattle.std.specs.Prelude.{◌≡◌, ℕ, List, [], ◌∷◌, ◌++◌};
-ghost use Rattle.tb_core.specs.Journal.{LedgerState};
+ghost use Rattle.tb_core.specs.claim.Journal.{LedgerState};
 ghost use Rattle.tb_core.specs.declared.parcel.Parcel.{Parcel as ParcelValue};
-ghost use Rattle.tb_rings.specs.Ends.{given, taken, SameInlet, SameOutlet};
-ghost use Rattle.tb_pipe.specs.Carried.{is_last, given_on, AreCleared, IsCommitted, AllCommitted, CommittedTo};
+ghost use Rattle.tb_rings.specs.clauses.Ends.{given, taken, SameInlet, SameOutlet};
+ghost use Rattle.tb_pipe.specs.clauses.Carried.{is_last, given_on, AreCleared, IsCommitted, AllCommitted, CommittedTo};
 
 use crate::clearing::{Cleared, clear};
 use crate::gate::Gate;
@@ -13,7 +13,7 @@ use std::snapshot::Snapshot;
 use std::sync::Wait;
 use std::thread::Promise;
 use tb_core::{AnyLedger, Outcomes, Parcel};
-use tb_rings::{Inlet, Outlet, SpinWait};
+use tb_rings::{IdleWait, Inlet, Outlet};
 
 /// The committer's ends of its two rings, and its ledger.
 #[derive(Drop)]
@@ -32,9 +32,9 @@ pub(crate) struct Commitment<L> {
 
 impl<L: AnyLedger> Promise<Committer<L>> for Commitment<L> {
     ghost use Rattle.std.specs.Prelude.{◌≡◌};
-    ghost use Rattle.tb_rings.specs.Ends.{given, taken, SameOutlet, SameInlet};
-    ghost use Rattle.tb_core.specs.Journal.{LedgerState};
-    ghost use Rattle.tb_pipe.specs.Carried.{IsCommitted, AllCommitted};
+    ghost use Rattle.tb_rings.specs.clauses.Ends.{given, taken, SameOutlet, SameInlet};
+    ghost use Rattle.tb_core.specs.claim.Journal.{LedgerState};
+    ghost use Rattle.tb_pipe.specs.clauses.Carried.{IsCommitted, AllCommitted};
 
     ghost kept_by = { λ p r. SameInlet p.stage.value.inlet r.inlet × SameOutlet p.stage.value.outlet r.outlet
         × ((start : LedgerState) → IsCommitted start (taken p.stage.value.inlet) (L.is p.stage.value.ledger)
@@ -93,13 +93,13 @@ impl<L: AnyLedger> Committer<L> {
             × AreCleared (G.lets_through gate.now) (taken self.old.inlet) (taken self.new.inlet) number }
     {
         let mut batches = 0;
-        let spin = SpinWait::new();
+        let idle = IdleWait::new();
         for _ in rt.forever() {
             let Some(parcel) = self.inlet.take() else {
-                self.inlet.wait(rt, &spin);
+                self.inlet.wait(rt, &idle);
                 continue;
             };
-            spin.reset();
+            idle.reset();
             let cleared = clear(rt, gate, parcel, &mut batches);
             if commit(rt, &mut self.ledger, &mut self.outlet, cleared) {
                 return;

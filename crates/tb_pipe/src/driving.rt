@@ -1,14 +1,12 @@
 //! A run of a pipeline, with a thread for each of its senders.
 
-ghost use Rattle.std.specs.Prelude.{◌≡◌, ◌<◌, ◌≤◌, [], map, length, set, slice_get, Some, None, Err, IfOk, IfErr, OnOk};
-ghost use Rattle.tb_layout.specs.inside.Limits.{queued_max};
-ghost use Rattle.tb_submit.specs.Ends.{SubmitterState, origin_of};
-ghost use Rattle.tb_submit.specs.Refusals.{IsSubmitRefusal, submit_refusal};
-ghost use Rattle.tb_work.specs.declared.refusal.Refusal.TheVariants as refusal;
-ghost use Rattle.tb_drive.specs.Ahead.{with_packet};
-ghost use Rattle.tb_drive.specs.Seen.{HaveSeen};
-ghost use Rattle.tb_drive.specs.Tasks.{task_share};
-ghost use Rattle.tb_pipe.specs.Reported.{AreTasksOf, AreTogether, GoesFrom, HasFinishedWith, HasRun};
+ghost use Rattle.std.specs.Prelude.{◌≡◌, ◌<◌, [], map, length, set, slice_get, Some, IfOk, OnErr};
+ghost use Rattle.tb_submit.specs.clauses.Ends.{SubmitterState, origin_of};
+ghost use Rattle.tb_drive.specs.clauses.Seen.{HaveSeen};
+ghost use Rattle.tb_drive.specs.clauses.Tasks.{task_share, task_submitter};
+ghost use Rattle.tb_pipe.specs.clauses.QueuedAhead.{HasSubmitted};
+ghost use Rattle.tb_pipe.specs.declared.opening.Opened.{Opened};
+ghost use Rattle.tb_pipe.specs.clauses.Reported.{AreTasksOf, AreTogether, GoesFrom, HasReported};
 
 use crate::gate::Open;
 use crate::opening::Opened;
@@ -51,18 +49,10 @@ pub fn submit_ahead<R: Wait, L: AnyLedger>(
     packet: Packet,
 ) -> Result<u64, (Packet, Refusal)>
     requires { submitter < length opened.old.submitters.items }
-    ensures ok { (before : SubmitterState) → slice_get opened.old.submitters.items submitter ≡ Some before
-        → IfOk result (λ number. (number ≡ length before.queued)
-        × (opened.new.submitters.items ≡ set opened.old.submitters.items submitter
-        (with_packet before number packet))) }
-    ensures admitted { (before : SubmitterState) → slice_get opened.old.submitters.items submitter ≡ Some before
-        → OnOk result (submit_refusal before packet ≡ None) }
-    ensures back { IfErr result (λ refused. (refused.0 ≡ packet)
-        × (opened.new.submitters.items ≡ opened.old.submitters.items)) }
-    ensures refusal { (before : SubmitterState) → slice_get opened.old.submitters.items submitter ≡ Some before
-        → length before.queued < queued_max → IfErr result (λ refused. IsSubmitRefusal before packet refused.1) }
-    ensures full { (before : SubmitterState) → slice_get opened.old.submitters.items submitter ≡ Some before
-        → queued_max ≤ length before.queued → result ≡ Err (packet, refusal.Full) }
+    ensures submitted { (before : SubmitterState) → slice_get opened.old.submitters.items submitter ≡ Some before
+        → (after : SubmitterState) × HasSubmitted before packet result after
+        × (opened.new.submitters.items ≡ set opened.old.submitters.items submitter after) }
+    ensures unchanged { OnErr result (opened.new.submitters.items ≡ opened.old.submitters.items) }
     ensures pipeline { opened.new.pipeline ≡ opened.old.pipeline }
     ensures control { opened.new.control ≡ opened.old.control }
     ensures own { map origin_of opened.new.submitters.items ≡ map origin_of opened.old.submitters.items }
@@ -86,9 +76,10 @@ where
     C: ControlDriver + Send + 's,
     R: Threads + Wait + Sync,
     L: AnyLedger + Send,
-    requires { AreTasksOf pipeline.intake pipeline.submitters tasks }
-    ensures reported { IfOk result (λ finished. GoesFrom (L.is pipeline.start) (L.is finished.report.ledger)
-        (HasRun D.has_seen D.has_ended C.has_ended pipeline.intake tasks finished)) }
+    requires { AreTogether pipeline (map task_submitter tasks.submitters) tasks.control.control }
+    ensures reported { (opened : Opened L) → AreTasksOf opened pipeline tasks
+        → IfOk result (λ finished. GoesFrom (L.is pipeline.start) (L.is finished.report.ledger)
+        (HasReported D.has_seen D.has_ended (C.has_ended tasks.control.driver) opened finished)) }
     ensures shares { IfOk result (λ finished. map D.share finished.drivers.items ≡ map task_share tasks.submitters) }
 {
     let running = tasks.start(scope, rt, alloc, stop)?;
@@ -128,9 +119,8 @@ pub fn drive_all<D: Driver + Send, C: ControlDriver + Send, R: Threads + Wait + 
     requires number { length drivers.items ≡ length opened.pipeline.submitters }
     requires seen { HaveSeen D.has_seen drivers.items opened.submitters.items }
     requires queued { C.has_queued control control [] }
-    ensures reported { IfOk result (λ finished. HasFinishedWith D.has_seen D.has_ended (C.has_ended control)
-        opened.pipeline.intake opened.submitters.items opened.control finished opened.pipeline.start
-        finished.report.ledger) }
+    ensures reported { IfOk result (λ finished. HasReported D.has_seen D.has_ended (C.has_ended control) opened finished
+        opened.pipeline.start finished.report.ledger) }
     ensures shares { IfOk result (λ finished. map D.share finished.drivers.items ≡ map D.share drivers.items) }
 {
     drive_over(rt, alloc, opened, drivers, control)
@@ -155,8 +145,7 @@ where
     requires seen { HaveSeen D.has_seen drivers.items opened.submitters.items }
     requires queued { C.has_queued control control [] }
     ensures reported { IfOk result (λ finished. GoesFrom (L.is opened.pipeline.start) (L.is finished.report.ledger)
-        (HasFinishedWith D.has_seen D.has_ended (C.has_ended control) opened.pipeline.intake opened.submitters.items
-        opened.control finished)) }
+        (HasReported D.has_seen D.has_ended (C.has_ended control) opened finished)) }
     ensures shares { IfOk result (λ finished. map D.share finished.drivers.items ≡ map D.share drivers.items) }
 {
     let Opened {
@@ -171,14 +160,15 @@ where
         thread::scope_env(),
         rt,
         |scope| -> Result<Finished<D, C, L>, DriveFault>
-            requires { AreTasksOf pipeline.intake pipeline.submitters tasks }
-            ensures reported { IfOk result (λ finished. GoesFrom (L.is pipeline.start) (L.is finished.report.ledger)
-                (HasRun D.has_seen D.has_ended C.has_ended pipeline.intake tasks finished)) }
+            requires { AreTogether pipeline (map task_submitter tasks.submitters) tasks.control.control }
+            ensures reported { (opened : Opened L) → AreTasksOf opened pipeline tasks
+                → IfOk result (λ finished. GoesFrom (L.is pipeline.start) (L.is finished.report.ledger)
+                (HasReported D.has_seen D.has_ended (C.has_ended tasks.control.driver) opened finished)) }
             ensures shares { IfOk result (λ finished. map D.share finished.drivers.items ≡ map task_share tasks.submitters) }
         {
             let finished = run(scope, rt, alloc, pipeline, tasks, stop);
             if finished.is_err() {
-                stop.ask();
+                stop.give_up();
             }
             finished
         },

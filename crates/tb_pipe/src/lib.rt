@@ -1,14 +1,16 @@
 //! The pipeline: batcher, committer and demultiplexer as threads, between the submission queue and the reply rings.
 //!
-//! `open` makes a pipeline with its submitters and its control (`opens`, `refusal`, `own`, `seats`); `Pipeline::with_ledger` gives it
-//! a ledger of the caller's: one that an earlier run left, or a new one with a seed or with reserved capacity. `Pipeline::over` gives it
-//! any ledger (`AnyLedger` of `tb_core`), also one whose journal isn't in memory. `Pipeline::serve` runs the stages until all senders have ended. If a thread can't
-//! be started it returns the intake, and nothing was taken from it (`refused`).
+//! `open` makes a pipeline with its submitters and its control (`opens`, `refusal`, `own`, `seats`). `Options::open` does so with
+//! the settings by name. `Pipeline::with_ledger` gives it a ledger of the caller's: one that an earlier run left, or a new one with a seed
+//! or with reserved capacity. `Pipeline::over` gives it any ledger (`AnyLedger` of `tb_core`), also one whose journal isn't in memory.
+//! `Pipeline::serve` runs the stages until all senders have ended. If a thread can't be started it returns the intake, and nothing was
+//! taken from it (`refused`).
 //! `settle` makes the report, which is lawful and has the headline (`report`, `headline`, `grouping`, `pulses`): its caller ensures
 //! by two equations that the ends are those that were opened with the pipeline, in order.
 //!
 //! ```
-//! let Opened { pipeline, submitters, control } = open(alloc, clock, limit, capacity, credit, 2)?;
+//! let options = Options { submitters: 2, ..Options::default() };
+//! let Opened { pipeline, submitters, control } = options.open(alloc)?;
 //! // each thread submits, reads its replies and ends; the control ends too
 //! let served = pipeline.serve(&rt, &Open)?;
 //! let report = settle(served, ends, control_end);
@@ -38,6 +40,6 @@ mod waiting;
 
 pub use driving::{Finished, drive_all, drive_over, submit_ahead};
 pub use gate::{Gate, Open};
-pub use opening::{Opened, open};
+pub use opening::{Opened, Options, open};
 pub use serving::{Pipeline, Served};
 pub use settling::{Report, settle, settle_over};

@@ -1,13 +1,13 @@
 //! Opening a pipeline.
 
 ghost use Rattle.std.specs.Prelude.{◌≡◌, ◌≤◌, ◌<◌, ℕ, [], true, false, map, length, slice_index_or, None, OnOk, OnErr, IfOk, IfErr, IfSome};
-ghost use Rattle.tb_core.specs.Journal.{LedgerState};
-ghost use Rattle.tb_layout.specs.Limits.{clock_max};
-ghost use Rattle.tb_core.specs.Ledger.{new_ledger};
-ghost use Rattle.tb_rings.specs.Ends.{given, taken, IsRing};
-ghost use Rattle.tb_submit.specs.Ends.{Origin, new_submitter, new_control, new_intake, origin_of, seat_at};
-ghost use Rattle.tb_submit.specs.Refusals.{IsQueueRefusal, queue_refusal};
-ghost use Rattle.tb_pipe.specs.Reported.{AreTogether};
+ghost use Rattle.tb_core.specs.claim.Journal.{LedgerState};
+ghost use Rattle.tb_layout.specs.claim.Limits.{clock_max};
+ghost use Rattle.tb_core.specs.claim.Ledger.{new_ledger};
+ghost use Rattle.tb_rings.specs.clauses.Ends.{given, taken, IsRing};
+ghost use Rattle.tb_submit.specs.clauses.Ends.{Origin, new_submitter, new_control, new_intake, origin_of, seat_at};
+ghost use Rattle.tb_submit.specs.clauses.Refusals.{IsQueueRefusal, queue_refusal};
+ghost use Rattle.tb_pipe.specs.clauses.Reported.{AreTogether};
 
 use crate::committing::Committer;
 use crate::routing::Demultiplexer;
@@ -15,6 +15,7 @@ use crate::serving::Pipeline;
 use crate::stages::Stages;
 use std::alloc::Global;
 use tb_core::{AnyLedger, Front, Ledger, Outcomes, Parcel};
+use tb_layout::BATCH_MAX;
 use tb_rings::{Inlet, Outlet, ring};
 use tb_submit::{Control, Submitter, open_queue};
 use tb_work::Refusal;
@@ -153,4 +154,71 @@ pub fn open(
         submitters: ends.submitters,
         control: ends.control,
     })
+}
+
+/// What a pipeline is opened with, by name: `Options { submitters: 2, ..Options::default() }.open(alloc)`.
+#[derive(Clone, Copy, Debug, PartialEq, Eq)]
+pub struct Options {
+    /// Where the clock starts, in nanoseconds, 0 to `CLOCK_MAX`. A ledger that continues has its own clock, and this one is ignored.
+    pub clock: u64,
+    /// The most events of a batch, and so of a packet, 1 to 8190.
+    pub limit: u32,
+    /// The slots of the submission queue, 1 to 65,536. Each holds one packet or pulse of any sender.
+    pub capacity: u32,
+    /// How many packets each submitter may have in flight, 1 to 65,536. Its reply ring has as many slots.
+    pub credit: u32,
+    /// The number of submitters, 1 to 16. The control isn't counted.
+    pub submitters: u32,
+}
+
+impl Default for Options {
+    ghost use Rattle.std.specs.Prelude.{◌≡◌};
+
+    /// Returns options for one submitter and a clock from 0. The limit of 8190 events refuses no packet that another limit accepts.
+    /// Measured runs of four submitters got hardly faster with a capacity above 64 or a credit above 16. The credit of 32 leaves a margin
+    /// for a submitter that reads its replies late.
+    fn default() -> Options
+        ensures { result ≡ record { clock = 0; limit = 8190; capacity = 64; credit = 32; submitters = 1 } }
+    {
+        Options {
+            clock: 0,
+            limit: BATCH_MAX,
+            capacity: 64,
+            credit: 32,
+            submitters: 1,
+        }
+    }
+}
+
+impl Options {
+    /// Makes a pipeline with these options, as `open` does.
+    ///
+    /// # Errors
+    ///
+    /// `BadLimit`, `BadCapacity` or `BadSubmitters`, in this order, if the limit, the capacity or credit, or the number of submitters is
+    /// out of its range; else `NoMemory`, if memory runs out.
+    pub fn open(self, alloc: Global) -> Result<Opened, Refusal>
+        requires { self.clock ≤ clock_max }
+        ensures start { IfOk result (λ opened. opened.pipeline.start ≡ new_ledger self.clock) }
+        ensures intake { IfOk result (λ opened. opened.pipeline.intake
+            ≡ new_intake opened.pipeline.intake.queue self.submitters self.limit self.capacity) }
+        ensures submitters { IfOk result (λ opened. opened.submitters.items
+            ≡ map (new_submitter self.credit) opened.pipeline.submitters) }
+        ensures own { IfOk result (λ opened. map origin_of opened.submitters.items ≡ opened.pipeline.submitters) }
+        ensures number { IfOk result (λ opened. length opened.pipeline.submitters ≡ self.submitters) }
+        ensures seats { IfOk result (λ opened. (k : ℕ) (d : Origin) → k < self.submitters
+            → (slice_index_or opened.pipeline.submitters k d).seat ≡ seat_at opened.pipeline.intake k) }
+        ensures control { IfOk result (λ opened. opened.control ≡ new_control opened.pipeline.intake) }
+        ensures opens { OnOk result (queue_refusal self.limit self.capacity self.credit self.submitters ≡ None) }
+        ensures refusal { IfErr result (IsQueueRefusal self.limit self.capacity self.credit self.submitters) }
+    {
+        let Options {
+            clock,
+            limit,
+            capacity,
+            credit,
+            submitters,
+        } = self;
+        open(alloc, clock, limit, capacity, credit, submitters)
+    }
 }

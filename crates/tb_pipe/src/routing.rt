@@ -1,17 +1,17 @@
 //! The demultiplexer's stage: each reply into the ring of its submitter.
 
 ghost use Rattle.std.specs.Prelude.{◌≡◌, ◌<◌, [], ◌∷◌, true};
-ghost use Rattle.tb_core.specs.Run.{replies_in};
-ghost use Rattle.tb_rings.specs.Ends.{taken, SameInlet};
-ghost use Rattle.tb_pipe.specs.Carried.{is_final, answers_in};
-ghost use Rattle.tb_pipe.specs.Outlets.{SameOutlets, AllGiven, AllMore, AllRouted};
+ghost use Rattle.tb_core.specs.claim.Run.{replies_in};
+ghost use Rattle.tb_rings.specs.clauses.Ends.{taken, SameInlet};
+ghost use Rattle.tb_pipe.specs.clauses.Carried.{is_final, answers_in};
+ghost use Rattle.tb_pipe.specs.clauses.Outlets.{SameOutlets, AllGiven, AllMore, AllRouted};
 
 use crate::waiting::give_waiting;
 use std::snapshot::Snapshot;
 use std::sync::Wait;
 use std::thread::Promise;
 use tb_core::Outcomes;
-use tb_rings::{Inlet, Outlet, SpinWait};
+use tb_rings::{IdleWait, Inlet, Outlet};
 use tb_work::Reply;
 
 /// The demultiplexer's end of its ring, and the reply rings.
@@ -28,8 +28,8 @@ pub(crate) struct Routing {
 }
 
 impl Promise<Demultiplexer> for Routing {
-    ghost use Rattle.tb_rings.specs.Ends.{taken, SameInlet};
-    ghost use Rattle.tb_pipe.specs.Outlets.{SameOutlets, AllRouted};
+    ghost use Rattle.tb_rings.specs.clauses.Ends.{taken, SameInlet};
+    ghost use Rattle.tb_pipe.specs.clauses.Outlets.{SameOutlets, AllRouted};
 
     ghost kept_by = { λ p r. SameInlet p.stage.value.inlet r.inlet
         × SameOutlets p.stage.value.outlets.items r.outlets.items × AllRouted (taken r.inlet) r.outlets.items };
@@ -78,13 +78,13 @@ impl Demultiplexer {
         ensures same { SameInlet self.old.inlet self.new.inlet × SameOutlets self.old.outlets.items self.new.outlets.items }
         ensures all { AllRouted (taken self.new.inlet) self.new.outlets.items }
     {
-        let spin = SpinWait::new();
+        let idle = IdleWait::new();
         for _ in rt.forever() {
             let Some(outcomes) = self.inlet.take() else {
-                self.inlet.wait(rt, &spin);
+                self.inlet.wait(rt, &idle);
                 continue;
             };
-            spin.reset();
+            idle.reset();
             if route_all(rt, &mut self.outlets, outcomes) {
                 return;
             }

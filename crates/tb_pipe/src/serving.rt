@@ -1,13 +1,13 @@
 //! A pipeline, as its callers see it.
 
 ghost use Rattle.std.specs.Prelude.{◌≡◌, false, true, IfOk, IfErr, OnOk, OnErr};
-ghost use Rattle.tb_core.specs.Journal.{LedgerState};
+ghost use Rattle.tb_core.specs.claim.Journal.{LedgerState};
 ghost use Rattle.tb_work.specs.declared.refusal.Refusal.TheVariants.{NoThread as NoThreadRefusal};
-ghost use Rattle.tb_pipe.specs.Run.{IsServed, served_of};
-ghost use Rattle.tb_pipe.specs.Stages.{IsReady, HaveServed};
+ghost use Rattle.tb_pipe.specs.clauses.Run.{IsServed, served_of};
+ghost use Rattle.tb_pipe.specs.clauses.Stages.{IsReady, HaveServed};
 
 use crate::gate::Gate;
-use crate::stages::{Remains, Stages};
+use crate::stages::{Stages, StoppedStages};
 use std::marker::Model;
 use std::sync::Wait;
 use std::thread;
@@ -30,7 +30,7 @@ impl<L: AnyLedger> Drop for Pipeline<L> {
 }
 
 impl<L: AnyLedger> Model for Pipeline<L> {
-    ghost use Rattle.tb_pipe.specs.Run.{PipelineState, pipeline_of, IsPipeline};
+    ghost use Rattle.tb_pipe.specs.clauses.Run.{PipelineState, pipeline_of, IsPipeline};
 
     ghost Value = { PipelineState L };
 
@@ -41,11 +41,11 @@ impl<L: AnyLedger> Model for Pipeline<L> {
 
 /// A pipeline that was served.
 pub struct Served<L: AnyLedger = Ledger> {
-    pub(crate) remains: Remains<L>,
+    pub(crate) remains: StoppedStages<L>,
 }
 
 impl<L: AnyLedger> Drop for Served<L> {
-    /// Lets the remains go in one call, as a pipeline's stages.
+    /// Frees the stopped stages in one call, so that no owner's proof repeats it.
     fn drop(self) {
         let Served { remains } = self;
         drop(remains);
@@ -53,7 +53,7 @@ impl<L: AnyLedger> Drop for Served<L> {
 }
 
 impl<L: AnyLedger> Model for Served<L> {
-    ghost use Rattle.tb_pipe.specs.Run.{ServedState, served_of, IsServed};
+    ghost use Rattle.tb_pipe.specs.clauses.Run.{ServedState, served_of, IsServed};
 
     ghost Value = { ServedState L };
 
@@ -64,7 +64,7 @@ impl<L: AnyLedger> Model for Served<L> {
 
 impl<L: AnyLedger> Served<L> {
     /// Returns what the stages left, taken out.
-    pub(crate) fn into_remains(self) -> Remains<L>
+    pub(crate) fn into_stages(self) -> StoppedStages<L>
         ensures served { IsServed L.is result }
         ensures same { self ≡ served_of result }
     {
@@ -138,7 +138,7 @@ impl<L: AnyLedger> Pipeline<L> {
         let served = thread::scope(
             thread::scope_env(),
             rt,
-            |scope| -> Result<Remains<L>, Intake>
+            |scope| -> Result<StoppedStages<L>, Intake>
                 requires { IsReady L.is stages }
                 ensures served { IfOk result (λ remains. HaveServed L.is stages remains) }
                 ensures refused { IfErr result (λ intake. intake ≡ stages.intake) }

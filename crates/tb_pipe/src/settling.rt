@@ -1,21 +1,18 @@
 //! What a run reports.
 
-ghost use Rattle.std.specs.Prelude.{◌≡◌, ◌<◌, ℕ, true, map, length, slice_index_or, All};
-ghost use Rattle.tb_core.specs.Grouping.{IsGrouping};
-ghost use Rattle.tb_core.specs.EachSubmitter.{moments_in, moments_queued};
-ghost use Rattle.tb_core.specs.Headline.{Headline};
-ghost use Rattle.tb_core.specs.Journal.{groups_since, inputs_since};
-ghost use Rattle.tb_core.specs.EndedRun.{IsPrefix};
-ghost use Rattle.tb_core.specs.Report.{LawfulReport};
-ghost use Rattle.std.specs.List.{AllByRecursion};
-ghost use Rattle.tb_submit.specs.Lists.{AreAheadOfClose};
-ghost use Rattle.tb_submit.specs.Ends.{EndedState, control_seat, end_origin, origins, seat_at};
-ghost use Rattle.tb_pipe.specs.Reported.{GoesFrom, IsReport};
-ghost use Rattle.tb_pipe.specs.Run.{IsServed};
-ghost use Rattle.tb_pipe.specs.SettledRun.{run_of};
+ghost use Rattle.std.specs.Prelude.{◌≡◌, map};
+ghost use Rattle.tb_core.specs.claim.Grouping.{IsGrouping};
+ghost use Rattle.tb_core.specs.claim.EachSubmitter.{moments_in, moments_queued};
+ghost use Rattle.tb_core.specs.claim.Headline.{Headline};
+ghost use Rattle.tb_core.specs.claim.Journal.{groups_since, inputs_since};
+ghost use Rattle.tb_core.specs.claim.EndedRun.{IsPrefix};
+ghost use Rattle.tb_core.specs.claim.Report.{LawfulReport};
+ghost use Rattle.tb_submit.specs.clauses.Ends.{control_seat, end_origin};
+ghost use Rattle.tb_pipe.specs.clauses.Reported.{GoesFrom, IsReport, IsSettled};
+ghost use Rattle.tb_pipe.specs.claim.SettledRun.{run_of};
 
 use crate::serving::Served;
-use crate::stages::Remains;
+use crate::stages::StoppedStages;
 use tb_core::{AnyLedger, Ledger, headline, pulses_are_the_controls, run_is_lawful};
 use tb_submit::{ControlEnd, Ended, settle_queue};
 
@@ -26,47 +23,6 @@ use tb_submit::{ControlEnd, Ended, settle_queue};
 pub struct Report<L = Ledger> {
     pub ledger: L,
     pub ends: Vec<Ended>,
-}
-
-/// Returns the report on what the stages left, as `settle_over` gives it.
-fn settle_remains<L: AnyLedger>(
-    remains: Remains<L>,
-    ends: Vec<Ended>,
-    control: ControlEnd,
-) -> Report<L>
-    requires served { IsServed L.is remains }
-    requires ends { map end_origin ends.items ≡ origins remains.intake remains.routed.outlets.items }
-    requires control { control.seat ≡ control_seat remains.intake }
-    ensures report { GoesFrom (L.is remains.start.value) (L.is result.ledger) (λ start ledger.
-        IsReport (run_of remains.intake ends.items control start ledger result.ends.items) start remains.intake.limit
-        control.queued) }
-    ensures ledger { result.ledger ≡ remains.committed.ledger }
-    ensures long { length result.ends.items ≡ remains.intake.submitters }
-    ensures read { (k : ℕ) (d : EndedState) → (slice_index_or result.ends.items k d).read
-        ≡ (slice_index_or ends.items k d).read }
-    ensures settled { All (λ ended. ended.settled ≡ true) result.ends.items }
-    ensures ahead { AllByRecursion (AreAheadOfClose remains.intake.taken) control.learned }
-    ensures seats { (k : ℕ) (d : EndedState) → k < length ends.items
-        → (slice_index_or ends.items k d).origin.seat ≡ seat_at remains.intake k }
-{
-    run_is_lawful();
-    headline();
-    pulses_are_the_controls();
-    let Remains {
-        start,
-        intake,
-        mut batches,
-        mut committed,
-        mut routed,
-    } = remains;
-    drop(start);
-    committed.inlet.lying(&mut batches);
-    routed.inlet.lying(&mut committed.outlet);
-    let ends = settle_queue(intake, ends, control, routed.outlets);
-    Report {
-        ledger: committed.ledger,
-        ends,
-    }
 }
 
 /// Returns the report on a run over any ledger, as `settle` does on one over a `Ledger`. It speaks of each ledger that the run may
@@ -81,16 +37,26 @@ pub fn settle_over<L: AnyLedger>(
     ensures report { GoesFrom (L.is served.start) (L.is result.ledger) (λ start ledger.
         IsReport (run_of served.intake ends.items control start ledger result.ends.items) start served.intake.limit
         control.queued) }
-    ensures ledger { result.ledger ≡ served.ledger }
-    ensures long { length result.ends.items ≡ served.intake.submitters }
-    ensures read { (k : ℕ) (d : EndedState) → (slice_index_or result.ends.items k d).read
-        ≡ (slice_index_or ends.items k d).read }
-    ensures settled { All (λ ended. ended.settled ≡ true) result.ends.items }
-    ensures ahead { AllByRecursion (AreAheadOfClose served.intake.taken) control.learned }
-    ensures seats { (k : ℕ) (d : EndedState) → k < length ends.items
-        → (slice_index_or ends.items k d).origin.seat ≡ seat_at served.intake k }
+    ensures settled { IsSettled served ends.items control result }
 {
-    settle_remains(served.into_remains(), ends, control)
+    run_is_lawful();
+    headline();
+    pulses_are_the_controls();
+    let StoppedStages {
+        start,
+        intake,
+        mut batches,
+        mut committed,
+        mut routed,
+    } = served.into_stages();
+    drop(start);
+    committed.inlet.lying(&mut batches);
+    routed.inlet.lying(&mut committed.outlet);
+    let ends = settle_queue(intake, ends, control, routed.outlets);
+    Report {
+        ledger: committed.ledger,
+        ends,
+    }
 }
 
 /// Returns the report on a run. `ends` are those of the submitters that were opened with the pipeline, by rising number,
@@ -105,15 +71,8 @@ pub fn settle(served: Served, ends: Vec<Ended>, control: ControlEnd) -> Report
         result.ledger result.ends.items) }
     ensures grouping { IsGrouping served.intake.limit (groups_since served.start result.ledger) }
     ensures pulses { IsPrefix (moments_in (inputs_since served.start result.ledger)) (moments_queued control.queued) }
-    ensures ledger { result.ledger ≡ served.ledger }
     ensures opening { result.ledger.opening ≡ served.start.opening }
-    ensures long { length result.ends.items ≡ served.intake.submitters }
-    ensures read { (k : ℕ) (d : EndedState) → (slice_index_or result.ends.items k d).read
-        ≡ (slice_index_or ends.items k d).read }
-    ensures settled { All (λ ended. ended.settled ≡ true) result.ends.items }
-    ensures ahead { AllByRecursion (AreAheadOfClose served.intake.taken) control.learned }
-    ensures seats { (k : ℕ) (d : EndedState) → k < length ends.items
-        → (slice_index_or ends.items k d).origin.seat ≡ seat_at served.intake k }
+    ensures settled { IsSettled served ends.items control result }
 {
     settle_over(served, ends, control)
 }

@@ -1,11 +1,11 @@
 //! The stages, run at once.
 
 ghost use Rattle.std.specs.Prelude.{◌≡◌, IfOk, IfErr, IfSome};
-ghost use Rattle.tb_core.specs.Journal.{LedgerState};
-ghost use Rattle.tb_rings.specs.Ends.{given, taken, SameOutlet, SameInlet};
-ghost use Rattle.tb_pipe.specs.Carried.{IsCommitted, AllCommitted, answers_in};
-ghost use Rattle.tb_pipe.specs.Outlets.{SameOutlets, AllGiven, AllRouted};
-ghost use Rattle.tb_pipe.specs.Stages.{IsReady, HaveServed};
+ghost use Rattle.tb_core.specs.claim.Journal.{LedgerState};
+ghost use Rattle.tb_rings.specs.clauses.Ends.{given, taken, SameOutlet, SameInlet};
+ghost use Rattle.tb_pipe.specs.clauses.Carried.{IsCommitted, AllCommitted, answers_in};
+ghost use Rattle.tb_pipe.specs.clauses.Outlets.{SameOutlets, AllGiven, AllRouted};
+ghost use Rattle.tb_pipe.specs.clauses.Stages.{IsReady, HaveServed};
 
 use crate::batching::{BatchRing, batch_all};
 use crate::committing::{Commitment, Committer};
@@ -33,7 +33,7 @@ pub(crate) struct Stages<L> {
 
 /// What the stages leave, with the same ghost copy.
 #[derive(Drop)]
-pub(crate) struct Remains<L> {
+pub(crate) struct StoppedStages<L> {
     pub(crate) start: Snapshot<L>,
     pub(crate) intake: Intake,
     pub(crate) batches: Outlet<Parcel>,
@@ -161,7 +161,7 @@ impl<L: AnyLedger> Stages<L> {
         scope: &Scope<'s, E>,
         rt: &'s R,
         gate: &'s G,
-    ) -> Result<Remains<L>, Intake>
+    ) -> Result<StoppedStages<L>, Intake>
     where
         L: Send + 's,
         requires { IsReady L.is self }
@@ -194,7 +194,7 @@ impl<L: AnyLedger> Stages<L> {
         let mut ring = BatchRing::new(batches, gate);
         batch_all(rt, &mut intake, &mut front, &mut ring);
         drop(front);
-        Ok(Remains {
+        Ok(StoppedStages {
             start,
             intake,
             batches: ring.into_outlet(),

@@ -1,7 +1,7 @@
 //! Waiting for room in a ring.
 
 ghost use Rattle.std.specs.Prelude.{◌≡◌, [], ◌∷◌, ◌++◌};
-ghost use Rattle.tb_rings.specs.Ends.{given, SameOutlet};
+ghost use Rattle.tb_rings.specs.clauses.Ends.{given, SameOutlet};
 
 use crossbeam_utils::Backoff;
 use std::sync::Wait;

@@ -3,20 +3,20 @@ use Rattle.std.proofs.Common.{◌≡◌, ◌<◌, ◌⊎◌, inl, inr, ℕ, zero
 use Rattle.std.specs.Prelude.{◌==◌, slice_index_or, filter, if◌then◌else◌}
 use Rattle.std.specs.List.{AllByRecursion}
 use Rattle.std.proofs.lemmas.Bool.{eq-eqb, ne_eqb}
-use Rattle.tb_layout.specs.Events.{Input}
-use Rattle.tb_layout.specs.Events as input
-use Rattle.tb_work.specs.Job.{numbered_packet}
-use Rattle.tb_work.specs.Ahead.{items_in, ahead, items_from}
-use Rattle.tb_work.specs.Packet.{ReplyValue, input_of}
-use Rattle.tb_work.specs.Answer.{reply_with}
+use Rattle.tb_layout.specs.claim.Events.{Input}
+use Rattle.tb_layout.specs.claim.Events as input
+use Rattle.tb_work.specs.claim.Job.{numbered_packet}
+use Rattle.tb_work.specs.claim.Ahead.{items_in, ahead, items_from}
+use Rattle.tb_work.specs.claim.Packet.{ReplyValue, input_of}
+use Rattle.tb_work.specs.claim.Answer.{reply_with}
 use Rattle.tb_work.specs.declared.item.Item.{Item}
 use Rattle.tb_work.specs.declared.item.Item.TheVariants as item
 use Rattle.tb_work.specs.declared.item.Ticket.{Ticket}
 use Rattle.tb_work.specs.declared.packet.Packet.{Packet}
-use Rattle.tb_core.specs.Due.{all_due_from, outcome_at, reply_due, replies_to, Place, Ahead, Behind, next_place}
-use Rattle.tb_core.specs.Journal.{LedgerState, inputs}
-use Rattle.tb_submit.specs.Ends.{EndedState, IntakeState, Origin, Seat, SubmitterState, ended_with, new_submitter, replies_of, seat_at, with_item}
-use Rattle.tb_pipe_tests.specs.OnePacket.{IsReplyToOne, IsRunOfOne, one_and_end}
+use Rattle.tb_core.specs.claim.Due.{all_due_from, outcome_at, reply_due, replies_to, Place, Ahead, Behind, next_place}
+use Rattle.tb_core.specs.claim.Journal.{LedgerState, inputs}
+use Rattle.tb_submit.specs.clauses.Ends.{EndedState, IntakeState, Origin, Seat, SubmitterState, ended_with, new_submitter, replies_of, seat_at, with_item}
+use Rattle.tb_pipe_tests.specs.inside.OnePacket.{IsReplyToOne, IsRunOfOne, one_and_end}
 
 -- ---- a queue in which all but one sender only end
 

@@ -1,11 +1,11 @@
 -- A driver that is the only one, before its run.
 use Rattle.std.proofs.Common.{◌≡◌, ℕ, List, [], ◌∷◌, All, sym, subst, arith}
-use Rattle.tb_submit.specs.Ends.{SubmitterState}
-use Rattle.tb_work.specs.Packet.{ReplyValue}
+use Rattle.tb_submit.specs.clauses.Ends.{SubmitterState}
+use Rattle.tb_work.specs.claim.Packet.{ReplyValue}
 use Rattle.tb_work.specs.declared.item.Item.{Item}
-use Rattle.tb_drive.specs.Seen.{HaveSeen, jobs_in}
+use Rattle.tb_drive.specs.clauses.Seen.{HaveSeen, jobs_in}
 use Rattle.tb_drive.proofs.Opened.{all_have_seen, all_with_driver}
-use Rattle.tb_pipe_tests.specs.Reading.{HasRead, IsIdle}
+use Rattle.tb_pipe_tests.specs.clauses.Reading.{HasRead, IsIdle}
 
 new_has_read : (exact : Type 0) (unread : ℕ) (queued : List Item) (read : List ReplyValue) → unread ≡ 0
     → queued ≡ [] → read ≡ [] → HasRead exact unread (jobs_in queued) read

@@ -1,13 +1,13 @@
 -- A run from opening to the report, put together from what the calls say.
 use Rattle.std.proofs.Common.{◌≡◌, ◌∙◌, ℕ, List, ap, subst}
-use Rattle.tb_core.specs.Grouping.{IsGrouping}
-use Rattle.tb_core.specs.Journal.{LedgerState, groups_since}
-use Rattle.tb_core.specs.Ledger.{new_ledger}
-use Rattle.tb_core.specs.Report.{LawfulReport}
-use Rattle.tb_submit.specs.Ends.{EndedState, IntakeState}
+use Rattle.tb_core.specs.claim.Grouping.{IsGrouping}
+use Rattle.tb_core.specs.claim.Journal.{LedgerState, groups_since}
+use Rattle.tb_core.specs.claim.Ledger.{new_ledger}
+use Rattle.tb_core.specs.claim.Report.{LawfulReport}
+use Rattle.tb_submit.specs.clauses.Ends.{EndedState, IntakeState}
 use Rattle.tb_work.specs.declared.item.Item.{Item}
-use Rattle.tb_pipe.specs.Run.{PipelineState, ServedState}
-use Rattle.tb_pipe_tests.specs.Together.{IsOpenedAs, IsRun, run_with}
+use Rattle.tb_pipe.specs.clauses.Run.{PipelineState, ServedState}
+use Rattle.tb_pipe_tests.specs.inside.Together.{IsOpenedAs, IsRun, run_with}
 
 -- what serving leaves of a pipeline, settled
 pub is_run : (pipeline : PipelineState LedgerState) (served : ServedState LedgerState) (queued : ℕ → List Item) (ledger : LedgerState)

@@ -1,3 +1,2 @@
-pub mod OnePacket
-pub mod Reading
-pub mod Together
+pub mod clauses
+pub mod inside

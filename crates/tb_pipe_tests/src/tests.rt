@@ -161,8 +161,8 @@ impl Driver for Noter {
         }
     }
 
-    fn submitted(&mut self, told: Result<u64, Refusal>) {
-        self.note(Saw::Told(told));
+    fn submitted(&mut self, response: Result<u64, Refusal>) {
+        self.note(Saw::Told(response));
     }
 
     fn receive(&mut self, reply: Reply) {

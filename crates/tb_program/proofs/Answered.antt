@@ -1,27 +1,15 @@
 -- A run's report: a reply for each packet that a driver's submitter queued, and all of the drivers' shares handed in.
 use Rattle.std.proofs.Common.{◌≡◌, ◌∙◌, ◌<◌, ℕ, zero, suc, Bool, true, false, List, [], ◌∷◌, ◌++◌, length, map, Some, refl, ap, sym, subst, arith}
-use Rattle.std.specs.Prelude.{◌==◌, slice_get, if◌then◌else◌}
-use Rattle.std.proofs.lemmas.Option.{slice_get_within}
-use Rattle.tb_core.specs.Due.{outcome_at, reply_due, all_due_from, replies_to, Place, Ahead, next_place}
-use Rattle.tb_core.specs.EndedRun.{Run}
-use Rattle.tb_core.specs.Journal.{LedgerState, inputs}
-use Rattle.tb_layout.specs.Events.{Input}
-use Rattle.tb_submit.specs.Ends.{EndedState, SenderState, SubmitterState, replies_of}
-use Rattle.tb_work.specs.Ahead.{items_in, items_from}
-use Rattle.tb_work.specs.Queue.{AreSubmitted, IsSubmitted}
-use Rattle.tb_work.specs.declared.item.Item.{Item}
+use Rattle.tb_program.proofs.Words.{◌==◌, drop, if◌then◌else◌, slice_get_within, outcome_at, reply_due, all_due_from, replies_to, Place, Ahead, next_place, Run, committed_in, LedgerState, inputs, inputs_since, Input, EndedState, replies_of, items_in, items_from, Item, jobs_in, AreAllAnswered, AreAllDone, HasEndedOf, HasSeenOf, share_of, results_of, IsHandedIn, AreHandedIn, ScriptDriver, PacketResult}
+use Rattle.std.specs.Prelude.{slice_get}
+use Rattle.tb_work.specs.claim.Queue.{AreSubmitted, IsSubmitted}
 use Rattle.tb_work.specs.declared.item.Item.TheVariants as item
 use Rattle.tb_work.specs.declared.item.Ticket.{Ticket}
 use Rattle.tb_work.specs.declared.packet.Packet as packets
-use Rattle.tb_pipe.specs.Reported.{HasReported}
-use Rattle.tb_drive.specs.Seen.{jobs_in}
-use Rattle.tb_program.specs.Answering.{AreAllAnswered, AreAllDone}
-use Rattle.tb_program.specs.Drivers.{HasEndedOf, HasSeenOf, share_of, told_of}
+use Rattle.tb_pipe.specs.clauses.Reported.{HasReported}
+use Rattle.tb_pipe.specs.declared.driving.Finished.{Finished}
+use Rattle.tb_pipe.specs.declared.opening.Opened.{Opened}
 use Rattle.tb_program.proofs.HandedPackets.{handed_longer}
-use Rattle.tb_program.specs.Noting.{IsHandedIn}
-use Rattle.tb_program.specs.RunText.{AreHandedIn}
-use Rattle.tb_program.specs.declared.run.driver.ScriptDriver.{ScriptDriver}
-use Rattle.tb_program.specs.declared.run.notes.Told.{Told}
 
 first_part : (submitter : ℕ) (ticket : Ticket) (queue : List Ticket) (own : Bool) → (ticket.sender == submitter) ≡ own
     → items_from submitter (ticket ∷ queue) ≡ (if own then ticket.item ∷ items_from submitter queue else items_from submitter queue)
@@ -61,14 +49,31 @@ some_at [] k below = absurd (omega (arith, below))
 some_at (x ∷ xs) zero below = (x, refl)
 some_at (x ∷ xs) (suc k) below = some_at xs k (omega (arith, below))
 
-module _ {run : Run} {start : LedgerState} {limit : ℕ} {before : List SubmitterState} {unsettled ends : List EndedState}
-    {control : SenderState} {drivers : List ScriptDriver}
-    (replies : run.replies ≡ replies_of ends)
-    (reported : HasReported HasSeenOf HasEndedOf run start limit before unsettled ends control drivers) where
+module _ {C L : Type 0} {ended_with : C → List Item → Type 0} {opened : Opened L} {finished : Finished ScriptDriver C L}
+    {start ledger : LedgerState} (reported : HasReported HasSeenOf HasEndedOf ended_with opened finished start ledger) where
+  abbrev run : Run
+  run = reported.run
+
+  abbrev limit : ℕ
+  limit = opened.pipeline.intake.limit
+
+  abbrev drivers : List ScriptDriver
+  drivers = finished.drivers.items
+
+  abbrev ends : List EndedState
+  ends = finished.report.ends.items
+
+  replies_are : (k : ℕ) (ended : EndedState) → slice_get ends k ≡ Some ended → run.replies k ≡ ended.read ++ ended.lying
+  replies_are k ended is = ap (λ by_submitter. by_submitter k) reported.replies_are ∙ replies_at ends k ended is
+
+  pub committed_is : committed_in run ≡ inputs_since start ledger
+  committed_is = ap (λ before. drop (length before) (inputs run.ledger)) reported.began
+      ∙ ap (inputs_since start) reported.ledger_is
+
   pub all_answered : AreAllAnswered drivers ends
   all_answered k driver ended driver_is ended_is =
       let below : k < run.submitters = subst (λ n. k < n) reported.number (slice_get_within ends k ended ended_is) in
-      let filled = reported.report.filled in
+      let filled = reported.report.lawful.filled in
       let parts : items_from k run.queue ≡ run.queued k = filled.parts k (omega (arith, below)) in
       record {
         limit = limit;
@@ -77,22 +82,21 @@ module _ {run : Run} {start : LedgerState} {limit : ℕ} {before : List Submitte
         number = ap (λ items. length (jobs_in items)) (sym parts)
             ∙ as_many_due run.ledger.opening run.submitters k (inputs run.ledger) (Ahead (length run.before)) run.queue
             filled.submitted
-            ∙ ap length (sym (reported.report.replied k below) ∙ ap (λ by_submitter. by_submitter k) replies
-            ∙ replies_at ends k ended ended_is);
+            ∙ ap length (sym (reported.report.lawful.replied k below) ∙ replies_are k ended ended_is);
       }
 
   -- the driver whose share and notes these are
-  driver_at : (all : List ScriptDriver) (k : ℕ) (share : List packets.Packet) (told : List Told)
-      → slice_get (map share_of all) k ≡ Some share → slice_get (map told_of all) k ≡ Some told
-      → (driver : ScriptDriver) × (slice_get all k ≡ Some driver) × (share_of driver ≡ share) × (told_of driver ≡ told)
-  driver_at [] k share told share_is told_is = cc
-  driver_at (first ∷ all) zero share told share_is told_is = (first, refl, cc, cc)
-  driver_at (first ∷ all) (suc k) share told share_is told_is = driver_at all k share told share_is told_is
+  driver_at : (all : List ScriptDriver) (k : ℕ) (share : List packets.Packet) (results : List PacketResult)
+      → slice_get (map share_of all) k ≡ Some share → slice_get (map results_of all) k ≡ Some results
+      → (driver : ScriptDriver) × (slice_get all k ≡ Some driver) × (share_of driver ≡ share) × (results_of driver ≡ results)
+  driver_at [] k share results share_is results_are = cc
+  driver_at (first ∷ all) zero share results share_is results_are = (first, refl, cc, cc)
+  driver_at (first ∷ all) (suc k) share results share_is results_are = driver_at all k share results share_is results_are
 
   pub all_handed_in : AreAllDone drivers
-      → AreHandedIn limit (replies_of ends) (map share_of drivers) (map told_of drivers) run.queued
-  all_handed_in done k share told share_is told_is =
-      let its = driver_at drivers k share told share_is told_is in
+      → AreHandedIn limit run.replies (map share_of drivers) (map results_of drivers) run.queued
+  all_handed_in done k share results share_is results_are =
+      let its = driver_at drivers k share results share_is results_are in
       let driver = its.0 in
       let within : k < length ends = omega (
         arith,
@@ -104,9 +108,9 @@ module _ {run : Run} {start : LedgerState} {limit : ℕ} {before : List Submitte
       let is_done = done k driver its.1 in
       let jobs = jobs_in (run.queued k) in
       let seen = reported.seen k driver end.0 its.1 end.1 is_done.0 in
-      let longer = handed_longer limit end.0.read end.0.lying (share_of driver) _ (told_of driver) jobs seen.0 in
-      subst (λ replies. IsHandedIn limit replies share [] told jobs) (sym (replies_at ends k end.0 end.1))
-      (subst (λ packets. IsHandedIn limit (end.0.read ++ end.0.lying) packets [] told jobs) its.2
+      let longer = handed_longer limit end.0.read end.0.lying (share_of driver) _ (results_of driver) jobs seen.0 in
+      subst (λ replies. IsHandedIn limit replies share [] results jobs) (sym (replies_are k end.0 end.1))
+      (subst (λ packets. IsHandedIn limit (end.0.read ++ end.0.lying) packets [] results jobs) its.2
       (subst (λ all. IsHandedIn limit (end.0.read ++ end.0.lying) (share_of driver) [] all jobs) its.3
-      (subst (λ rest. IsHandedIn limit (end.0.read ++ end.0.lying) (share_of driver) rest (told_of driver) jobs)
+      (subst (λ rest. IsHandedIn limit (end.0.read ++ end.0.lying) (share_of driver) rest (results_of driver) jobs)
       is_done.1 longer)))

@@ -1,3 +1,4 @@
+pub mod Words
 mod Answered
 mod HandedPackets
 mod Noting

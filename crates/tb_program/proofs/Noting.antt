@@ -1,9 +1,6 @@
 -- Lists whose members all have a property.
 use Rattle.std.proofs.Common.{◌≡◌, ℕ, zero, suc, List, [], ◌∷◌, ◌++◌, map, ap, sym, subst}
-use Rattle.tb_submit.specs.Ends.{Origin, SubmitterState, new_submitter}
-use Rattle.tb_program.specs.Drivers.{AreNew, HasSeenOf}
-use Rattle.tb_program.specs.Noting.{AreFresh, HaveCredit}
-use Rattle.tb_program.specs.declared.run.driver.ScriptDriver.{ScriptDriver}
+use Rattle.tb_program.proofs.Words.{Origin, SubmitterState, new_submitter, AreNew, HasSeenOf, AreFresh, HaveCredit, ScriptDriver}
 
 pub one_more_new : (drivers : List ScriptDriver) (last : ScriptDriver) → AreNew drivers → ((limit : ℕ) → HasSeenOf last limit [] [])
     → AreNew (drivers ++ last ∷ [])

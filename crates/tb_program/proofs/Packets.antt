@@ -1,10 +1,7 @@
 -- The lines of packets, submitter by submitter.
 use Rattle.std.proofs.Common.{◌≡◌, ◌∙◌, ◌+◌, ℕ, zero, suc, List, ◌∷◌, ◌++◌, append_assoc, map, ap, sym, subst}
-use Rattle.tb_submit.specs.Ends.{EndedState, replies_of}
-use Rattle.tb_program.specs.Answering.{AreAllDone}
-use Rattle.tb_program.specs.Drivers.{IsDone, told_of}
-use Rattle.tb_program.specs.RunText.{packets_text, lines_of_packets}
-use Rattle.tb_program.specs.declared.run.driver.ScriptDriver.{ScriptDriver}
+use Rattle.tb_program.proofs.Words.{EndedState, replies_of, AreAllDone, IsDone, results_of, lines_of_packets, ScriptDriver}
+use Rattle.tb_program.specs.clauses.RunText.{packets_text}
 
 pub first_done : (driver : ScriptDriver) (others : List ScriptDriver) → IsDone driver → AreAllDone others
     → AreAllDone (driver ∷ others)
@@ -15,12 +12,12 @@ first_done driver others done all (suc k) d is = all k d is
 pub first_text : (before after : List ℕ) (submitter : ℕ) (driver : ScriptDriver) (others all : List ScriptDriver)
     (ended : EndedState) (rest ends : List EndedState)
     → all ≡ driver ∷ others → ends ≡ ended ∷ rest
-    → after ≡ before ++ lines_of_packets submitter (told_of driver) (ended.read ++ ended.lying)
-    → after ++ packets_text (submitter + 1) (map told_of others) (replies_of rest)
-    ≡ before ++ packets_text submitter (map told_of all) (replies_of ends)
+    → after ≡ before ++ lines_of_packets submitter (results_of driver) (ended.read ++ ended.lying)
+    → after ++ packets_text (submitter + 1) (map results_of others) (replies_of rest)
+    ≡ before ++ packets_text submitter (map results_of all) (replies_of ends)
 unfolding packets_text
 first_text before after submitter driver others all ended rest ends all_is ends_is text =
-    ap (λ t. t ++ packets_text (submitter + 1) (map told_of others) (replies_of rest)) text ∙ append_assoc before _ _
-    ∙ ap (λ (ds : List ScriptDriver). before ++ packets_text submitter (map told_of ds) (replies_of (ended ∷ rest)))
+    ap (λ t. t ++ packets_text (submitter + 1) (map results_of others) (replies_of rest)) text ∙ append_assoc before _ _
+    ∙ ap (λ (ds : List ScriptDriver). before ++ packets_text submitter (map results_of ds) (replies_of (ended ∷ rest)))
     (sym all_is)
-    ∙ ap (λ (es : List EndedState). before ++ packets_text submitter (map told_of all) (replies_of es)) (sym ends_is)
+    ∙ ap (λ (es : List EndedState). before ++ packets_text submitter (map results_of all) (replies_of es)) (sym ends_is)

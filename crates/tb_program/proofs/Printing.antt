@@ -1,24 +1,14 @@
 -- What is printed from the two halves of a plan is the text of the plan.
 use Rattle.std.proofs.Common.{◌≡◌, ℕ, ◌+◌, List, [], ◌∷◌, ◌++◌, map, refl, ap, ◌∙◌, Option, Some, None, append_assoc}
-use Rattle.std.specs.Prelude.{Result, Ok, Err, OnOk, IsOk, codes}
-use Rattle.tb_machine.specs.Replay.{State, replay}
-use Rattle.tb_work.specs.Job.{numbered_packet}
-use Rattle.tb_work.specs.Ahead.{ahead}
-use Rattle.tb_work.specs.Packet.{ReplyValue}
-use Rattle.tb_work.specs.Answer.{reply_with}
-use Rattle.tb_layout.specs.Events.{Input}
+use Rattle.tb_program.proofs.Words.{Result, Ok, Err, OnOk, IsOk, codes, State, replay, numbered_packet, ahead, ReplyValue, Input, Refusal, all_due_from, outcome_at, Ahead, Behind, LedgerState, inputs, Planned, Close, RefusedPacket, RefusedPulse, queue_of, number_in, packet_as, reply_line, pulse_line, refused_line, refused_pulse_line, state_text, plan_text, line_of, as_place}
+use Rattle.tb_work.specs.claim.Answer.{reply_with}
 use Rattle.tb_work.specs.declared.item.Item as work
 use Rattle.tb_work.specs.declared.packet.Packet as packets
-use Rattle.tb_work.specs.declared.refusal.Refusal.{Refusal}
-use Rattle.tb_core.specs.Due.{all_due_from, outcome_at, Ahead, Behind}
-use Rattle.tb_core.specs.Journal.{LedgerState, inputs}
-use Rattle.tb_core.specs.Run.{IsListed}
+use Rattle.tb_core.specs.claim.Run.{IsListed}
 use Rattle.tb_program.specs.declared.list.plan.Line.{Line}
-use Rattle.tb_program.specs.Plan.{Planned, Packet, Pulse, Close, RefusedPacket, RefusedPulse, queue_of, number_in, packet_as}
-use Rattle.tb_program_text.specs.Output.{reply_line, pulse_line, refused_line, refused_pulse_line}
-use Rattle.tb_program.specs.Listing.{state_text, lines_from, plan_text}
-use Rattle.tb_program.specs.SplitPlan.{line_of}
-use Rattle.tb_program.specs.Printing.{as_place, text_from}
+use Rattle.tb_program.specs.clauses.Plan.{Packet, Pulse}
+use Rattle.tb_program.specs.clauses.Listing.{lines_from}
+use Rattle.tb_program.specs.inside.Printing.{text_from}
 
 pub admitted_is_queued : (items : List work.Item) (submitter : ℕ) (packet : packets.Packet) (r : Result ℕ Refusal) → IsOk r
     → packet_as items submitter packet r ≡ Packet (numbered_packet submitter (number_in submitter items) packet)

@@ -1,14 +1,9 @@
 -- The lines of pulses, entry by entry.
 use Rattle.std.proofs.Common.{◌≡◌, ◌∙◌, ◌+◌, ◌*◌, ℕ, suc, List, [], ◌∷◌, ◌++◌, append_assoc, length, map, drop, refl, ap, sym, arith}
-use Rattle.tb_layout.specs.Events.{Input, Packet, Pulse}
-use Rattle.std.specs.List.{flat_map}
+use Rattle.tb_program.proofs.Words.{Input, Pulse, flat_map, LedgerState, inputs, group_of, batch_packets, size_of, Entry, pulse_line, pulses_text}
+use Rattle.tb_layout.specs.claim.Events.{Packet}
 use Rattle.std.proofs.lemmas.List.Folds.{flat_map-map}
-use Rattle.tb_core.specs.Journal.{LedgerState, inputs}
-use Rattle.tb_core.specs.Ledger.{group_of, batch_packets, size_of}
-use Rattle.tb_core.specs.declared.journal.Entry.{Entry}
 use Rattle.tb_work.specs.declared.stub.Stub.{Stub}
-use Rattle.tb_program_text.specs.Output.{pulse_line}
-use Rattle.tb_program.specs.RunText.{pulses_text}
 
 -- those of some packets and pulses, and of others after them
 pub pulses_after : (place : ℕ) (inputs others : List Input)

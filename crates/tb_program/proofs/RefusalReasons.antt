@@ -1,17 +1,11 @@
 -- Why packets are refused.
 use Rattle.std.proofs.Common.{◌≡◌, ◌∙◌, ◌⊎◌, inl, inr, ⊎_elim, ℕ, List, [], ◌∷◌, ◌++◌, Option, Some, None, refl, sym, ap, subst}
-use Rattle.std.specs.Prelude.{Result, Ok, Err, IsOk}
-use Rattle.tb_submit.specs.Refusals.{IsRefusal, TakesMemory, or_else, refusal_in, told_by, told_in}
+use Rattle.tb_program.proofs.Words.{Result, Ok, Err, IsOk, IsRefusal, TakesMemory, or_else, refusal_in, refusal_of, first_refusal_in, ReplyValue, Packet, Refusal, IsFinalRefusal, final_refusal, IsRefusedFor}
 use Rattle.tb_work.proofs.Admissions.{IsOfAdmission, of_admission}
-use Rattle.tb_work.specs.Admission.{admission_of, event_size}
-use Rattle.tb_work.specs.Packet.{ReplyValue}
+use Rattle.tb_work.specs.claim.Admission.{admission_of, event_size}
 use Rattle.tb_work.specs.declared.outcome.Outcome.{Outcome}
 use Rattle.tb_work.specs.declared.outcome.Outcome.TheVariants as outcome
-use Rattle.tb_work.specs.declared.packet.Packet.{Packet}
-use Rattle.tb_work.specs.declared.refusal.Refusal.{Refusal}
 use Rattle.tb_work.specs.declared.refusal.Refusal.TheVariants as refusals
-use Rattle.tb_drive.specs.Refusing.{IsFinalRefusal, final_refusal}
-use Rattle.tb_program.specs.Noting.{IsRefusedFor}
 
 -- ---- what replies tell
 
@@ -22,17 +16,17 @@ first_tells : (first : Option Refusal) (rest : Option Refusal) (refusal : Refusa
 first_tells None rest refusal one others is = others is
 first_tells (Some first) rest refusal one others is = one is
 
-one_tells : (o : Outcome) (refusal : Refusal) → told_by o ≡ Some refusal
+one_tells : (o : Outcome) (refusal : Refusal) → refusal_of o ≡ Some refusal
     → (refusal ≡ refusals.Shutdown) ⊎ (refusal ≡ refusals.Stopped)
 one_tells (outcome.Committed place answer) refusal is = cc
 one_tells outcome.Shutdown refusal is = inl cc
 one_tells outcome.Stopped refusal is = inr cc
 
-tells : (replies : List ReplyValue) (refusal : Refusal) → told_in replies ≡ Some refusal
+tells : (replies : List ReplyValue) (refusal : Refusal) → first_refusal_in replies ≡ Some refusal
     → (refusal ≡ refusals.Shutdown) ⊎ (refusal ≡ refusals.Stopped)
 tells [] refusal is = cc
 tells (reply ∷ replies) refusal is =
-    first_tells (told_by reply.outcome) (told_in replies) refusal (one_tells reply.outcome refusal)
+    first_tells (refusal_of reply.outcome) (first_refusal_in replies) refusal (one_tells reply.outcome refusal)
     (tells replies refusal) is
 
 still_first : (first rest more : Option Refusal) (refusal : Refusal)
@@ -40,12 +34,12 @@ still_first : (first rest more : Option Refusal) (refusal : Refusal)
 still_first None rest more refusal longer is = longer is
 still_first (Some first) rest more refusal longer is = is
 
-told_longer : (read more : List ReplyValue) (refusal : Refusal) → told_in read ≡ Some refusal
-    → told_in (read ++ more) ≡ Some refusal
-told_longer [] more refusal is = cc
-told_longer (reply ∷ read) more refusal is =
-    still_first (told_by reply.outcome) (told_in read) (told_in (read ++ more)) refusal
-    (told_longer read more refusal) is
+results_longer : (read more : List ReplyValue) (refusal : Refusal) → first_refusal_in read ≡ Some refusal
+    → first_refusal_in (read ++ more) ≡ Some refusal
+results_longer [] more refusal is = cc
+results_longer (reply ∷ read) more refusal is =
+    still_first (refusal_of reply.outcome) (first_refusal_in read) (first_refusal_in (read ++ more)) refusal
+    (results_longer read more refusal) is
 
 -- ---- what admission says
 
@@ -60,30 +54,30 @@ not_admitted limit read packet other of_it is = is
 
 pub rightly_refused : (limit : ℕ) (read : List ReplyValue) (packet : Packet) (refusal : Refusal)
     → IsFinalRefusal limit read packet refusal → IsRefusedFor limit read packet refusal
-rightly_refused limit read packet refusal is = by (told_in read) (admission_of limit packet) refl refl is
+rightly_refused limit read packet refusal is = by (first_refusal_in read) (admission_of limit packet) refl refl is
   where
-    told : (due : Refusal) → told_in read ≡ Some due → IsRefusedFor limit read packet due
-    told due told_is = ⊎_elim
+    results : (due : Refusal) → first_refusal_in read ≡ Some due → IsRefusedFor limit read packet due
+    results due results_are = ⊎_elim
         (λ (same : due ≡ refusals.Shutdown). subst (IsRefusedFor limit read packet) (sym same)
-        (told_is ∙ ap Some same))
-        (λ (same : due ≡ refusals.Stopped). subst (IsRefusedFor limit read packet) (sym same) (told_is ∙ ap Some same))
-        (tells read due told_is)
+        (results_are ∙ ap Some same))
+        (λ (same : due ≡ refusals.Stopped). subst (IsRefusedFor limit read packet) (sym same) (results_are ∙ ap Some same))
+        (tells read due results_are)
 
-    by : (first : Option Refusal) (admission : Result ℕ Refusal) → told_in read ≡ first
+    by : (first : Option Refusal) (admission : Result ℕ Refusal) → first_refusal_in read ≡ first
         → admission_of limit packet ≡ admission
         → IsRefusal (or_else first (refusal_in admission)) (λ other. (other ≡ refusals.NoMemory) × TakesMemory packet)
         refusal → IsRefusedFor limit read packet refusal
-    by (Some due) admission told_is admission_is is =
-        subst (IsRefusedFor limit read packet) (sym is) (told due told_is)
-    by None (Err due) told_is admission_is is =
+    by (Some due) admission results_are admission_is is =
+        subst (IsRefusedFor limit read packet) (sym is) (results due results_are)
+    by None (Err due) results_are admission_is is =
         subst (IsRefusedFor limit read packet) (sym is) (not_admitted limit read packet due
         (of_admission limit packet.bytes (event_size packet.operation) due admission_is) admission_is)
-    by None (Ok count) told_is admission_is is =
+    by None (Ok count) results_are admission_is is =
         subst (IsRefusedFor limit read packet) (sym is.0) (subst IsOk (sym admission_is) refl, is.1)
 
 pub admitted : (limit : ℕ) (read : List ReplyValue) (packet : Packet) → final_refusal limit read packet ≡ None
     → IsOk (admission_of limit packet)
-admitted limit read packet none = by (told_in read) (admission_of limit packet) none
+admitted limit read packet none = by (first_refusal_in read) (admission_of limit packet) none
   where
     by : (first : Option Refusal) (admission : Result ℕ Refusal) → or_else first (refusal_in admission) ≡ None
         → IsOk admission
@@ -93,6 +87,6 @@ admitted limit read packet none = by (told_in read) (admission_of limit packet) 
 
 pub refused_longer : (limit : ℕ) (read more : List ReplyValue) (packet : Packet) (refusal : Refusal)
     → IsRefusedFor limit read packet refusal → IsRefusedFor limit (read ++ more) packet refusal
-refused_longer limit read more packet refusals.Shutdown is = told_longer read more refusals.Shutdown is
-refused_longer limit read more packet refusals.Stopped is = told_longer read more refusals.Stopped is
+refused_longer limit read more packet refusals.Shutdown is = results_longer read more refusals.Shutdown is
+refused_longer limit read more packet refusals.Stopped is = results_longer read more refusals.Stopped is
 refused_longer limit read more packet other is = is

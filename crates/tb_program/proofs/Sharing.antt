@@ -1,14 +1,10 @@
 -- Items of a script dealt out, one at a time.
 use Rattle.std.proofs.Common.{◌≡◌, ◌∙◌, ◌+◌, ◌<◌, ◌≤◌, ℕ, zero, suc, List, [], ◌∷◌, ◌++◌, Vec, length, get_or, set, refl, ap, sym, arith}
-use Rattle.std.specs.declared.alloc.Global.{Global}
+use Rattle.tb_program.proofs.Words.{Global, flat_map-append, append-nil, lists_of, AreDealt, packet_by, packets_by, shares_of}
 use Rattle.std.proofs.lemmas.Bool.{eq-eqb, ne_eqb}
-use Rattle.std.proofs.lemmas.Grind.{flat_map-append}
-use Rattle.std.proofs.lemmas.List.{append-nil}
 use Rattle.tb_work.specs.declared.packet.Packet as packets
 use Rattle.tb_program_text.specs.declared.item.ScriptItem.{ScriptItem}
 use Rattle.tb_program_text.specs.declared.item.ScriptItem.TheVariants.{Packet}
-use Rattle.tb_program.specs.Drivers.{lists_of}
-use Rattle.tb_program.specs.Sharing.{AreDealt, packet_by, packets_by, shares_of}
 
 one_more : (submitter : ℕ) (items : List ScriptItem) (item : ScriptItem)
     → packets_by submitter (items ++ item ∷ []) ≡ packets_by submitter items ++ packet_by submitter item

@@ -1,11 +1,2 @@
-pub mod Plan
-pub mod SplitPlan
-pub mod Listing
-pub mod Printing
-pub mod Faults
-pub mod Sharing
-pub mod Operations
-pub mod Noting
-pub mod Drivers
-pub mod Answering
-pub mod RunText
+pub mod clauses
+pub mod inside

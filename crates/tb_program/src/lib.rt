@@ -1,8 +1,8 @@
 //! Scripts to the end: in one thread, and through the pipeline with a thread for each sender.
 //!
 //! `run_script` takes a script through front and ledger, and writes the output that is defined for the bytes read, whatever
-//! these are (`written`, `specs/Listing.antt`). `run_threads` writes of a script with a fault what `run_script` writes (`faulty`), and of
-//! any other the text of a lawful run of what the script says (`ran`, `specs/RunText.antt`). If reading fails, or memory or a thread is
+//! these are (`written`, `specs/clauses/Listing.antt`). `run_threads` writes of a script with a fault what `run_script` writes (`faulty`), and of
+//! any other the text of a lawful run of what the script says (`ran`, `specs/clauses/RunText.antt`). If reading fails, or memory or a thread is
 //! unavailable, nothing is written. `list_output` and `run_output` return what these two write, and a remark on a fault.
 #![tactic(auto)]
 

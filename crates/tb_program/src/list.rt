@@ -2,13 +2,13 @@
 
 ghost use Rattle.std.specs.Prelude.{◌≡◌, ◌≢◌, ◌≤◌, List, true, map, IfOk, IfErr, IfSome, IsErrOf, string_bytes};
 ghost use Rattle.std.specs.Io.KnownBytes.{Appends, Keeps};
-ghost use Rattle.tb_layout.specs.inside.Limits.{batch_max};
-ghost use Rattle.tb_layout.specs.Limits.{clock_max};
-ghost use Rattle.tb_program.specs.Listing.{plan_text, listing, out, is_faultless};
-ghost use Rattle.tb_program_text.specs.Source.{source_in};
-ghost use Rattle.tb_program.specs.Operations.{operation_in, operations_listed, operations_told};
-ghost use Rattle.tb_program.specs.SplitPlan.{line_of};
-ghost use Rattle.tb_program.specs.Plan.{Planned, queue_of};
+ghost use Rattle.tb_layout.specs.claim.Bounds.{batch_max};
+ghost use Rattle.tb_layout.specs.claim.Limits.{clock_max};
+ghost use Rattle.tb_program.specs.clauses.Listing.{plan_text, listing, out, is_faultless};
+ghost use Rattle.tb_program_text.specs.clauses.Source.{source_in};
+ghost use Rattle.tb_program.specs.clauses.Operations.{operation_in, operations_listed, operations_told};
+ghost use Rattle.tb_program.specs.inside.SplitPlan.{line_of};
+ghost use Rattle.tb_program.specs.clauses.Plan.{Planned, queue_of};
 
 mod listing;
 mod plan;

@@ -2,8 +2,8 @@
 
 ghost use Rattle.std.specs.Prelude.{◌≡◌, ◌++◌, IfOk, OnOk, map};
 ghost use Rattle.std.specs.List.{flat_map};
-ghost use Rattle.tb_program.specs.Drivers.{lists_of};
-ghost use Rattle.tb_program.specs.Operations.{operation_in, operations_of};
+ghost use Rattle.tb_program.specs.inside.Drivers.{lists_of};
+ghost use Rattle.tb_program.specs.clauses.Operations.{operation_in, operations_of};
 
 use std::alloc::{AllocError, Global};
 use tb_layout::NoMemory;

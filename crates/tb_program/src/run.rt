@@ -2,17 +2,17 @@
 
 ghost use Rattle.std.specs.Prelude.{◌≡◌, ◌≤◌, ℕ, List, [], false, true, length, map, IfOk, IfSome, IsErrOf, string_bytes};
 ghost use Rattle.std.specs.Io.KnownBytes.{Appends, Keeps};
-ghost use Rattle.tb_core.specs.Ledger.{new_ledger};
-ghost use Rattle.tb_drive.specs.Plan.{planned_items, refused_of};
-ghost use Rattle.tb_pipe.specs.Reported.{AreTogether};
-ghost use Rattle.tb_layout.specs.inside.Limits.{submitters_max};
-ghost use Rattle.tb_program.specs.Drivers.{AreNew, lists_of, share_of};
-ghost use Rattle.tb_program.specs.Noting.{AreFresh, HaveCredit};
-ghost use Rattle.tb_program.specs.Listing.{out, is_faultless};
-ghost use Rattle.tb_program_text.specs.Source.{source_in};
-ghost use Rattle.tb_program.specs.Operations.{operations_run, operations_told};
-ghost use Rattle.tb_program.specs.RunText.{IsRunOf, IsRunText, IsTextOf};
-ghost use Rattle.tb_program_text.specs.Script.{InBounds, capacity_of, clock_of, credit_of, limit_of, submitters_of};
+ghost use Rattle.tb_core.specs.claim.Ledger.{new_ledger};
+ghost use Rattle.tb_drive.specs.clauses.Plan.{planned_items, refused_of};
+ghost use Rattle.tb_pipe.specs.clauses.Reported.{AreTogether};
+ghost use Rattle.tb_layout.specs.claim.Bounds.{submitters_max};
+ghost use Rattle.tb_program.specs.inside.Drivers.{AreNew, lists_of, share_of};
+ghost use Rattle.tb_program.specs.clauses.Noting.{AreFresh, HaveCredit};
+ghost use Rattle.tb_program.specs.clauses.Listing.{out, is_faultless};
+ghost use Rattle.tb_program_text.specs.clauses.Source.{source_in};
+ghost use Rattle.tb_program.specs.clauses.Operations.{operations_run, operations_told};
+ghost use Rattle.tb_program.specs.clauses.RunText.{IsRunOf, IsRunText, IsTextOf};
+ghost use Rattle.tb_program_text.specs.clauses.Script.{InBounds, capacity_of, clock_of, credit_of, limit_of, submitters_of};
 
 mod driver;
 mod fault;

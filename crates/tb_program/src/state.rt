@@ -1,9 +1,9 @@
 //! The lines of a state.
 
 ghost use Rattle.std.specs.Prelude.{◌≡◌, ◌++◌, OnOk, flat_map, string_bytes};
-ghost use Rattle.tb_machine.specs.inside.Accounts.{balanced_accounts};
-ghost use Rattle.tb_program_text.specs.Output.{account_line};
-ghost use Rattle.tb_program.specs.Listing.{state_text};
+ghost use Rattle.tb_machine.specs.clauses.Accounts.{balanced_accounts};
+ghost use Rattle.tb_program_text.specs.clauses.Output.{account_line};
+ghost use Rattle.tb_program.specs.clauses.Listing.{state_text};
 
 use std::alloc::AllocError;
 use tb_machine::Machine;

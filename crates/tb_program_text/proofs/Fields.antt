@@ -1,30 +1,15 @@
 -- A line spelled from the fields of an event adds the bytes that are written of it.
 use Rattle.std.proofs.Common.{◌≡◌, ℕ, zero, suc, ◌+◌, ◌-◌, ◌*◌, ◌/◌, ◌%◌, ◌^◌, ◌<◌, ◌≤◌, Bool, true, false, List, [], ◌∷◌, ◌++◌, length, take, drop, replicate, set, refl, sym, ap, ◌∙◌, arith, Some, Ok, Result, length-append, append_assoc, subst, lt-ltb}
-use Rattle.std.specs.Prelude.{◌==◌, ◌&&◌, All, map, codes, decimal, nat_le, nat_lt, slice_index, slice_index_or, is_some, not}
-use Rattle.std.specs.List.{list_all}
-use Rattle.std.specs.Int.{byte_at, bytes_low_first, to_le_bytes, w128}
-use Rattle.std.proofs.lemmas.List.{drop-replicate, get_or-set_other}
-use Rattle.std.proofs.lemmas.List.Elements.{All-head, All-tail}
-use Rattle.std.proofs.lemmas.List.Folds.{list_all-append}
-use Rattle.std.proofs.lemmas.Bool.{and_parts}
-use Rattle.std.proofs.lemmas.Bool.Decides.{nat_tests}
+use Rattle.tb_program_text.proofs.Words.{◌==◌, ◌&&◌, All, map, codes, decimal, nat_le, nat_lt, slice_index, slice_index_or, is_some, not, list_all, byte_at, bytes_low_first, to_le_bytes, w128, drop-replicate, get_or-set_other, All-head, All-tail, list_all-append, and_parts, nat_tests, drop-append-add, take-append_seam, Fault, Draft, Layout, Keyword, Adds, SpelledAccountsAreLaidOut, SpelledTransfersAreLaidOut, SpelledIdsAreLaidOut, ParsedScript, may_stand, with_bytes, field, NamedNumber, IsOfItsSize, field_word, fields_line, line_of_words, named_of_account, named_of_transfer, ◌>>=◌}
 use Rattle.std.proofs.Math.Nat.{div-div-eq-div-mul, div-one, pow-suc, pow-le-pow_right}
-use Rattle.std.proofs.Math.Seq.{drop-append-add, take-append_seam}
 use Rattle.tb_layout.specs.declared.account.Account.{Account}
 use Rattle.tb_layout.specs.declared.transfer.Transfer.{Transfer}
-use Rattle.tb_layout.specs.inside.Bytes.{bytes_of, bytes_in_turn}
-use Rattle.tb_program_text.specs.declared.fault.Fault.{Fault}
-use Rattle.tb_program_text.specs.declared.event.Draft.{Draft}
-use Rattle.tb_program_text.specs.declared.event.Layout.{Layout}
+use Rattle.tb_layout.specs.claim.BytesOfNumbers.{bytes_of, bytes_in_turn}
 use Rattle.tb_program_text.specs.declared.event.Layout.TheVariants as layout
-use Rattle.tb_program_text.specs.declared.keyword.Keyword.{Keyword}
 use Rattle.tb_program_text.specs.declared.keyword.Keyword.TheVariants as word
-use Rattle.tb_program_text.specs.Keyword.{keyword_of}
-use Rattle.tb_program_text.specs.Laws.{Adds, SpelledAccountsAreLaidOut, SpelledTransfersAreLaidOut, SpelledIdsAreLaidOut}
-use Rattle.tb_program_text.specs.Script.{ParsedScript, may_stand, with_bytes, with_line}
-use Rattle.tb_program_text.specs.Event.{field, field_of, after_word, after_words, event_of}
-use Rattle.tb_program_text.specs.Spelling.{NamedNumber, IsOfItsSize, field_word, fields_line, line_of_words, named_of_account, named_of_transfer}
-use Rattle.tb_program_text.specs.Steps.{◌>>=◌}
+use Rattle.tb_program_text.specs.clauses.Keyword.{keyword_of}
+use Rattle.tb_program_text.specs.clauses.Script.{with_line}
+use Rattle.tb_program_text.specs.clauses.Event.{field_of, after_word, after_words, event_of}
 use Rattle.tb_program_text.proofs.Named.{sides_of_named}
 use Rattle.tb_program_text.proofs.Spelling.{is_word, is_word_byte, decimal_is_word, length-decimal, number_line, number_within-decimal, keyword_line}
 

@@ -1,14 +1,7 @@
 -- The first line of a text, and its first word.
 use Rattle.std.proofs.Common.{◌≡◌, ℕ, ◌+◌, ◌<◌, ◌≤◌, Bool, true, not, List, [], ◌∷◌, length, ◌++◌, take, drop, refl, sym, ap, ◌∙◌, arith, inl, inr, ◌⊎◌, suc, length-append, append_assoc, take-append-drop, length-take-le}
-use Rattle.std.specs.Prelude.{◌==◌, ◌||◌}
-use Rattle.std.specs.List.{position_or_len, list_all}
-use Rattle.std.specs.Char.{is_ascii_digit}
-use Rattle.std.proofs.lemmas.Grind.{common_steps}
-use Rattle.std.proofs.lemmas.List.{drop-drop, length-drop, nil_from_length}
-use Rattle.std.proofs.lemmas.List.Folds.{length-prefix_len}
-use Rattle.std.proofs.lemmas.Bool.{and_parts}
-use Rattle.std.proofs.Math.Seq.{drop-append-add, take-append-add, take-append_seam, drop-append_seam}
-use Rattle.tb_program_text.specs.Text.{lines_of, words_of, first_line, after_first_line, first_word, after_first_word}
+use Rattle.tb_program_text.proofs.Words.{◌==◌, ◌||◌, position_or_len, list_all, is_ascii_digit, common_steps, drop-drop, length-drop, nil_from_length, length-prefix_len, and_parts, drop-append-add, take-append-add, take-append_seam, drop-append_seam, first_line, after_first_line, first_word, after_first_word}
+use Rattle.tb_program_text.specs.clauses.Text.{lines_of, words_of}
 use Rattle.tb_program_text.proofs.Texts.{list_all-implied, next_taken, none_before, spaces, word_end, line_end, lines_first, words_from_space, trimmed_begins}
 
 -- what is first found after bytes that don't pass

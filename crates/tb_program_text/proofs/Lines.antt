@@ -1,11 +1,8 @@
 -- Lines one after another: those without fault, and the first faulty one.
 use Rattle.std.proofs.Common.{◌≡◌, ℕ, suc, ◌+◌, List, [], ◌∷◌, ◌++◌, length, Result, Ok, Err, refl, sym, ap, ◌∙◌, arith}
-use Rattle.std.specs.Prelude.{IsOk}
-use Rattle.tb_program_text.specs.declared.fault.Fault.{Fault}
-use Rattle.tb_program_text.specs.Text.{lines_of}
-use Rattle.tb_program_text.specs.Script.{ParsedScript, after_line, after_lines, at_line}
-use Rattle.tb_program_text.specs.Steps.{◌>>=◌}
-use Rattle.tb_program_text.specs.Laws.{FirstFaultDecides, FaultlessLinesAreParsed}
+use Rattle.tb_program_text.proofs.Words.{IsOk, Fault, ParsedScript, at_line, ◌>>=◌, FirstFaultDecides, FaultlessLinesAreParsed}
+use Rattle.tb_program_text.specs.clauses.Text.{lines_of}
+use Rattle.tb_program_text.specs.clauses.Script.{after_line, after_lines}
 
 pub line_parsed : (number : ℕ) (parsed next : ParsedScript) (all : List (List ℕ)) (line : List ℕ) (lines : List (List ℕ))
     → all ≡ line ∷ lines → after_line parsed line ≡ Ok next →

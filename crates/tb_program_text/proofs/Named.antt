@@ -1,23 +1,8 @@
 -- The field that a word names, and its number.
 use Rattle.std.proofs.Common.{rules, ◌≡◌, ℕ, ◌+◌, ◌<◌, ◌≤◌, true, false, List, [], ◌∷◌, ◌++◌, length, take, drop, refl, sym, ap, ◌∙◌, arith, ◌-◌, suc, Bor, Some, None, Option, Ok, Err, Result, length-append, append_assoc, take-append-drop, lt-ltb, le-ltb, inl, inr}
-use Rattle.std.specs.Prelude.{◌==◌, All, map, slice_index_or, not, bytes_eq, get_or}
-use Rattle.std.specs.List.{list_all, position_or_len, before_first, after_first as rest_after}
-use Rattle.std.proofs.lemmas.Bool.{cases_lt, false_from_ne_true}
-use Rattle.std.proofs.lemmas.Bool.Decides.{Decides-eqb}
-use Rattle.std.proofs.lemmas.List.Sums.{split_at_first, passes_at_first}
-use Rattle.std.proofs.lemmas.List.Elements.{All-head, All-tail, All-drop, All-map}
-use Rattle.std.proofs.lemmas.Slice.Eq.{bytes_eq-Decides}
-use Rattle.std.proofs.Math.Seq.{drop-append-add, take-append-add, take-append_seam, get_or-append_seam, split_at}
-use Rattle.std.proofs.lemmas.Grind.{common_steps}
-use Rattle.tb_program_text.specs.declared.event.Field.{Field}
-use Rattle.tb_program_text.specs.declared.fault.Fault.{Fault}
-use Rattle.tb_program_text.specs.declared.event.Draft.{Draft}
-use Rattle.tb_program_text.specs.declared.event.Layout.{Layout}
-use Rattle.tb_program_text.specs.declared.event.Layout.TheVariants.{Account, Transfer}
-use Rattle.tb_program_text.specs.Event.{AreRowsOf, IsBare, Lies, after_word, after_words, field_and_number, field_of, fields_of, found, greatest, named, new_field, sides_of, with_number}
-use Rattle.tb_program_text.specs.Number.{number_within}
-use Rattle.tb_program_text.specs.Steps.{◌>>=◌, look_up}
-use Rattle.tb_program_text.specs.Text.{words_of, first_word, after_first_word}
+use Rattle.tb_program_text.proofs.Words.{◌==◌, All, map, slice_index_or, not, bytes_eq, get_or, list_all, position_or_len, before_first, rest_after, cases_lt, false_from_ne_true, Decides-eqb, split_at_first, passes_at_first, All-head, All-tail, All-drop, All-map, bytes_eq-Decides, drop-append-add, take-append-add, take-append_seam, get_or-append_seam, split_at, common_steps, Field, Fault, Draft, Layout, Account, Transfer, AreRowsOf, IsBare, Lies, fields_of, found, greatest, named, new_field, sides_of, with_number, number_within, ◌>>=◌, look_up, first_word, after_first_word}
+use Rattle.tb_program_text.specs.clauses.Event.{after_word, after_words, field_and_number, field_of}
+use Rattle.tb_program_text.specs.clauses.Text.{words_of}
 use Rattle.tb_program_text.proofs.FirstLines.{found_after}
 use Rattle.tb_program_text.proofs.Texts.{word_end, words_first, empty_words}
 use Rattle.tb_program_text.proofs.Tables.{AreOwn, found_row}

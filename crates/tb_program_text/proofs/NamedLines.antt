@@ -1,7 +1,8 @@
 -- The lines of an output, one after the other, with the names of their codes.
 use Rattle.std.proofs.Common.{◌≡◌, ℕ, List, [], ◌∷◌, ◌++◌, length, drop, codes, refl, arith}
-use Rattle.tb_program_text.specs.Text.{lines_of, words_of}
-use Rattle.tb_program_text.specs.Naming.{first_operation, named_line, named_lines}
+use Rattle.tb_program_text.specs.clauses.Text.{lines_of, words_of}
+use Rattle.tb_program_text.proofs.Words.{first_operation, named_line}
+use Rattle.tb_program_text.specs.clauses.Naming.{named_lines}
 
 pub line_named : (operations : List ℕ) (all : List (List ℕ)) (line : List ℕ) (lines : List (List ℕ)) → all ≡ line ∷ lines
     → named_lines operations all

@@ -1,23 +1,14 @@
 -- What `parse` answers for a word of digits.
 use Rattle.std.proofs.Common.{◌≡◌, ℕ, zero, suc, ◌+◌, ◌-◌, ◌*◌, ◌/◌, ◌%◌, ◌<◌, ◌≤◌, ◌^◌, true, false, List, ◌∷◌, ◌++◌, length, take, get_or, refl, ap, ◌∙◌, arith, rules, lt-ltb, le-ltb, length-take-le, Some, None, Ok, Err, Result, inl, inr}
-use Rattle.std.specs.Prelude.{◌==◌}
-use Rattle.std.specs.List.{list_all, position_or_len}
-use Rattle.std.specs.Char.{is_ascii_digit}
+use Rattle.tb_program_text.proofs.Words.{◌==◌, list_all, position_or_len, is_ascii_digit, ParsesUnsigned, digits_value, IsAscii-from_digits, list_all_more, bytes_low_first, to_le_bytes, w64, w128, cases_lt, common_steps, fitting, first_word, after_first_word}
 use Rattle.std.specs.Str.{IsUtf8}
-use Rattle.std.specs.Str.Parse.{ParsesUnsigned, digits_value}
 use Rattle.std.specs.Result.{result_ok, OkIff}
-use Rattle.std.proofs.lemmas.Str.{IsUtf8-from_ascii}
-use Rattle.std.proofs.lemmas.Fmt.{IsAscii-from_digits}
+use Rattle.std.proofs.lemmas.Str.{IsUtf8-from_ascii, digit_value_digit}
 use Rattle.std.proofs.lemmas.Str.Parse.{IsNumeralModel, numerals_by_value, parse_digits, digits_value_short}
 use Rattle.std.proofs.lemmas.Int.Digits.{digits_value_more}
-use Rattle.std.proofs.lemmas.List.Folds.{list_all_more}
-use Rattle.std.proofs.lemmas.Str.{digit_value_digit}
 use Rattle.std.proofs.lemmas.Nat.{le_bytes_8}
-use Rattle.std.specs.Int.{bytes_low_first, to_le_bytes, w64, w128}
-use Rattle.std.proofs.lemmas.Bool.{cases_lt}
-use Rattle.std.proofs.lemmas.Grind.{common_steps}
-use Rattle.tb_program_text.specs.Number.{number_of, fitting}
-use Rattle.tb_program_text.specs.Text.{words_of, first_word, after_first_word}
+use Rattle.tb_program_text.specs.clauses.Number.{number_of}
+use Rattle.tb_program_text.specs.clauses.Text.{words_of}
 use Rattle.tb_program_text.proofs.Texts.{words_first}
 
 pub own : IsNumeralModel (λ ds. list_all is_ascii_digit ds ≡ true) (digits_value 10)

@@ -1,34 +1,21 @@
 -- What is spelled is read.
 use Rattle.std.proofs.Common.{◌≡◌, ℕ, suc, ◌+◌, ◌-◌, ◌/◌, ◌%◌, ◌^◌, ◌<◌, ◌≤◌, Bool, true, false, List, [], ◌∷◌, ◌++◌, length, map, refl, sym, ap, ◌∙◌, arith, Some, None, Option, Ok, length-append, subst, append_assoc, lt-ltb, le-ltb, zero, append-nil}
-use Rattle.std.specs.Prelude.{◌==◌, ◌&&◌, nat_le, nat_lt, filter, codes, decimal, slice_index, All, unwrap_or}
-use Rattle.std.specs.List.{list_all, flat_map}
-use Rattle.std.specs.Char.{is_ascii_digit}
-use Rattle.std.specs.Str.Parse.{digits_value}
-use Rattle.std.proofs.lemmas.List.Folds.{list_all-append}
-use Rattle.std.proofs.lemmas.List.Elements.{All-head, All-tail}
-use Rattle.std.proofs.lemmas.List.Sums.{AllPass-from_list_all}
+use Rattle.tb_program_text.proofs.Words.{◌==◌, ◌&&◌, nat_le, nat_lt, filter, codes, decimal, slice_index, All, unwrap_or, list_all, flat_map, is_ascii_digit, digits_value, list_all-append, All-head, All-tail, AllPass-from_list_all, and_parts, nat_tests, decimal_is_IsNumeral_wide, length-decimal-le_wide, Keyword, number_within, ◌>>=◌, ParsedScript, nothing_parsed, items_of, may_stand, is_text, with_words, with_pulse, with_close, submitters_of, line_of_words, text_of_lines, setting_lines, settings_lines, byte_line, packet_lines, item_lines, IsWithin, CanBeSet, CanBeSubmitted, CanBeWritten, CanAllBeWritten, shut_by, SpelledScriptsAreRead}
 use Rattle.std.proofs.lemmas.List.Splits.{slice_split_at, slice_split_none}
-use Rattle.std.proofs.lemmas.Bool.{and_parts}
-use Rattle.std.proofs.lemmas.Bool.Decides.{nat_tests}
-use Rattle.std.proofs.lemmas.Fmt.{decimal_is_IsNumeral_wide, length-decimal-le_wide}
 use Rattle.hex.specs.Hex.{IsBytes, encode_lower, encode_with, lower_digits}
 use Rattle.hex.proofs.HexLemmas.{decode_of-encode_lower}
-use Rattle.tb_program_text.specs.declared.keyword.Keyword.{Keyword}
 use Rattle.tb_program_text.specs.declared.keyword.Keyword.TheVariants as word
 use Rattle.tb_program_text.specs.declared.item.Settings.{Settings}
 use Rattle.tb_program_text.specs.declared.item.ScriptItem.{ScriptItem}
 use Rattle.tb_program_text.specs.declared.item.ScriptItem.TheVariants.{Packet, Pulse, Shut}
-use Rattle.tb_program_text.specs.Text.{lines_of, words_of}
-use Rattle.tb_program_text.specs.Number.{number_of, number_within}
-use Rattle.tb_program_text.specs.Steps.{◌>>=◌}
-use Rattle.tb_program_text.specs.Keyword.{keyword_of}
-use Rattle.tb_program_text.specs.Event.{hex_bytes}
-use Rattle.tb_layout.specs.inside.Limits.{batch_max, capacity_max, submitters_max}
-use Rattle.tb_layout.specs.Limits.{clock_max}
+use Rattle.tb_program_text.specs.clauses.Text.{lines_of, words_of}
+use Rattle.tb_program_text.specs.clauses.Number.{number_of}
+use Rattle.tb_program_text.specs.clauses.Keyword.{keyword_of}
+use Rattle.tb_program_text.specs.clauses.Event.{hex_bytes}
+use Rattle.tb_layout.specs.claim.Bounds.{batch_max, capacity_max, submitters_max}
+use Rattle.tb_layout.specs.claim.Limits.{clock_max}
 use Rattle.tb_work.specs.declared.packet.Packet as packets
-use Rattle.tb_program_text.specs.Script.{ParsedScript, nothing_parsed, items_of, may_stand, is_text, with_words, with_line, with_pulse, with_close, after_line, after_lines, submitters_of}
-use Rattle.tb_program_text.specs.Spelling.{line_of_words, text_of_lines, setting_lines, settings_lines, byte_line, packet_lines, item_lines, IsWithin, CanBeSet, CanBeSubmitted, CanBeWritten, CanAllBeWritten, shut_by}
-use Rattle.tb_program_text.specs.Laws.{SpelledScriptsAreRead}
+use Rattle.tb_program_text.specs.clauses.Script.{with_line, after_line, after_lines}
 use Rattle.tb_program_text.proofs.Lines.{after_lines-append}
 use Rattle.tb_program_text.proofs.Numbers.{own}
 use Rattle.tb_program_text.proofs.Texts.{all-implied, list_all-implied}

@@ -1,9 +1,6 @@
 -- What tables of words have for a word.
 use Rattle.std.proofs.Common.{rules, ◌≡◌, Decides, cond, ℕ, Bool, true, false, List, [], ◌∷◌, refl, sym, subst, Some, Option}
-use Rattle.std.specs.Prelude.{All, bytes_eq}
-use Rattle.std.proofs.lemmas.List.Elements.{All-head, All-tail}
-use Rattle.std.proofs.lemmas.Slice.Eq.{bytes_eq-Decides}
-use Rattle.tb_program_text.specs.Steps.{look_up}
+use Rattle.tb_program_text.proofs.Words.{All, bytes_eq, All-head, All-tail, bytes_eq-Decides, look_up}
 
 -- rows that a table has for their names
 abbrev pub AreOwn : {Value : Type 0} → List (List ℕ × Value) → List (List ℕ × Value) → Type 0

@@ -1,15 +1,8 @@
 -- The first line of bytes, and the first word of a line.
 use Rattle.std.proofs.Common.{◌≡◌, ℕ, ◌+◌, ◌<◌, Bool, true, false, cond, not, List, [], ◌∷◌, length, ◌++◌, take, drop, refl, sym, ap, ◌∙◌, arith, lt-ltb, inl, inr, Some, None, Option, ◌⊎◌, suc}
-use Rattle.std.specs.Prelude.{◌==◌, ◌&&◌, All, filter, nat_lt, position, unwrap_or}
-use Rattle.std.specs.List.{position_or_len, slice_split, onto_first, list_all}
-use Rattle.std.proofs.lemmas.Grind.{common_steps}
-use Rattle.std.proofs.lemmas.List.Elements.{All-nil, All-cons}
-use Rattle.std.proofs.lemmas.List.Folds.{length-prefix_len, list_all-append}
-use Rattle.std.proofs.lemmas.List.{get_or-take}
-use Rattle.std.proofs.lemmas.List.Sums.{list_all-from_AllPass, prefix_len-le-length, prefix_len_passes, position_or_len_is}
-use Rattle.std.proofs.lemmas.Bool.{and_parts, cases_lt, cond_below, false_from_ne_true}
+use Rattle.tb_program_text.proofs.Words.{◌==◌, ◌&&◌, All, filter, nat_lt, position, unwrap_or, position_or_len, slice_split, onto_first, list_all, common_steps, All-nil, All-cons, length-prefix_len, list_all-append, get_or-take, list_all-from_AllPass, prefix_len-le-length, prefix_len_passes, position_or_len_is, and_parts, cases_lt, cond_below, false_from_ne_true}
 use Rattle.memchr.specs.Find.{IsFirstByte, is_byte}
-use Rattle.tb_program_text.specs.Text.{lines_of, words_of}
+use Rattle.tb_program_text.specs.clauses.Text.{lines_of, words_of}
 
 -- what passes a test passes each that it implies
 pub list_all-implied : (p q : ℕ → Bool) (xs : List ℕ) → ((x : ℕ) → p x ≡ true → q x ≡ true)

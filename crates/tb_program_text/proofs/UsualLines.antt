@@ -1,27 +1,14 @@
 -- Lines without fault are text, and what they say.
 use Rattle.std.proofs.Common.{◌≡◌, ℕ, ◌+◌, ◌<◌, ◌≤◌, Bool, true, false, cond, not, List, [], ◌∷◌, length, ◌++◌, take, drop, refl, sym, ap, ◌∙◌, arith, rules, inl, inr, Some, None, Option, Ok, Err, Result, suc, lt-ltb, le-ltb, le-leb, take-append-drop}
-use Rattle.std.specs.Prelude.{◌==◌, ◌&&◌, IfOk, codes, is_some, map, nat_le, slice_index, slice_index_or}
-use Rattle.std.specs.List.{after_first, before_first, list_all, onto_first, position_or_len, slice_split}
+use Rattle.tb_program_text.proofs.Words.{◌==◌, ◌&&◌, IfOk, codes, is_some, map, nat_le, slice_index, slice_index_or, after_first, before_first, list_all, onto_first, position_or_len, slice_split, is_ascii_digit, common_steps, list_all-append, and_parts, cases_lt, take-append_seam, drop-append_seam, Field, Draft, Layout, Account, Transfer, Fault, Keyword, blank, fields_of, greatest, new_field, sides_of, with_number, number_within, within, ParsedScript, is_text, line_max, may_stand, packet_numbers, with_bytes, with_event, with_words, ◌>>=◌, after_first_line, first_line}
 use Rattle.std.specs.Option.{MatchOption}
-use Rattle.std.specs.Char.{is_ascii_digit}
-use Rattle.std.proofs.lemmas.Grind.{common_steps}
-use Rattle.std.proofs.lemmas.List.Folds.{list_all-append}
-use Rattle.std.proofs.lemmas.Bool.{and_parts, cases_lt}
-use Rattle.std.proofs.Math.Seq.{take-append_seam, drop-append_seam}
-use Rattle.tb_program_text.specs.declared.event.Field.{Field}
-use Rattle.tb_program_text.specs.declared.event.Draft.{Draft}
-use Rattle.tb_program_text.specs.declared.event.Layout.{Layout}
-use Rattle.tb_program_text.specs.declared.event.Layout.TheVariants.{Account, Transfer}
-use Rattle.tb_program_text.specs.declared.fault.Fault.{Fault}
 use Rattle.tb_program_text.specs.declared.fault.Fault.TheVariants.{BadField, LineTooLong}
-use Rattle.tb_program_text.specs.declared.keyword.Keyword.{Keyword}
 use Rattle.tb_program_text.specs.declared.keyword.Keyword.TheVariants as word
-use Rattle.tb_program_text.specs.Event.{after_word, after_words, blank, event_of, field_of, fields_of, greatest, new_field, sides_of, with_number}
-use Rattle.tb_program_text.specs.Keyword.{keyword_of}
-use Rattle.tb_program_text.specs.Number.{number_of, number_within, within}
-use Rattle.tb_program_text.specs.Script.{ParsedScript, after_line, is_text, line_max, may_stand, packet_numbers, with_bytes, with_event, with_line, with_words}
-use Rattle.tb_program_text.specs.Steps.{◌>>=◌}
-use Rattle.tb_program_text.specs.Text.{after_first_line, first_line, words_of}
+use Rattle.tb_program_text.specs.clauses.Event.{after_word, after_words, event_of, field_of}
+use Rattle.tb_program_text.specs.clauses.Keyword.{keyword_of}
+use Rattle.tb_program_text.specs.clauses.Number.{number_of}
+use Rattle.tb_program_text.specs.clauses.Script.{after_line, with_line}
+use Rattle.tb_program_text.specs.clauses.Text.{words_of}
 use Rattle.tb_program_text.proofs.FirstLines.{begins_line, found_after, has_no_end}
 use Rattle.tb_program_text.proofs.Named.{parts_of}
 use Rattle.tb_program_text.proofs.Tables.{found_row}

@@ -1,7 +1,7 @@
 //! How the program ends.
 
 ghost use Rattle.std.specs.Prelude.{◌≡◌};
-ghost use Rattle.tb_program_text.specs.Ending.{ending_of, remark_of, status_of, text_of};
+ghost use Rattle.tb_program_text.specs.clauses.Ending.{ending_of, remark_of, status_of, text_of};
 
 use crate::program_fault::ProgramFault;
 

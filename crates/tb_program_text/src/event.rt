@@ -2,10 +2,10 @@
 
 ghost use Rattle.std.specs.Prelude.{◌≡◌, ◌≤◌, ◌<◌, ◌+◌, ◌⊎◌, Some, All, length, map, IfOk};
 ghost use Rattle.std.specs.Int.{to_le_bytes, w128};
-ghost use Rattle.tb_program_text.specs.Text.{words_of, first_line, after_first_line, first_word, after_first_word};
-ghost use Rattle.tb_program_text.specs.Steps.{Gives, Makes, Tells};
-ghost use Rattle.tb_program_text.specs.Number.{number_of};
-ghost use Rattle.tb_program_text.specs.Event.{Lies, IsBare, AreRowsOf, named, field_and_number, greatest, new_field, with_number, put, after_word, after_words, blank, hex_bytes};
+ghost use Rattle.tb_program_text.specs.clauses.Text.{words_of, first_line, after_first_line, first_word, after_first_word};
+ghost use Rattle.tb_program_text.specs.clauses.Steps.{Gives, Makes, Tells};
+ghost use Rattle.tb_program_text.specs.clauses.Number.{number_of};
+ghost use Rattle.tb_program_text.specs.clauses.Event.{Lies, IsBare, AreRowsOf, named, field_and_number, greatest, new_field, with_number, put, after_word, after_words, blank, hex_bytes};
 
 use crate::fault::{Fault, LineError};
 use crate::number::{in_bounds, leading_number, long_first};
@@ -128,7 +128,7 @@ fn named<'a>(mut rows: &[(&[u8], Field)], text: &'a [u8]) -> Result<NamedField<'
 }
 
 /// Returns the field that the first word of a text names.
-#[tactic(auto, unfolding(crate::specs::Event::field_and_number))]
+#[tactic(auto, unfolding(crate::specs::clauses::Event::field_and_number))]
 fn field_and_number(layout: Layout, text: &[u8]) -> Result<NamedField, Fault>
     ensures both { Tells (λ first. (first.field, first_word (first_line first.from_number.now))) result
         (field_and_number layout (first_word (first_line text.now))) }
@@ -288,7 +288,7 @@ fn assign<'a>(
 /// Takes all words of a text's first line, each a field with its number, and returns the text from the end of that line
 /// on.
 #[inline(always)]
-#[tactic(auto, unfolding(crate::specs::Event::after_words))]
+#[tactic(auto, unfolding(crate::specs::clauses::Event::after_words))]
 fn assign_words<'a>(
     layout: Layout,
     draft: &mut Draft,
@@ -357,7 +357,7 @@ pub(crate) fn size_of_first(layout: Layout, text: &[u8]) -> Option<usize> {
 }
 
 /// Returns the bytes that hexadecimal digits give; there must be exactly as many pairs of these.
-#[tactic(auto, unfolding(crate::specs::Event::hex_bytes))]
+#[tactic(auto, unfolding(crate::specs::clauses::Event::hex_bytes))]
 pub(crate) fn hex_bytes(alloc: Global, word: &[u8]) -> Result<Vec<u8>, LineError>
     ensures { Gives (λ v. v.items) result (hex_bytes word.now) }
 {

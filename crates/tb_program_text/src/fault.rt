@@ -1,7 +1,7 @@
 //! Why a line of a script is faulty.
 
 ghost use Rattle.std.specs.Prelude.{◌≡◌};
-ghost use Rattle.tb_program_text.specs.Fault.{fault_text};
+ghost use Rattle.tb_program_text.specs.clauses.Fault.{fault_text};
 ghost use Rattle.tb_program_text.specs.declared.fault.LineError.TheVariants.{NoMemory as OutOfMemory, Fault as FaultOf};
 
 use std::alloc::AllocError;

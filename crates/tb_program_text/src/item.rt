@@ -1,7 +1,7 @@
 //! What a script says.
 
 ghost use Rattle.std.specs.Prelude.{◌≡◌};
-ghost use Rattle.tb_program_text.specs.Script.{clock_of, limit_of, capacity_of, credit_of, submitters_of};
+ghost use Rattle.tb_program_text.specs.clauses.Script.{clock_of, limit_of, capacity_of, credit_of, submitters_of};
 
 use crate::submitter_number::SubmitterNumber;
 use tb_layout::BATCH_MAX;

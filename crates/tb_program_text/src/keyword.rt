@@ -1,7 +1,7 @@
 //! The words that begin lines.
 
 ghost use Rattle.std.specs.Prelude.{◌≡◌};
-ghost use Rattle.tb_program_text.specs.Keyword.{keyword_of};
+ghost use Rattle.tb_program_text.specs.clauses.Keyword.{keyword_of};
 
 use crate::table::look_up;
 
@@ -39,7 +39,7 @@ const KEYWORDS: [(&[u8], Keyword); 12] = [
 ];
 
 /// Returns the keyword that a word spells.
-#[tactic(auto, unfolding(crate::specs::Keyword::keyword_of))]
+#[tactic(auto, unfolding(crate::specs::clauses::Keyword::keyword_of))]
 pub(crate) fn keyword_of(word: &[u8]) -> Option<Keyword>
     ensures { result ≡ keyword_of word.now }
 {

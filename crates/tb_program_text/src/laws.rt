@@ -1,6 +1,6 @@
 //! Laws on what a script says.
 
-ghost use Rattle.tb_program_text.specs.Laws.{FirstFaultDecides, FaultlessLinesAreParsed, SpelledAccountsAreLaidOut, SpelledIdsAreLaidOut, SpelledScriptsAreRead, SpelledTransfersAreLaidOut};
+ghost use Rattle.tb_program_text.specs.clauses.Laws.{FirstFaultDecides, FaultlessLinesAreParsed, SpelledAccountsAreLaidOut, SpelledIdsAreLaidOut, SpelledScriptsAreRead, SpelledTransfersAreLaidOut};
 
 /// Establishes that the first faulty line decides, whatever follows it.
 #[tactic(auto, using(crate::proofs::Lines::decides))]

@@ -1,14 +1,14 @@
 //! The text that the program reads, the lines that it prints, and the command line.
 //!
 //! `parse` reads the text of a script into its settings and its items: packets with their bytes, pulses, the Close. If a line is
-//! faulty, it returns the number and the fault of the first one. For any text this is what `specs/Script.antt` defines.
+//! faulty, it returns the number and the fault of the first one. For any text this is what `specs/clauses/Script.antt` defines.
 //!
 //! Two laws on that definition: a script spelled from settings and items is read as these (`spelled_scripts_are_read`). An event or
 //! id spelled from its fields is the bytes that `tb_layout` lays out (`spelled_accounts_are_laid_out` and its like).
 //!
 //! `read_script` reads the bytes of a script, `source_of` says what they are: a script, or the line of its fault, with a remark on it for
 //! people. `put_reply` and its
-//! like append exactly the line that `specs/Output.antt` defines, and `write_out` writes a whole text. `request_of` is what the
+//! like append exactly the line that `specs/clauses/Output.antt` defines, and `write_out` writes a whole text. `request_of` is what the
 //! arguments ask for; `ending_of`, `Ending::status` and `Ending::text` give the exit status and the last line.
 #![tactic(auto)]
 

@@ -2,8 +2,8 @@
 
 ghost use Rattle.std.specs.Prelude.{◌≡◌, ◌++◌, codes, drop, IfOk, OnOk, count_by};
 ghost use Rattle.std.specs.List.{flat_map};
-ghost use Rattle.tb_program_text.specs.Text.{words_of};
-ghost use Rattle.tb_program_text.specs.Naming.{code_in, failed_in, first_operation, name_of, named_line, named_text, named_word, named_words, refused_in};
+ghost use Rattle.tb_program_text.specs.clauses.Text.{words_of};
+ghost use Rattle.tb_program_text.specs.clauses.Naming.{code_in, failed_in, first_operation, name_of, named_line, named_text, named_word, named_words, refused_in};
 
 use crate::number::number_within;
 use crate::text::{first_word, length_before, split_line};
@@ -14,7 +14,7 @@ use tb_layout::{AccountCode, CREATE_ACCOUNTS, CREATE_TRANSFERS, TransferCode};
 const UNKNOWN: &str = "unknown";
 
 /// Returns the code of a failure, as `1:22` has it. Returns None for any other word.
-#[tactic(auto, unfolding(crate::specs::Naming::code_in))]
+#[tactic(auto, unfolding(crate::specs::clauses::Naming::code_in))]
 fn code_in(word: &[u8]) -> Option<u32>
     ensures { result ≡ code_in word.now }
 {
@@ -30,7 +30,7 @@ fn code_in(word: &[u8]) -> Option<u32>
 }
 
 /// Returns the name that an operation gives a code.
-#[tactic(auto, unfolding(crate::specs::Naming::name_of))]
+#[tactic(auto, unfolding(crate::specs::clauses::Naming::name_of))]
 fn name_of(operation: u8, code: u32) -> &'static str
     ensures { result.now ≡ name_of operation code }
 {

@@ -3,8 +3,8 @@
 ghost use Rattle.std.specs.Prelude.{true, ◌≡◌, ◌≤◌, ◌∷◌, [], Some, IfOk, IfSome, map};
 ghost use Rattle.std.specs.List.{list_all};
 ghost use Rattle.std.specs.Char.{is_ascii_digit};
-ghost use Rattle.tb_program_text.specs.Text.{words_of, first_line, after_first_line, first_word, after_first_word};
-ghost use Rattle.tb_program_text.specs.Number.{number_of, fitting, within, number_within};
+ghost use Rattle.tb_program_text.specs.clauses.Text.{words_of, first_line, after_first_line, first_word, after_first_word};
+ghost use Rattle.tb_program_text.specs.clauses.Number.{number_of, fitting, within, number_within};
 
 use crate::fault::Fault;
 use crate::text::{is_at_line_end, is_at_word_end, split_first_word, trim_spaces};

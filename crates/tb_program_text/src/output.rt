@@ -4,8 +4,8 @@ ghost use Rattle.std.specs.Io.KnownBytes.{Appends};
 ghost use Rattle.std.specs.Prelude.{◌≡◌, ◌++◌, [], false, IfOk, OnOk, IfErr, codes, string_bytes};
 ghost use Rattle.tb_program_text.specs.declared.program_fault.ProgramFault.TheVariants.{Write as WriteFault};
 ghost use Rattle.std.specs.List.{flat_map};
-ghost use Rattle.tb_program_text.specs.Naming.{named_text as text_with_names};
-ghost use Rattle.tb_program_text.specs.Output.{fault_line, refused_line, failure_text, found_debits, found_credits, found_text, answer_text, outcome_text, packet_front, reply_line, pulse_line, refused_pulse_line, clock_line, account_front, balances_text, account_line};
+ghost use Rattle.tb_program_text.specs.clauses.Naming.{named_text as text_with_names};
+ghost use Rattle.tb_program_text.specs.clauses.Output.{fault_line, refused_line, failure_text, found_debits, found_credits, found_text, answer_text, outcome_text, packet_front, reply_line, pulse_line, refused_pulse_line, clock_line, account_front, balances_text, account_line};
 
 use crate::naming::named_text;
 use crate::program_fault::ProgramFault;
@@ -76,7 +76,7 @@ pub(crate) fn put_fault(out: &mut String, line: usize, text: &str) -> Result<(),
 }
 
 /// Adds the line of a packet that was not admitted.
-#[tactic(auto, unfolding(crate::specs::Output::refused_line))]
+#[tactic(auto, unfolding(crate::specs::clauses::Output::refused_line))]
 pub fn put_refused(out: &mut String, submitter: u32, refusal: Refusal) -> Result<(), AllocError>
     ensures { OnOk result (string_bytes out.new ≡ string_bytes out.old ++ refused_line submitter refusal) }
 {
@@ -95,7 +95,7 @@ fn put_failures(out: &mut String, failures: &[Failure]) -> Result<(), AllocError
     Ok(())
 }
 
-#[tactic(auto, unfolding(crate::specs::Output::found_debits))]
+#[tactic(auto, unfolding(crate::specs::clauses::Output::found_debits))]
 fn put_found_debits(out: &mut String, account: &Account) -> Result<(), AllocError>
     ensures { OnOk result (string_bytes out.new ≡ string_bytes out.old ++ found_debits account.now) }
 {
@@ -104,7 +104,7 @@ fn put_found_debits(out: &mut String, account: &Account) -> Result<(), AllocErro
     put_field(out, ":", account.debits_posted)
 }
 
-#[tactic(auto, unfolding(crate::specs::Output::found_credits))]
+#[tactic(auto, unfolding(crate::specs::clauses::Output::found_credits))]
 fn put_found_credits(out: &mut String, account: &Account) -> Result<(), AllocError>
     ensures { OnOk result (string_bytes out.new ≡ string_bytes out.old ++ found_credits account.now) }
 {
@@ -144,7 +144,7 @@ fn put_outcome(out: &mut String, outcome: &Outcome) -> Result<(), AllocError>
     }
 }
 
-#[tactic(auto, unfolding(crate::specs::Output::packet_front))]
+#[tactic(auto, unfolding(crate::specs::clauses::Output::packet_front))]
 fn put_packet_front(out: &mut String, submitter: u32, number: u64) -> Result<(), AllocError>
     ensures { OnOk result (string_bytes out.new ≡ string_bytes out.old ++ packet_front submitter number) }
 {
@@ -162,7 +162,7 @@ pub fn put_reply(out: &mut String, reply: &Reply) -> Result<(), AllocError>
 }
 
 /// Adds the line of a pulse at a place.
-#[tactic(auto, unfolding(crate::specs::Output::pulse_line))]
+#[tactic(auto, unfolding(crate::specs::clauses::Output::pulse_line))]
 pub fn put_pulse(out: &mut String, place: u64) -> Result<(), AllocError>
     ensures { OnOk result (string_bytes out.new ≡ string_bytes out.old ++ pulse_line place) }
 {
@@ -192,7 +192,7 @@ pub fn put_clock(out: &mut String, clock: u64) -> Result<(), AllocError>
     out.push_str("\n")
 }
 
-#[tactic(auto, unfolding(crate::specs::Output::account_front))]
+#[tactic(auto, unfolding(crate::specs::clauses::Output::account_front))]
 fn put_account_front(out: &mut String, id: u128, timestamp: u64) -> Result<(), AllocError>
     ensures { OnOk result (string_bytes out.new ≡ string_bytes out.old ++ account_front id timestamp) }
 {
@@ -200,7 +200,7 @@ fn put_account_front(out: &mut String, id: u128, timestamp: u64) -> Result<(), A
     put_field(out, " ", timestamp)
 }
 
-#[tactic(auto, unfolding(crate::specs::Output::balances_text))]
+#[tactic(auto, unfolding(crate::specs::clauses::Output::balances_text))]
 fn put_balances(out: &mut String, account: &Account) -> Result<(), AllocError>
     ensures { OnOk result (string_bytes out.new ≡ string_bytes out.old ++ balances_text account.now) }
 {

@@ -1,8 +1,8 @@
 //! A whole script.
 
 ghost use Rattle.std.specs.Prelude.{◌≡◌};
-ghost use Rattle.tb_program_text.specs.Script.{script_of};
-ghost use Rattle.tb_program_text.specs.Parsing.{Parses};
+ghost use Rattle.tb_program_text.specs.clauses.Script.{script_of};
+ghost use Rattle.tb_program_text.specs.clauses.Parsing.{Parses};
 
 use crate::fault::{Fault, LineError};
 use crate::script::Script;

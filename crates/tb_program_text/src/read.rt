@@ -1,7 +1,7 @@
 //! The bytes of a script.
 
 ghost use Rattle.std.specs.Prelude.{◌≢◌, IfOk, IfErr, IfSome};
-ghost use Rattle.tb_program_text.specs.Source.{IsWhole};
+ghost use Rattle.tb_program_text.specs.clauses.Source.{IsWhole};
 
 use crate::program_fault::ProgramFault;
 use std::alloc::Global;

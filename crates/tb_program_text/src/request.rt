@@ -2,7 +2,7 @@
 
 ghost use Rattle.std.specs.Prelude.{◌≡◌, map, string_bytes};
 ghost use Rattle.std.specs.Vec.Iter.{into_iter_items};
-ghost use Rattle.tb_program_text.specs.Request.{after_words, asked_by, finished, nothing_read, options_of, replay_of, request_of, with_word};
+ghost use Rattle.tb_program_text.specs.clauses.Request.{after_words, asked_by, finished, nothing_read, options_of, replay_of, request_of, with_word};
 
 use std::env::Args;
 use std::marker::Model;
@@ -90,7 +90,7 @@ fn with_word(reading: Reading, word: String) -> Option<Reading>
 }
 
 /// Returns what words give. Returns None if one gives no option.
-#[tactic(auto, unfolding(crate::specs::Request::after_words))]
+#[tactic(auto, unfolding(crate::specs::clauses::Request::after_words))]
 fn read_all(words: Args) -> Option<Reading>
     ensures { result ≡ after_words nothing_read (map string_bytes (into_iter_items words)) }
 {

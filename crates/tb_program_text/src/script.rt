@@ -3,10 +3,10 @@
 ghost use Rattle.std.specs.Prelude.{◌≡◌, ◌≤◌, ◌++◌, ◌∷◌, true, Ok, Err, [], drop, length, is_some, IfOk, IfSome, OnOk};
 ghost use Rattle.std.specs.Option.{MatchOption};
 ghost use Rattle.tb_program_text.specs.declared.fault.LineError.TheVariants.{Fault as FaultOf};
-ghost use Rattle.tb_program_text.specs.Text.{words_of, first_line, after_first_line};
-ghost use Rattle.tb_program_text.specs.Steps.{Tells, Leaves};
-ghost use Rattle.tb_program_text.specs.Keyword.{no_word, one_word, two_words};
-ghost use Rattle.tb_program_text.specs.Script.{ParsedScript, nothing_parsed, so_far, items_of, has_begun, may_stand, with_packet, with_bytes, with_event, packet_numbers, one_number, with_line, is_text as is_text_line, line_max, after_line, InBounds};
+ghost use Rattle.tb_program_text.specs.clauses.Text.{words_of, first_line, after_first_line};
+ghost use Rattle.tb_program_text.specs.clauses.Steps.{Tells, Leaves};
+ghost use Rattle.tb_program_text.specs.clauses.Keyword.{no_word, one_word, two_words};
+ghost use Rattle.tb_program_text.specs.clauses.Script.{ParsedScript, nothing_parsed, so_far, items_of, has_begun, may_stand, with_packet, with_bytes, with_event, packet_numbers, one_number, with_line, is_text as is_text_line, line_max, after_line, InBounds};
 
 use crate::event::{Draft, Layout, assign_all, hex_bytes};
 use crate::fault::{Fault, LineError};
@@ -220,7 +220,7 @@ impl Script {
     }
 
     /// Takes the word of a pulse, its moment.
-    #[tactic(auto, unfolding(crate::specs::Script::with_line))]
+    #[tactic(auto, unfolding(crate::specs::clauses::Script::with_line))]
     fn take_pulse(&mut self, words: Words) -> Result<(), LineError>
         ensures { Leaves result self.new (with_line self.old Keyword.Pulse (words_of words.entry.rest.now)) }
     {
@@ -230,7 +230,7 @@ impl Script {
     }
 
     /// Takes the Close, which has no words.
-    #[tactic(auto, unfolding(crate::specs::Script::with_line))]
+    #[tactic(auto, unfolding(crate::specs::clauses::Script::with_line))]
     fn take_close(&mut self, words: Words) -> Result<(), LineError>
         ensures { Leaves result self.new (with_line self.old Keyword.Shut (words_of words.entry.rest.now)) }
     {
@@ -249,7 +249,7 @@ impl Script {
         Ok(())
     }
 
-    #[tactic(auto, unfolding(crate::specs::Script::with_line))]
+    #[tactic(auto, unfolding(crate::specs::clauses::Script::with_line))]
     fn take_packet(&mut self, alloc: Global, words: Words) -> Result<(), LineError>
         ensures { Leaves result self.new (with_line self.old Keyword.Packet (words_of words.entry.rest.now)) }
     {
@@ -261,7 +261,7 @@ impl Script {
     }
 
     /// Takes the words of a text's first line as an event's fields, and returns the text from the end of that line on.
-    #[tactic(auto, unfolding(crate::specs::Event::event_of))]
+    #[tactic(auto, unfolding(crate::specs::clauses::Event::event_of))]
     fn take_event<'a>(&mut self, layout: Layout, text: &'a [u8]) -> Result<&'a [u8], LineError>
         ensures script { Leaves result self.new (with_event self.old layout (words_of (first_line text.now))) }
         ensures rest { IfOk result (λ rest. rest.now ≡ after_first_line text.now) }
@@ -283,7 +283,7 @@ impl Script {
     }
 
     /// Takes the word of an id, and adds its bytes to the packet.
-    #[tactic(auto, unfolding(crate::specs::Script::with_line))]
+    #[tactic(auto, unfolding(crate::specs::clauses::Script::with_line))]
     fn take_id(&mut self, words: Words) -> Result<(), LineError>
         ensures { Leaves result self.new (with_line self.old Keyword.Id (words_of words.entry.rest.now)) }
     {
@@ -293,7 +293,7 @@ impl Script {
     }
 
     /// Takes a word of hexadecimal digits, and adds their bytes to the packet.
-    #[tactic(auto, unfolding(crate::specs::Script::with_line))]
+    #[tactic(auto, unfolding(crate::specs::clauses::Script::with_line))]
     fn take_hex(&mut self, alloc: Global, words: Words) -> Result<(), LineError>
         ensures { Leaves result self.new (with_line self.old Keyword.Hex (words_of words.entry.rest.now)) }
     {
@@ -303,7 +303,7 @@ impl Script {
     }
 
     /// Takes a line in its place, with the words after its first.
-    #[tactic(auto, unfolding(crate::specs::Script::with_line))]
+    #[tactic(auto, unfolding(crate::specs::clauses::Script::with_line))]
     fn take_line(&mut self, alloc: Global, keyword: Keyword, words: Words) -> Result<(), LineError>
         requires { is_text_line words.rest.now ≡ true }
         ensures { Leaves result self.new (with_line self.old keyword (words_of words.entry.rest.now)) }
@@ -338,7 +338,7 @@ impl Script {
     }
 
     /// Parses a line after those so far. After an error the script must not be used.
-    #[tactic(auto, unfolding(crate::specs::Script::after_line))]
+    #[tactic(auto, unfolding(crate::specs::clauses::Script::after_line))]
     fn line(&mut self, alloc: Global, line: &[u8]) -> Result<(), LineError>
         ensures { Leaves result self.new (after_line self.old line.now) }
     {

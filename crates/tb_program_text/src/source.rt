@@ -1,9 +1,9 @@
 //! The script that a reader has.
 
 ghost use Rattle.std.specs.Prelude.{◌≢◌, ℕ, List, Err, codes, IfOk, IfErr, IfSome};
-ghost use Rattle.tb_program_text.specs.Script.{script_of};
-ghost use Rattle.tb_program_text.specs.Output.{fault_line};
-ghost use Rattle.tb_program_text.specs.Source.{IsFound, IsWhole, source_in, source_told};
+ghost use Rattle.tb_program_text.specs.clauses.Script.{script_of};
+ghost use Rattle.tb_program_text.specs.clauses.Output.{fault_line};
+ghost use Rattle.tb_program_text.specs.clauses.Source.{IsFound, IsWhole, source_in, source_told};
 
 use crate::output::put_fault;
 use crate::parsing::{ScriptError, parse};

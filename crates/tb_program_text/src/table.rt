@@ -1,7 +1,7 @@
 //! Tables of words.
 
 ghost use Rattle.std.specs.Prelude.{◌≡◌, map};
-ghost use Rattle.tb_program_text.specs.Steps.{look_up};
+ghost use Rattle.tb_program_text.specs.clauses.Steps.{look_up};
 
 /// Returns the value that a table has for a word.
 #[inline(always)]

@@ -4,7 +4,7 @@ ghost use Rattle.std.specs.Prelude.{◌≡◌, ◌<◌, ◌≤◌, ◌==◌, ◌
 ghost use Rattle.std.specs.Option.{MatchOption};
 ghost use Rattle.std.specs.List.{position_or_len, list_all};
 ghost use Rattle.std.specs.Iterator.{YieldsFirstRef, item_count};
-ghost use Rattle.tb_program_text.specs.Text.{words_of, first_line, after_first_line, first_word, after_first_word};
+ghost use Rattle.tb_program_text.specs.clauses.Text.{words_of, first_line, after_first_line, first_word, after_first_word};
 
 use memchr::memchr;
 

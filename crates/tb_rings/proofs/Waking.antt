@@ -1,6 +1,6 @@
 -- What holds after any steps of a reader and of those who wake it.
 use Rattle.std.proofs.Common.{refl, ap, arith, ◌≡◌, ◌⊎◌, inl, inr, ℕ, zero, suc, ◌+◌, ◌<◌, ◌≤◌, Bool, true, false, ◌||◌, ◌&&◌, not, nat_lt, List, [], ◌∷◌, Option, Some, None, is_some, unwrap_or}
-use Rattle.tb_rings.specs.Waking.{Word, Empty, Parked, Notified, Reader, Awake, Tries, Dozes, Sleeps, Left, Waking, Step, Give, Ask, Notify, Wake, Look, See, Yield, Park, Try, Doze, Rouse, Leave, notify, wake, stepped, after_steps, opened, leads_on, of_word, of_reader, steps_left, IsIdle, NoWakeUpIsLost, WakingEnds}
+use Rattle.tb_rings.specs.clauses.Waking.{Word, Empty, Parked, Notified, Reader, Awake, Tries, Dozes, Sleeps, Left, Waking, Step, Give, Ask, Notify, Wake, Look, See, Yield, Park, Try, Doze, Rouse, Leave, notify, wake, stepped, after_steps, opened, leads_on, of_word, of_reader, steps_left, IsIdle, NoWakeUpIsLost, WakingEnds}
 
 -- the token is there, or a thread is to set it
 abbrev is_told : ℕ → Word → Bool

@@ -5,7 +5,7 @@
 //! return it. A value is returned to its giver only if no slot was seen to be free (`none_free`, `room`).
 //!
 //! A thread that finds nothing to take waits with the ring's `Sleeper`, which each `give` wakes. No clause speaks of waiting:
-//! `no_wake_up_is_lost` and `waking_ends` are laws of a model of it (`specs/Waking.antt`).
+//! `no_wake_up_is_lost` and `waking_ends` are laws of a model of it (`specs/clauses/Waking.antt`).
 //!
 //! `ring_of_two` in tb_pipe_tests is an example that the gate compiles.
 #![tactic(auto)]
@@ -14,14 +14,14 @@ mod laws;
 mod waiting;
 
 ghost use Rattle.std.specs.Prelude.{◌≡◌, ◌<◌, ◌≤◌, ◌+◌, ◌↔◌, [], ◌∷◌, ◌++◌, length, IsTrue, OnOk, IfOk, IfErr, IsOk, IfSome, IfNone, IsSomeAnd};
-ghost use Rattle.tb_rings.specs.Ends.{given, taken, lies, slots, free, IsRing, SameOutlet, SameInlet};
+ghost use Rattle.tb_rings.specs.clauses.Ends.{given, taken, lies, slots, free, IsRing, SameOutlet, SameInlet};
 
 pub use laws::{no_wake_up_is_lost, waking_ends};
 use rtrb::{Consumer, Producer, RingBuffer};
 use std::alloc::Global;
 use std::sync::Wait;
 use tb_layout::NoMemory;
-pub use waiting::{Sleeper, SpinWait, Waker};
+pub use waiting::{IdleWait, Sleeper, Waker};
 
 /// The end that gives.
 pub struct Outlet<T> {
@@ -125,8 +125,8 @@ impl<T: Drop> Inlet<T> {
         self.consumer.slots_beside(&mut outlet.producer)
     }
     /// Waits as `Sleeper::wait` does; each value that is given wakes it.
-    pub fn wait<R: Wait>(&self, rt: &R, spin: &SpinWait) {
-        self.sleeper.wait(rt, spin);
+    pub fn wait<R: Wait>(&self, rt: &R, idle: &IdleWait) {
+        self.sleeper.wait(rt, idle);
     }
 
     /// Returns a waker of the thread that waits for values.

@@ -11,17 +11,17 @@ use tb_layout::NoMemory;
 /// be woken.
 const YIELDS: u32 = 64;
 
-/// How long a thread has had nothing to do. It yields first, and then sleeps. It doesn't spin, since what it waits for is the
+/// How long a thread has had nothing to do. It yields first, and then sleeps. It doesn't idle, since what it waits for is the
 /// work of another thread, which may need this processor.
 #[derive(Drop)]
-pub struct SpinWait {
+pub struct IdleWait {
     yields: Cell<u32>,
 }
 
-impl SpinWait {
+impl IdleWait {
     /// Returns the state after something was done. Takes no memory.
-    pub fn new() -> SpinWait {
-        SpinWait {
+    pub fn new() -> IdleWait {
+        IdleWait {
             yields: Cell::new(0),
         }
     }
@@ -90,8 +90,8 @@ impl Sleeper {
     ///
     /// Tested, not proved: a waker that was used since the last sleep keeps the next from starting. What was changed before
     /// the waker was used is then seen.
-    pub fn wait<R: Wait>(&self, rt: &R, spin: &SpinWait) {
-        if !spin.pause() {
+    pub fn wait<R: Wait>(&self, rt: &R, idle: &IdleWait) {
+        if !idle.pause() {
             self.parker.park(rt);
         }
     }

@@ -1,19 +1,6 @@
 -- What was taken of a sender, with its end, is all that it queued.
 use Rattle.std.proofs.Common.{◌≡◌, ◌≢◌, ◌<◌, ◌≤◌, ◌⊎◌, inl, inr, ⊎_elim, ℕ, zero, suc, ◌+◌, Bool, true, false, true≢false, List, [], ◌∷◌, ◌++◌, map, length, get_or, sym, refl, ap, ◌∙◌, subst, arith, append-nil, nat_lt}
-use Rattle.std.specs.Prelude.{◌==◌, ◌||◌, ◌&&◌, not, filter, if◌then◌else◌}
-use Rattle.std.specs.List.{list_any, AllByRecursion}
-use Rattle.std.proofs.lemmas.Bool.{eq-eqb}
-use Rattle.std.proofs.lemmas.Bool.Decides.{nat_tests}
-use Rattle.tb_work.specs.Ahead.{items_from}
-use Rattle.tb_work.specs.Queue.{is_end, IsUnended, IsEnded, IsSubmitted, IsQueueOf}
-use Rattle.tb_work.specs.declared.item.Item.{Item}
-use Rattle.tb_work.specs.declared.item.Item.TheVariants.{Close}
-use Rattle.tb_work.specs.declared.item.Ticket.{Ticket}
-use Rattle.tb_submit.specs.declared.rule.PassEntry.{PassEntry}
-use Rattle.tb_submit.specs.Ends.{EndedState, IntakeState, Seat, SenderState, control_seat, queued_by, seat_at}
-use Rattle.tb_submit.specs.Inside.{AreUnended, entry_of}
-use Rattle.tb_submit.specs.Lists.{AreAheadOfClose, AreWithin, BeginsWith, IsCompleteQueue, IsWithin}
-use Rattle.tb_submit.specs.Rule.{IsWhole, entry}
+use Rattle.tb_submit.proofs.Words.{◌==◌, ◌||◌, ◌&&◌, not, filter, if◌then◌else◌, list_any, AllByRecursion, eq-eqb, nat_tests, items_from, is_end, IsUnended, IsEnded, IsSubmitted, IsQueueOf, Item, Close, Ticket, PassEntry, EndedState, IntakeState, Seat, SenderState, control_seat, queued_by, seat_at, AreUnended, entry_of, AreAheadOfClose, AreWithin, BeginsWith, IsCompleteQueue, IsWithin, IsWhole, entry}
 use Rattle.tb_submit.proofs.RuleSteps.{part_append, stands_in}
 
 -- ---- a part with its end

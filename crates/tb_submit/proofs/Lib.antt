@@ -1,3 +1,4 @@
+pub mod Words
 pub mod QueuedItems
 pub mod DrainedQueue
 pub mod RuleSteps

@@ -1,11 +1,6 @@
 -- The submitters of a queue, one after the other.
 use Rattle.std.proofs.Common.{◌≡◌, ◌<◌, ℕ, zero, suc, ◌+◌, List, [], ◌∷◌, ◌++◌, map, length, get_or, sym, refl, ap, ◌∙◌, arith}
-use Rattle.std.proofs.lemmas.List.{map-append}
-use Rattle.tb_work.specs.Packet.{ReplyValue}
-use Rattle.tb_rings.specs.Ends.{outlet_ring}
-use Rattle.tb_rings.specs.declared.Outlet.{Outlet}
-use Rattle.tb_submit.specs.Ends.{EndedState, Origin, Seat, SubmitterState, end_origin, new_submitter, origin_of, origins_from}
-use Rattle.tb_submit.specs.Inside.{ReaderState}
+use Rattle.tb_submit.proofs.Words.{map-append, ReplyValue, outlet_ring, Outlet, EndedState, Origin, Seat, SubmitterState, end_origin, new_submitter, origin_of, origins_from, ReaderState}
 
 origins_more : (seats : ℕ → Seat) (number all : ℕ) (outlets : List (Outlet ReplyValue)) (outlet : Outlet ReplyValue)
     → all ≡ number + length outlets →

@@ -1,14 +1,7 @@
 -- What a sender queues, one item after the other.
 use Rattle.std.proofs.Common.{◌≡◌, ◌<◌, ℕ, ◌+◌, true, List, [], ◌∷◌, ◌++◌, length, refl, arith}
-use Rattle.std.specs.Prelude.{IsOk}
-use Rattle.std.specs.List.{AllByRecursion}
-use Rattle.tb_work.specs.Admission.{admission_of}
-use Rattle.tb_work.specs.Packet.{Numbered}
-use Rattle.tb_work.specs.Job.{numbered_packet}
-use Rattle.tb_work.specs.Queue.{is_end, IsUnended, IsSubmitted, AreNumbered}
-use Rattle.tb_work.specs.declared.item.Item.{Item}
-use Rattle.tb_work.specs.declared.item.Item.TheVariants.{Packet, Pulse, End, Close}
-use Rattle.tb_submit.specs.Lists.{IsWithin, ArePackets, ArePulses, IsCompleteQueue}
+use Rattle.tb_submit.proofs.Words.{IsOk, AllByRecursion, admission_of, Numbered, is_end, IsUnended, IsSubmitted, AreNumbered, Item, Packet, Pulse, End, Close, IsWithin, ArePackets, ArePulses, IsCompleteQueue}
+use Rattle.tb_work.specs.claim.Job.{numbered_packet}
 
 -- ---- packets
 

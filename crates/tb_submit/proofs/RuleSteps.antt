@@ -1,22 +1,11 @@
 -- Each step keeps the rule.
 use Rattle.std.proofs.Common.{◌≡◌, ◌≢◌, ◌⊎◌, ℕ, zero, suc, ◌+◌, ◌==◌, Bool, cond, List, [], ◌∷◌, ◌++◌, length, set, map, filter, sym, refl, ap, ◌∙◌, subst, ⊎_elim, inl, inr, append_assoc, append-nil, Option, Some, None, arith, nat_lt, true, false, ◌<◌, ◌≤◌}
-use Rattle.std.proofs.lemmas.List.{map-append}
-use Rattle.std.proofs.lemmas.List.Elements.{filter-append}
-use Rattle.std.proofs.lemmas.Bool.Decides.{nat_tests}
-use Rattle.std.proofs.lemmas.Bool.{eq-eqb, ne_eqb, cases_eq}
-use Rattle.std.specs.List.{AllByRecursion}
+use Rattle.tb_submit.proofs.Words.{map-append, filter-append, nat_tests, eq-eqb, ne_eqb, cases_eq, AllByRecursion, items_from, Item, Ticket, BeginsWith, PassEntry, View, sender, intake, opening, empty_view, witness, next_of, view_counting_on, newcomer, view_seen_empty, both_views, view_learning, HasPushed, with_taken, Stands, FitsEntry, FitsMark, AllBegin, Fits, InView, QueueInvariant, IsWhole, Tells, TellsOwn}
 use mathlib.Core.Option.{some, some-injective, some-ne-none}
 use lib.ListN.{get_elem?}
 use Rattle.crossbeam_queue.specs.Fifo.{Pushes, Pops, Forks, Merges, Learns}
 use Rattle.crossbeam_queue.proofs.Lists.{at_set, set_else, at_longer, at_last}
-use Rattle.tb_work.specs.Ahead.{items_from}
-use Rattle.tb_work.specs.declared.item.Item.{Item}
-use Rattle.tb_work.specs.declared.item.Ticket.{Ticket}
-use Rattle.tb_submit.specs.Lists.{BeginsWith}
-use Rattle.tb_submit.specs.declared.rule.PassEntry.{PassEntry}
 use Rattle.tb_submit.specs.declared.rule.IntakeMark.{IntakeMark}
-use Rattle.tb_submit.specs.declared.rule.View.{View}
-use Rattle.tb_submit.specs.Rule.{sender, intake, opening, empty_view, witness, next_of, view_counting_on, newcomer, view_seen_empty, both_views, view_learning, HasPushed, with_taken, Stands, FitsEntry, FitsMark, AllBegin, Fits, InView, QueueInvariant, IsWhole, Tells, TellsOwn}
 
 -- a new value at a place that is taken
 put_here : {A : Type 0} (l : List A) (i : ℕ) (a b : A) → get_elem? l i ≡ some a → get_elem? (set l i b) i ≡ some b

@@ -1,16 +1,8 @@
 -- A submitter's counts, one step after the other.
 use Rattle.std.proofs.Common.{◌≡◌, ◌<◌, ℕ, ◌+◌, ◌-◌, min, true, false, true≢false, List, [], ◌∷◌, ◌++◌, length, length-append, sym, refl, ap, ◌∙◌, arith, Some, None, Option, is_some}
-use Rattle.std.specs.Prelude.{IsOk}
-use Rattle.tb_work.specs.Admission.{admission_of}
-use Rattle.tb_work.specs.Packet.{Numbered, ReplyValue}
-use Rattle.tb_work.specs.declared.item.Item.{Item}
-use Rattle.tb_work.specs.declared.item.Item.TheVariants.{Packet}
-use Rattle.tb_work.specs.declared.refusal.Refusal.{Refusal}
-use Rattle.tb_submit.specs.Ends.{Seat}
-use Rattle.tb_submit.specs.Inside.{IsSubmitter}
-use Rattle.tb_submit.specs.Refusals.{or_else, told_by}
+use Rattle.tb_submit.proofs.Words.{IsOk, admission_of, Numbered, ReplyValue, Item, Packet, Refusal, Seat, IsSubmitter, or_else, refusal_of}
 use Rattle.tb_submit.proofs.QueuedItems.{packets_more}
-use Rattle.tb_submit.proofs.ReplyRefusals.{told_more}
+use Rattle.tb_submit.proofs.ReplyRefusals.{first_refusal_more}
 
 -- ---- a packet queued
 
@@ -27,14 +19,14 @@ counts_packet seat queued count credit seen first read job is own number within 
   credited = omega (arith, left, length-append queued (Packet job ∷ []));
   few = is.few;
   counted_read = is.counted_read;
-  told = is.told;
+  first_refusal = is.first_refusal;
 }
 
 -- ---- a reply read
 
 pub counts_reply : (seat : Seat) (queued : List Item) (count credit seen next : ℕ) (first now : Option Refusal)
     (read : List ReplyValue) (reply : ReplyValue) → IsSubmitter seat queued count credit seen first read →
-    next ≡ min (seen + 1) 18446744073709551615 → now ≡ or_else first (told_by reply.outcome)
+    next ≡ min (seen + 1) 18446744073709551615 → now ≡ or_else first (refusal_of reply.outcome)
     → IsSubmitter seat queued count credit next now (read ++ reply ∷ [])
 counts_reply seat queued count credit seen next first now read reply is next_is now_is = record {
   among = is.among;
@@ -44,7 +36,7 @@ counts_reply seat queued count credit seen next first now read reply is next_is 
   credited = omega (arith, is.credited, length-append read (reply ∷ []));
   few = is.few;
   counted_read = omega (arith, next_is, is.counted_read, length-append read (reply ∷ []));
-  told = now_is ∙ ap (λ f. or_else f (told_by reply.outcome)) is.told ∙ sym (told_more read reply);
+  first_refusal = now_is ∙ ap (λ f. or_else f (refusal_of reply.outcome)) is.first_refusal ∙ sym (first_refusal_more read reply);
 }
 
 pub else_none : (first other : Option Refusal) → is_some first ≡ false → other ≡ or_else first other

@@ -1,6 +1,2 @@
-pub mod Rule
-pub mod Lists
-pub mod Ended
-pub mod Ends
-pub mod Refusals
-pub mod Inside
+pub mod claim
+pub mod clauses

@@ -1,8 +1,8 @@
 //! The control.
 
 ghost use Rattle.std.specs.Prelude.{◌≡◌, ◌<◌, ◌≤◌, [], ◌∷◌, ◌++◌, length, Some, OnOk, IfOk, IfErr, Err};
-ghost use Rattle.tb_layout.specs.inside.Limits.{moment_max, queued_max};
-ghost use Rattle.tb_submit.specs.Ends.{sender_with};
+ghost use Rattle.tb_layout.specs.claim.Bounds.{moment_max, queued_max};
+ghost use Rattle.tb_submit.specs.clauses.Ends.{sender_with};
 ghost use Rattle.tb_work.specs.declared.item.Item.TheVariants as item;
 ghost use Rattle.tb_work.specs.declared.refusal.Refusal.TheVariants as refusal;
 
@@ -22,8 +22,8 @@ pub struct Control {
 
 impl Model for Control {
     ghost use Rattle.std.specs.Prelude.{◌≡◌, length};
-    ghost use Rattle.tb_submit.specs.Ends.{SenderState};
-    ghost use Rattle.tb_submit.specs.Lists.{ArePulses};
+    ghost use Rattle.tb_submit.specs.clauses.Ends.{SenderState};
+    ghost use Rattle.tb_submit.specs.clauses.Lists.{ArePulses};
 
     ghost Value = { SenderState };
 
@@ -120,7 +120,7 @@ pub struct ControlEnd {
 }
 
 impl Model for ControlEnd {
-    ghost use Rattle.tb_submit.specs.Ends.{SenderState};
+    ghost use Rattle.tb_submit.specs.clauses.Ends.{SenderState};
 
     ghost Value = { SenderState };
 

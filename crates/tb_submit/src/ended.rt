@@ -1,9 +1,9 @@
 //! Senders that have ended.
 
 ghost use Rattle.std.specs.Prelude.{◌≡◌, ◌<◌, [], ◌∷◌, ◌++◌, length, true, false, Some, None, IfSome, IfNone, IsSomeAnd};
-ghost use Rattle.tb_rings.specs.Ends.{given, taken, lies, inlet_ring, outlet_ring};
-ghost use Rattle.tb_submit.specs.Lists.{IsCompleteQueue};
-ghost use Rattle.tb_submit.specs.Rule.{entry};
+ghost use Rattle.tb_rings.specs.clauses.Ends.{given, taken, lies, inlet_ring, outlet_ring};
+ghost use Rattle.tb_submit.specs.clauses.Lists.{IsCompleteQueue};
+ghost use Rattle.tb_submit.specs.clauses.Rule.{entry};
 
 use crate::reader::Reader;
 use crate::sender::EndedSender;
@@ -21,10 +21,10 @@ pub struct Ended {
 }
 
 impl Model for Ended {
-    ghost use Rattle.tb_rings.specs.Ends.{inlet_ring, taken, lies};
+    ghost use Rattle.tb_rings.specs.clauses.Ends.{inlet_ring, taken, lies};
     ghost use Rattle.std.specs.Prelude.{is_some};
-    ghost use Rattle.tb_submit.specs.Ends.{EndedState};
-    ghost use Rattle.tb_submit.specs.Inside.{CountsUnread};
+    ghost use Rattle.tb_submit.specs.clauses.Ends.{EndedState};
+    ghost use Rattle.tb_submit.specs.clauses.State.{CountsUnread};
 
     ghost Value = { EndedState };
 

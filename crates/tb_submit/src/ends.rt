@@ -1,10 +1,10 @@
 //! Opening a queue.
 
 ghost use Rattle.std.specs.Prelude.{◌≡◌, ◌<◌, ◌≤◌, [], map, length, Some, None, All, OnOk, IfOk, IfErr};
-ghost use Rattle.tb_layout.specs.inside.Limits.{batch_max, capacity_max, submitters_max};
-ghost use Rattle.tb_rings.specs.Ends.{given, slots};
-ghost use Rattle.tb_submit.specs.Ends.{new_submitter, new_control, new_intake, origins, origin_of};
-ghost use Rattle.tb_submit.specs.Refusals.{IsQueueRefusal, queue_refusal};
+ghost use Rattle.tb_layout.specs.claim.Bounds.{batch_max, capacity_max, submitters_max};
+ghost use Rattle.tb_rings.specs.clauses.Ends.{given, slots};
+ghost use Rattle.tb_submit.specs.clauses.Ends.{new_submitter, new_control, new_intake, origins, origin_of};
+ghost use Rattle.tb_submit.specs.clauses.Refusals.{IsQueueRefusal, queue_refusal};
 
 use crate::control::Control;
 use crate::intake::Intake;

@@ -1,12 +1,12 @@
 //! The intake.
 
 ghost use Rattle.std.specs.Prelude.{◌≡◌, ◌+◌, ◌≤◌, [], IfSome, IfNone};
-ghost use Rattle.tb_submit.specs.Ends.{new_intake, with_empty, with_taken};
+ghost use Rattle.tb_submit.specs.clauses.Ends.{new_intake, with_empty, with_taken};
 
 use crate::reader::Reader;
 use std::marker::Model;
 use std::sync::Wait;
-use tb_rings::SpinWait;
+use tb_rings::IdleWait;
 use tb_work::Ticket;
 
 /// Takes what all senders of a queue have put in it.
@@ -19,7 +19,7 @@ pub struct Intake {
 
 impl Model for Intake {
     ghost use Rattle.std.specs.Prelude.{◌≡◌, ◌+◌, []};
-    ghost use Rattle.tb_submit.specs.Ends.{IntakeState};
+    ghost use Rattle.tb_submit.specs.clauses.Ends.{IntakeState};
 
     ghost Value = { IntakeState };
 
@@ -73,7 +73,7 @@ impl Intake {
 
     /// Waits for something to take: yields once, or sleeps until a sender queues something, once it has yielded long
     /// enough. It may return early, so take again after it. Takes no memory.
-    pub fn wait<R: Wait>(&self, rt: &R, spin: &SpinWait) {
-        self.reader.wait(rt, spin);
+    pub fn wait<R: Wait>(&self, rt: &R, idle: &IdleWait) {
+        self.reader.wait(rt, idle);
     }
 }

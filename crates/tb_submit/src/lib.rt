@@ -8,7 +8,7 @@
 //! - `Intake::take` returns the front of the queue;
 //! - `settle_queue` establishes, once all senders have ended, that the taken tickets are the queue as its senders filled it.
 //!
-//! The queue is the kit's ruled queue. Its rule (`specs/Rule.antt`) keeps that the taken and queued tickets contain, as each
+//! The queue is the kit's ruled queue. Its rule (`specs/clauses/Rule.antt`) keeps that the taken and queued tickets contain, as each
 //! sender's part, exactly what that sender pushed, so no thread has to trust another. They begin with what was queued up to
 //! any sender's last push.
 //!

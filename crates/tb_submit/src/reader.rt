@@ -2,9 +2,9 @@
 
 ghost use Rattle.std.specs.Prelude.{◌≡◌, ◌+◌, ◌<◌, [], ◌∷◌, ◌++◌, List, Some, OnOk, IfOk, IfSome, IfNone};
 ghost use Rattle.tb_work.specs.declared.item.Ticket.{Ticket};
-ghost use Rattle.tb_submit.specs.Inside.{AreUnended, reader_with_empty, seat_with};
-ghost use Rattle.tb_submit.specs.Lists.{IsCompleteQueue};
-ghost use Rattle.tb_submit.specs.Rule.{entry, IsWhole};
+ghost use Rattle.tb_submit.specs.clauses.State.{AreUnended, reader_with_empty, seat_with};
+ghost use Rattle.tb_submit.specs.clauses.Lists.{IsCompleteQueue};
+ghost use Rattle.tb_submit.specs.clauses.Rule.{entry, IsWhole};
 
 use crate::rule::{Gathers, Newcomer, Queue, QueuePass, Queued, SeenEmpty, Taken};
 use crate::sender::{EndedSender, Sender};
@@ -13,7 +13,7 @@ use std::alloc::Global;
 use std::marker::Model;
 use std::sync::{Arc, Wait};
 use tb_layout::NoMemory;
-use tb_rings::{Sleeper, SpinWait};
+use tb_rings::{IdleWait, Sleeper};
 use tb_work::Ticket;
 
 /// Takes from the queue, gives out numbers, and takes in what ended senders know.
@@ -44,8 +44,8 @@ impl Model for Reader {
     ghost use Rattle.std.specs.Prelude.{◌≡◌};
     ghost use Rattle.std.specs.Arc.{arc_value};
     ghost use Rattle.crossbeam_queue.specs.Passes.{IsPassOf, ruled_capacity};
-    ghost use Rattle.tb_submit.specs.Inside.{ReaderState, taken_of, count_of, seen_empty_of, view_of};
-    ghost use Rattle.tb_submit.specs.Rule.{intake};
+    ghost use Rattle.tb_submit.specs.clauses.State.{ReaderState, taken_of, count_of, seen_empty_of, view_of};
+    ghost use Rattle.tb_submit.specs.clauses.Rule.{intake};
 
     ghost Value = { ReaderState };
 
@@ -145,8 +145,8 @@ impl Reader {
     }
 
     /// Waits as `Sleeper::wait` does; each push wakes it.
-    pub(crate) fn wait<R: Wait>(&self, rt: &R, spin: &SpinWait) {
-        self.sleeper.wait(rt, spin);
+    pub(crate) fn wait<R: Wait>(&self, rt: &R, idle: &IdleWait) {
+        self.sleeper.wait(rt, idle);
     }
 
     /// Takes in what an ended sender pushed and learned, so that it is known here from now on.

@@ -34,7 +34,7 @@ pub(crate) struct View {
 pub(crate) struct PerSender;
 
 impl Protocol<Ticket, View> for PerSender {
-    ghost use Rattle.tb_submit.specs.Rule.{QueueInvariant, opening};
+    ghost use Rattle.tb_submit.specs.clauses.Rule.{QueueInvariant, opening};
 
     ghost holds = { QueueInvariant };
 
@@ -45,7 +45,7 @@ impl Protocol<Ticket, View> for PerSender {
 pub(crate) struct Newcomer;
 
 impl Split<View> for Newcomer {
-    ghost use Rattle.tb_submit.specs.Rule.{view_counting_on, newcomer};
+    ghost use Rattle.tb_submit.specs.clauses.Rule.{view_counting_on, newcomer};
 
     ghost left = { view_counting_on };
 
@@ -56,7 +56,7 @@ impl Split<View> for Newcomer {
 pub(crate) struct SeenEmpty;
 
 impl Split<View> for SeenEmpty {
-    ghost use Rattle.tb_submit.specs.Rule.{view_seen_empty, empty_view};
+    ghost use Rattle.tb_submit.specs.clauses.Rule.{view_seen_empty, empty_view};
 
     ghost left = { view_seen_empty };
 
@@ -67,7 +67,7 @@ impl Split<View> for SeenEmpty {
 pub(crate) struct Witnessed;
 
 impl Split<View> for Witnessed {
-    ghost use Rattle.tb_submit.specs.Rule.{witness};
+    ghost use Rattle.tb_submit.specs.clauses.Rule.{witness};
 
     ghost left = { λ view. view };
 
@@ -78,7 +78,7 @@ impl Split<View> for Witnessed {
 pub(crate) struct Learned;
 
 impl Join<View> for Learned {
-    ghost use Rattle.tb_submit.specs.Rule.{view_learning, empty_view};
+    ghost use Rattle.tb_submit.specs.clauses.Rule.{view_learning, empty_view};
 
     ghost both = { view_learning };
 
@@ -89,7 +89,7 @@ impl Join<View> for Learned {
 pub(crate) struct Gathers;
 
 impl Join<View> for Gathers {
-    ghost use Rattle.tb_submit.specs.Rule.{both_views, empty_view};
+    ghost use Rattle.tb_submit.specs.clauses.Rule.{both_views, empty_view};
 
     ghost both = { both_views };
 
@@ -101,7 +101,7 @@ impl Join<View> for Gathers {
 pub(crate) struct Pushed;
 
 impl Outcome<Ticket, View> for Pushed {
-    ghost use Rattle.tb_submit.specs.Rule.{HasPushed};
+    ghost use Rattle.tb_submit.specs.clauses.Rule.{HasPushed};
 
     ghost then = { HasPushed };
 }
@@ -117,7 +117,7 @@ pub(crate) struct Taken;
 
 impl Outcome<Ticket, View> for Taken {
     ghost use Rattle.std.specs.Prelude.{◌≡◌, ◌<◌};
-    ghost use Rattle.tb_submit.specs.Rule.{with_taken, next_of};
+    ghost use Rattle.tb_submit.specs.clauses.Rule.{with_taken, next_of};
 
     ghost then = { λ view ticket next. (next ≡ with_taken view ticket) × (ticket.sender < next_of view.mark) };
 }
@@ -132,7 +132,7 @@ impl Lesson<Ticket, View> for Taken {
 pub(crate) struct Queued;
 
 impl Lesson<Ticket, View> for Queued {
-    ghost use Rattle.tb_submit.specs.Rule.{Tells};
+    ghost use Rattle.tb_submit.specs.clauses.Rule.{Tells};
 
     ghost fact = { Tells };
 }
@@ -141,7 +141,7 @@ impl Lesson<Ticket, View> for Queued {
 pub(crate) struct Own;
 
 impl Lesson<Ticket, View> for Own {
-    ghost use Rattle.tb_submit.specs.Rule.{TellsOwn};
+    ghost use Rattle.tb_submit.specs.clauses.Rule.{TellsOwn};
 
     ghost fact = { TellsOwn };
 }

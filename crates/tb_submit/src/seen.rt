@@ -12,9 +12,9 @@ pub struct Seen {
 
 impl Model for Seen {
     ghost use Rattle.std.specs.Prelude.{◌≡◌, []};
-    ghost use Rattle.tb_submit.specs.Ends.{SeenState};
-    ghost use Rattle.tb_submit.specs.Inside.{view_of};
-    ghost use Rattle.tb_submit.specs.Rule.{witness};
+    ghost use Rattle.tb_submit.specs.clauses.Ends.{SeenState};
+    ghost use Rattle.tb_submit.specs.clauses.State.{view_of};
+    ghost use Rattle.tb_submit.specs.clauses.Rule.{witness};
 
     ghost Value = { SeenState };
 

@@ -1,10 +1,10 @@
 //! Those that push under a number of their own.
 
 ghost use Rattle.std.specs.Prelude.{◌≡◌, [], ◌∷◌, ◌++◌, Some, OnOk, IfOk, IfErr};
-ghost use Rattle.tb_submit.specs.Ends.{sender_with};
-ghost use Rattle.tb_submit.specs.Lists.{IsCompleteQueue};
-ghost use Rattle.tb_work.specs.Ahead.{items_from};
-ghost use Rattle.tb_work.specs.Queue.{IsUnended};
+ghost use Rattle.tb_submit.specs.clauses.Ends.{sender_with};
+ghost use Rattle.tb_submit.specs.clauses.Lists.{IsCompleteQueue};
+ghost use Rattle.tb_work.specs.claim.Ahead.{items_from};
+ghost use Rattle.tb_work.specs.claim.Queue.{IsUnended};
 
 use crate::rule::{Learned, Own, Pushed, Queue, QueuePass, Witnessed};
 use crate::seen::Seen;
@@ -49,10 +49,10 @@ impl Model for Sender {
     ghost use Rattle.std.specs.Prelude.{◌≡◌};
     ghost use Rattle.std.specs.Arc.{arc_value};
     ghost use Rattle.crossbeam_queue.specs.Passes.{IsPassOf};
-    ghost use Rattle.tb_submit.specs.Ends.{SenderState};
-    ghost use Rattle.tb_submit.specs.Inside.{AreUnended, IsSenderView, view_of, state_while_open};
-    ghost use Rattle.tb_submit.specs.Rule.{first_pushed};
-    ghost use Rattle.tb_work.specs.Ahead.{items_from};
+    ghost use Rattle.tb_submit.specs.clauses.Ends.{SenderState};
+    ghost use Rattle.tb_submit.specs.clauses.State.{AreUnended, IsSenderView, view_of, state_while_open};
+    ghost use Rattle.tb_submit.specs.clauses.Rule.{first_pushed};
+    ghost use Rattle.tb_work.specs.claim.Ahead.{items_from};
 
     ghost Value = { SenderState };
 
@@ -180,8 +180,8 @@ impl Drop for EndedSender {
 }
 
 impl Model for EndedSender {
-    ghost use Rattle.tb_submit.specs.Ends.{SenderState};
-    ghost use Rattle.tb_submit.specs.Inside.{state_once_ended, IsLeft};
+    ghost use Rattle.tb_submit.specs.clauses.Ends.{SenderState};
+    ghost use Rattle.tb_submit.specs.clauses.State.{state_once_ended, IsLeft};
 
     ghost Value = { SenderState };
 

@@ -2,14 +2,14 @@
 
 ghost use Rattle.std.specs.Prelude.{◌≡◌, ◌≤◌, ◌<◌, ◌++◌, ℕ, map, length, slice_index_or, true, All};
 ghost use Rattle.std.specs.List.{AllByRecursion, list_any};
-ghost use Rattle.tb_rings.specs.Ends.{given};
+ghost use Rattle.tb_rings.specs.clauses.Ends.{given};
 ghost use Rattle.tb_rings.specs.declared.Outlet.{Outlet as OutletValue};
-ghost use Rattle.tb_submit.specs.Ends.{EndedState, IntakeState, control_seat, end_origin, origins, queued_by, replies_of, seat_at};
-ghost use Rattle.tb_submit.specs.Inside.{entry_of};
-ghost use Rattle.tb_submit.specs.Lists.{AreAheadOfClose, AreWithin, IsCompleteQueue};
-ghost use Rattle.tb_work.specs.Ahead.{items_from};
-ghost use Rattle.tb_work.specs.Queue.{IsQueueOf, is_end};
-ghost use Rattle.tb_work.specs.Packet.{ReplyValue};
+ghost use Rattle.tb_submit.specs.clauses.Ends.{EndedState, IntakeState, control_seat, end_origin, origins, queued_by, replies_of, seat_at};
+ghost use Rattle.tb_submit.specs.clauses.State.{entry_of};
+ghost use Rattle.tb_submit.specs.clauses.Lists.{AreAheadOfClose, AreWithin, IsCompleteQueue};
+ghost use Rattle.tb_work.specs.claim.Ahead.{items_from};
+ghost use Rattle.tb_work.specs.claim.Queue.{IsQueueOf, is_end};
+ghost use Rattle.tb_work.specs.claim.Packet.{ReplyValue};
 
 use crate::control::ControlEnd;
 use crate::ended::Ended;

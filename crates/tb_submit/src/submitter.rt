@@ -1,14 +1,14 @@
 //! Submitters.
 
 ghost use Rattle.std.specs.Prelude.{◌≡◌, ◌<◌, ◌≤◌, [], ◌∷◌, ◌++◌, length, Some, None, OnOk, IfOk, IfErr, IfSome, IfNone, IsSomeAnd};
-ghost use Rattle.tb_layout.specs.inside.Limits.{batch_max, capacity_max, queued_max};
-ghost use Rattle.tb_rings.specs.Ends.{inlet_ring, taken, lies};
-ghost use Rattle.tb_submit.specs.Ends.{ended_with, with_item, new_submitter};
-ghost use Rattle.tb_submit.specs.Lists.{ArePackets};
-ghost use Rattle.tb_submit.specs.Refusals as spec;
-ghost use Rattle.tb_submit.specs.Refusals.{IsSubmitRefusal, in_flight, submit_refusal};
-ghost use Rattle.tb_work.specs.Ahead.{items_from};
-ghost use Rattle.tb_work.specs.Job.{numbered_packet};
+ghost use Rattle.tb_layout.specs.claim.Bounds.{batch_max, capacity_max, queued_max};
+ghost use Rattle.tb_rings.specs.clauses.Ends.{inlet_ring, taken, lies};
+ghost use Rattle.tb_submit.specs.clauses.Ends.{ended_with, with_item, new_submitter};
+ghost use Rattle.tb_submit.specs.clauses.Lists.{ArePackets};
+ghost use Rattle.tb_submit.specs.clauses.Refusals as spec;
+ghost use Rattle.tb_submit.specs.clauses.Refusals.{IsSubmitRefusal, in_flight, submit_refusal};
+ghost use Rattle.tb_work.specs.claim.Ahead.{items_from};
+ghost use Rattle.tb_work.specs.claim.Job.{numbered_packet};
 ghost use Rattle.tb_work.specs.declared.item.Item.TheVariants as item;
 ghost use Rattle.tb_work.specs.declared.refusal.Refusal.TheVariants as refusal;
 
@@ -19,7 +19,7 @@ use std::alloc::Global;
 use std::marker::Model;
 use std::sync::Wait;
 use tb_layout::NoMemory;
-use tb_rings::{Inlet, SpinWait, Waker};
+use tb_rings::{IdleWait, Inlet, Waker};
 use tb_work::{Item, Job, Outcome, Packet, Refusal, Reply};
 
 /// Queues packets under its number, and reads their replies.
@@ -30,14 +30,14 @@ pub struct Submitter {
     credit: u32,
     queued: u64,
     read: u64,
-    told: Option<Refusal>,
+    first_refusal: Option<Refusal>,
 }
 
 impl Model for Submitter {
-    ghost use Rattle.tb_layout.specs.inside.Limits.{batch_max, capacity_max};
-    ghost use Rattle.tb_rings.specs.Ends.{inlet_ring, taken, lies};
-    ghost use Rattle.tb_submit.specs.Ends.{SubmitterState};
-    ghost use Rattle.tb_submit.specs.Inside.{IsSubmitter};
+    ghost use Rattle.tb_layout.specs.claim.Bounds.{batch_max, capacity_max};
+    ghost use Rattle.tb_rings.specs.clauses.Ends.{inlet_ring, taken, lies};
+    ghost use Rattle.tb_submit.specs.clauses.Ends.{SubmitterState};
+    ghost use Rattle.tb_submit.specs.clauses.State.{IsSubmitter};
 
     ghost Value = { SubmitterState };
 
@@ -50,12 +50,12 @@ impl Model for Submitter {
     } };
 
     ghost invariant = { λ s. IsSubmitter s.sender.seat s.sender.queued s.queued s.credit s.read
-        s.told (taken s.inlet) };
+        s.first_refusal (taken s.inlet) };
 }
 
 /// Returns what an outcome says of all packets that come later.
-fn told_by(outcome: &Outcome) -> Option<Refusal>
-    ensures { result ≡ spec.told_by outcome.now }
+fn refusal_of(outcome: &Outcome) -> Option<Refusal>
+    ensures { result ≡ spec.refusal_of outcome.now }
 {
     match outcome {
         Outcome::Committed { .. } => None,
@@ -79,7 +79,7 @@ impl Submitter {
             credit,
             queued: 0,
             read: 0,
-            told: None,
+            first_refusal: None,
         }
     }
 
@@ -119,7 +119,7 @@ impl Submitter {
         ensures back { IfErr result (λ refused. (refused.0 ≡ packet) × (self.new ≡ self.old)) }
         ensures refusal { IfErr result (λ refused. IsSubmitRefusal self.old packet refused.1) }
     {
-        if let Some(refusal) = self.told {
+        if let Some(refusal) = self.first_refusal {
             return Err((packet, refusal));
         }
         let admitted = packet.admitted(self.sender.limit())?;
@@ -158,8 +158,8 @@ impl Submitter {
     {
         let reply = self.inlet.take()?;
         self.read = self.read.saturating_add(1);
-        if self.told.is_none() {
-            self.told = told_by(&reply.outcome);
+        if self.first_refusal.is_none() {
+            self.first_refusal = refusal_of(&reply.outcome);
         }
         Some(reply)
     }
@@ -167,8 +167,8 @@ impl Submitter {
     /// Waits for a reply: yields once, or sleeps until a reply is given or a waker of this submitter is used, once it has
     /// yielded long enough. It may return early, so read again after it. Takes no memory. With no packet in flight
     /// nothing but a waker ends the sleep.
-    pub fn wait<R: Wait>(&self, rt: &R, spin: &SpinWait) {
-        self.inlet.wait(rt, spin);
+    pub fn wait<R: Wait>(&self, rt: &R, idle: &IdleWait) {
+        self.inlet.wait(rt, idle);
     }
 
     /// Returns a waker, with which another thread ends `wait`: no reply comes any more if the pipeline isn't served.
@@ -193,7 +193,7 @@ impl Submitter {
             credit,
             queued,
             read,
-            told,
+            first_refusal,
         } = self;
         match sender.end(rt, Item::End) {
             Ok(sender) => Ok(Ended::new(sender, inlet)),
@@ -204,7 +204,7 @@ impl Submitter {
                     credit,
                     queued,
                     read,
-                    told,
+                    first_refusal,
                 },
                 Refusal::Full,
             )),

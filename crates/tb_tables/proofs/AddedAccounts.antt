@@ -1,7 +1,6 @@
 -- Accounts and failed ids, added and taken back.
 use Rattle.std.proofs.Common.{arith, refl, sym, ap, ◌∙◌, ◌≡◌, ℕ, ◌-◌, Bool, true, false, List, [], ◌∷◌, ◌++◌, map, take, length, ◌==◌, ◌&&◌, None, find}
-use Rattle.std.proofs.lemmas.List.{map-append, length-map, take-map}
-use Rattle.tb_tables.proofs.Words.{AllByRecursion, nat_tests, Account as AccountRecord, Transfer as TransferRecord, Facts, account_with, add_account, is_reserving, is_posting, HasNoBalances, without_last, before, sums_of, with_sums, account_rows, Contents, facts_of, has_account, IsGrounded, AreGrounded, AreContained, AreConsistent, IsSound, Indices, Row, IsUndoable}
+use Rattle.tb_tables.proofs.Words.{map-append, length-map, take-map, AllByRecursion, nat_tests, Account as AccountRecord, Transfer as TransferRecord, Facts, account_with, add_account, is_reserving, is_posting, HasNoBalances, without_last, before, sums_of, with_sums, account_rows, Contents, facts_of, has_account, IsGrounded, AreGrounded, AreContained, AreConsistent, IsSound, Indices, Row, IsUndoable}
 use Rattle.tb_tables.specs.declared.change.Change.TheVariants.{Account}
 use Rattle.tb_tables.proofs.Sums.{amounts}
 use Rattle.tb_tables.proofs.GroundedFacts.{grounded_account}

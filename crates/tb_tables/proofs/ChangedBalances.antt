@@ -1,7 +1,6 @@
 -- A transfer stored and taken back: balances, and the status of what it names.
 use Rattle.std.proofs.Common.{refl, sym, ap, subst, ◌∙◌, arith, ◌≡◌, ℕ, ◌+◌, ◌<◌, ◌≤◌, ◌^◌, Bool, true, false, List, [], ◌∷◌, ◌++◌, nat_eq, slice_get, length, length-append, append-nil, true≢false, zero, suc, if◌then◌else◌, ◌==◌, Option, Some, None}
-use Rattle.std.proofs.lemmas.List.{map_push, length-map}
-use Rattle.tb_tables.proofs.Words.{IsDistinct, keys_of, set_value_at, Account, Transfer, is_pending, is_post, Facts, add_transfer, status_of, expires_at, MayAdd, Sums, sums_of, with_sums, balance_of, debits_in, credits_in, Phase, phase_of, with_amount, posted_if, account_rows, CanAdd, CanTake, row_in, transfer_rows, MayPost, MayStore, new_row, status_after, Step, AreOf, IsBefore, IsAfter, IsStored, Contain, Indices, Row, Status, Pending, nat_tests}
+use Rattle.tb_tables.proofs.Words.{map_push, length-map, IsDistinct, keys_of, set_value_at, Account, Transfer, is_pending, is_post, Facts, add_transfer, status_of, expires_at, MayAdd, Sums, sums_of, with_sums, balance_of, debits_in, credits_in, Phase, phase_of, with_amount, posted_if, account_rows, CanAdd, CanTake, row_in, transfer_rows, MayPost, MayStore, new_row, status_after, Step, AreOf, IsBefore, IsAfter, IsStored, Contain, Indices, Row, Status, Pending, nat_tests}
 use Rattle.tb_tables.specs.declared.amounts.Phase.TheVariants as phase
 use Rattle.tb_tables.proofs.FoundById.{found-id}
 use Rattle.tb_tables.proofs.MapRows.{rows-set, map-same, row-indexed_at}

@@ -1,9 +1,6 @@
 -- The columns of the map of transfers, and the entries that they are seen as.
 use Rattle.std.proofs.Common.{refl, sym, ap, ◌∙◌, arith, ◌≡◌, ℕ, ◌<◌, ◌≤◌, List, [], ◌∷◌, ◌++◌, length, length-append, slice_get, get_or, set, zero, suc, nat_eq, position, Option, Some, None, IsSome, is_some, option_map, option_to_list, ap₂}
-use Rattle.std.proofs.lemmas.List.{same_from_push}
-use Rattle.std.proofs.lemmas.Option.{slice_get_past, slice_get-map}
-use Rattle.indexmap.proofs.MapLemmas.{Found-position, Missing-position}
-use Rattle.tb_tables.proofs.Words.{nat_tests, keys_of, lookup, set_value_at, Row, Status, StoredStatus, StoredTransfer, entries_of, entry_of, status_found, status_of_stored, transfer_under}
+use Rattle.tb_tables.proofs.Words.{same_from_push, slice_get_past, slice_get-map, Found-position, Missing-position, nat_tests, keys_of, lookup, set_value_at, Row, Status, StoredStatus, StoredTransfer, entries_of, entry_of, status_found, status_of_stored, transfer_under}
 
 -- a value written over itself
 pub set-itself : {X : Type 0} (es : List (ℕ × X)) (index : ℕ) (id : ℕ) (x : X) → slice_get es index ≡ Some (id, x)

@@ -1,13 +1,12 @@
 -- Transfers expire: one, and all that are due.
 use Rattle.std.proofs.Common.{refl, sym, ap, subst, ◌∙◌, arith, ◌≡◌, ℕ, ◌<◌, ◌≤◌, Bool, true, false, not, List, nat_eq, slice_get, true≢false, ◌&&◌, Option, Some, None, ◌+◌, [], ◌∷◌, map, filter, suc, if◌then◌else◌, ◌==◌, ◌||◌, append-nil}
-use Rattle.tb_tables.proofs.Words.{IsDistinct, keys_of, nat_tests, set_value_at, Account, Transfer, Facts, expire_due, is_reserving, is_due, expires_at, same_pair, sums_of, with_amount, account_rows, AreAt, CanTake, row_in, transfer_rows, is_timed, is_pair_of, is_open_pair, IsGrounded, Contain, IsSound, AreContained, is_open_status, CanExpire, expire_one, Indices, Row, Expired, is_expired, IsLawful, reserves_at}
+use Rattle.tb_tables.proofs.Words.{IsDistinct, keys_of, nat_tests, set_value_at, Account, Transfer, Facts, expire_due, is_reserving, is_due, expires_at, same_pair, sums_of, with_amount, account_rows, AreAt, CanTake, row_in, transfer_rows, is_timed, is_pair_of, is_open_pair, IsGrounded, Contain, IsSound, AreContained, is_open_status, CanExpire, expire_one, Indices, Row, Expired, is_expired, IsLawful, reserves_at, filter_agree}
 use Rattle.tb_tables.specs.declared.amounts.Phase.TheVariants as phase
 use Rattle.tb_tables.proofs.Laws.{resolved_either, ==_swap, reserves}
 use Rattle.tb_tables.proofs.MapRows.{row-indexed_at, rows-set}
 use Rattle.tb_tables.proofs.Added.{rows-same, AreSame}
 use Rattle.tb_tables.proofs.GroundedFacts.{all-there}
 use Rattle.tb_tables.proofs.SeenFacts.{held-by}
-use Rattle.std.proofs.lemmas.List.Elements.{filter_agree}
 use Rattle.tb_tables.proofs.Sums.{amount_if, amounts, amounts-same, but_for, but_for-found}
 use Rattle.tb_tables.proofs.Pairs.{find-at, has_id-at, one-index, one-transfer}
 use Rattle.tb_tables.proofs.StoredTransfers.{ids-found, expired-is}

@@ -1,9 +1,6 @@
 -- Transfers stay grounded with each change.
 use Rattle.std.proofs.Common.{refl, sym, ap, subst, ◌∙◌, ◌≡◌, Bool, true, append-nil, arith, List, [], ◌∷◌, ◌++◌, true≢false, ◌==◌, ◌||◌, Some, IsSome, find, ℕ, slice_get}
-use Rattle.std.proofs.lemmas.List.Elements.{All-from_recursion}
-use Rattle.std.proofs.lemmas.List.Folds.{find_at, list_any-append}
-use Rattle.std.proofs.lemmas.Option.{get_or_from_slice_get, slice_get_within}
-use Rattle.tb_tables.proofs.Words.{list_any, position_or_len, AllByRecursion, Account, Transfer, Facts, add_account, add_transfer, MayAdd, MayResolve, has_account, IsGrounded, AreGrounded}
+use Rattle.tb_tables.proofs.Words.{All-from_recursion, find_at, list_any-append, get_or_from_slice_get, slice_get_within, list_any, position_or_len, AllByRecursion, Account, Transfer, Facts, add_account, add_transfer, MayAdd, MayResolve, has_account, IsGrounded, AreGrounded}
 use Rattle.tb_tables.proofs.Histories.{all_push}
 
 any-more : {X : Type 0} (test : X → Bool) (xs ys : List X) → list_any test xs ≡ true → list_any test (xs ++ ys) ≡ true

@@ -1,7 +1,6 @@
 -- The history after a change, and after one is taken back.
 use Rattle.std.proofs.Common.{refl, sym, ap, ◌∙◌, arith, ◌≡◌, ◌-◌, List, [], ◌∷◌, ◌++◌, length, take, length-append, suc}
-use Rattle.std.proofs.Math.Seq.{take-append_seam}
-use Rattle.tb_tables.proofs.Words.{AllByRecursion, Facts, with_change, without_last, oldest, past_of, history_of, Change}
+use Rattle.tb_tables.proofs.Words.{take-append_seam, AllByRecursion, Facts, with_change, without_last, oldest, past_of, history_of, Change}
 
 pub without_last-push : {X : Type 0} (xs : List X) (x : X) → without_last (xs ++ x ∷ []) ≡ xs
 without_last-push xs x =

@@ -3,8 +3,8 @@ use Rattle.std.proofs.Common.{◌≡◌, ℕ, zero, suc, ◌/◌, ◌%◌, ◌^�
 use Rattle.std.proofs.Math.Nat.{div-div-eq-div-mul, div-one, pow-suc}
 use Rattle.std.specs.Hash.{le_bytes}
 use Rattle.std.specs.Int.{byte_at, bytes_low_first}
-use Rattle.tb_layout.specs.Bytes.{little_endian}
-use Rattle.tb_layout.specs.Events.{ids_of}
+use Rattle.tb_tables.proofs.Words.{little_endian}
+use Rattle.tb_layout.specs.claim.Events.{ids_of}
 
 byte_at-pow : (index number : ℕ) → byte_at index number ≡ number / 256 ^ index % 256
 byte_at-pow zero number = ap (λ (n : ℕ). n % 256) (sym (div-one number))

@@ -1,8 +1,7 @@
 -- The facts stay lawful with each change.
 use Rattle.std.proofs.Common.{refl, ap, ◌∙◌, arith, ◌≡◌, ℕ, ◌+◌, ◌<◌, ◌≤◌, ◌^◌, Bool, true, false, not, List, [], ◌∷◌, ◌++◌, if◌then◌else◌, ◌==◌, ◌&&◌, ◌||◌, None, find}
 use Rattle.std.proofs.Math.Bool.{or-false}
-use Rattle.std.proofs.lemmas.List.Folds.{list_any-append}
-use Rattle.tb_tables.proofs.Words.{list_any, nat_tests, Transfer, is_post, is_void, is_resolving, Facts, add_transfer, is_reserving, is_posting, MayAdd, MayResolve, IsLawful, has_id, ids_distinct}
+use Rattle.tb_tables.proofs.Words.{list_any-append, list_any, nat_tests, Transfer, is_post, is_void, is_resolving, Facts, add_transfer, is_reserving, is_posting, MayAdd, MayResolve, IsLawful, has_id, ids_distinct}
 use Rattle.tb_tables.proofs.FoundById.{found-id}
 use Rattle.tb_tables.proofs.Sums.{amounts, amounts-push, but_for}
 

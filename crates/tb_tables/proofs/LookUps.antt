@@ -2,12 +2,8 @@
 use Rattle.std.proofs.Common.{refl, sym, ap, ◌∙◌, ◌≡◌, ℕ, true, not, List, [], ◌∷◌, nat_eq, slice_get, length, arith, ◌==◌, Option, Some, None, IsSome, is_some, find, option_map, Bool, Result, Ok, Err, false, ◌≢◌}
 use Rattle.std.specs.Result.{result_eq}
 use mathlib.Core.Bool.{beq as bool_eq}
-use Rattle.std.proofs.lemmas.List.{length-map}
-use Rattle.std.proofs.lemmas.Option.{slice_get-map}
-use Rattle.tb_tables.proofs.Words.{position, position_or_len, keys_of, lookup, Account, Transfer, Facts, account_with, IsIndexAmong, IsIndexOf, IsIndexOfTransfer, transfer_with, MayResolve, sums_of, with_sums, AreAt, Contain, AreGrounded, row_in, MayPost, Indices, Row, has_account, IsGrounded}
+use Rattle.tb_tables.proofs.Words.{length-map, slice_get-map, position, position_or_len, keys_of, lookup, Account, Transfer, Facts, account_with, IsIndexAmong, IsIndexOf, IsIndexOfTransfer, transfer_with, MayResolve, sums_of, with_sums, AreAt, Contain, AreGrounded, row_in, MayPost, Indices, Row, has_account, IsGrounded, Found-position, Missing-position, find_at}
 use Rattle.tb_tables.proofs.MapRows.{rows, lookup-rows, key-indexed_at, key-of-position, first-of-key}
-use Rattle.indexmap.proofs.MapLemmas.{Found-position, Missing-position}
-use Rattle.std.proofs.lemmas.List.Folds.{find_at}
 use Rattle.tb_tables.proofs.GroundedFacts.{all-found}
 
 -- the index of a key, as the map tells it

@@ -1,8 +1,6 @@
 -- Pairs of the set of expiries: which are those of a transfer, and which it has to have.
 use Rattle.std.proofs.Common.{find, refl, sym, ap, ◌∙◌, arith, ◌≡◌, ℕ, Bool, true, false, List, [], ◌∷◌, ◌++◌, length, slice_get, zero, suc, if◌then◌else◌, ◌==◌, ◌&&◌, ◌||◌, Option, Some, None, ◌≤◌, not, cond, is_eq, is_lt}
-use Rattle.std.proofs.lemmas.Bool.{eqb-true}
-use Rattle.std.proofs.lemmas.Option.{slice_get_past}
-use Rattle.tb_tables.proofs.Words.{its_pair, nat_tests, Transfer, Facts, add_transfer, is_reserving, has_id, ids_distinct, is_pair, is_open_pair, list_any, pair_cmp, is_in_expiries, same_pair}
+use Rattle.tb_tables.proofs.Words.{eqb-true, slice_get_past, its_pair, nat_tests, Transfer, Facts, add_transfer, is_reserving, has_id, ids_distinct, is_pair, is_open_pair, list_any, pair_cmp, is_in_expiries, same_pair}
 use Rattle.std.specs.BTreeSet.{BTreeSet}
 use Rattle.std.specs.declared.cmp.Reverse.{Reverse}
 

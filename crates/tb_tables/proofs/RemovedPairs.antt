@@ -1,8 +1,6 @@
 -- The pairs of resolved transfers leave the set.
 use Rattle.std.proofs.Common.{sym, ap, ◌∙◌, arith, ◌≡◌, ℕ, ◌+◌, ◌<◌, ◌^◌, Bool, true, not, List, [], ◌∷◌, ◌++◌, take, length, get_or, slice_get, suc, ◌==◌, ◌&&◌, ◌||◌, Some}
-use Rattle.std.proofs.lemmas.List.Folds.{list_any-append}
-use Rattle.std.proofs.Math.Seq.{take-suc}
-use Rattle.tb_tables.proofs.Words.{NamesOne, AllByRecursion, nat_tests, Transfer, Facts, expires_at, same_pair, Contents, facts_of, row_in, is_timed, is_spent, IsGrounded, AreConsistent, resolves_at, is_resolved_at, is_open_status, IsRemovable, CanRemove, Indices, Row, Change}
+use Rattle.tb_tables.proofs.Words.{list_any-append, take-suc, NamesOne, AllByRecursion, nat_tests, Transfer, Facts, expires_at, same_pair, Contents, facts_of, row_in, is_timed, is_spent, IsGrounded, AreConsistent, resolves_at, is_resolved_at, is_open_status, IsRemovable, CanRemove, Indices, Row, Change}
 use Rattle.tb_tables.proofs.Laws.{resolved_either}
 use Rattle.tb_tables.proofs.MapRows.{row-indexed_at}
 use Rattle.tb_tables.proofs.GroundedFacts.{all-there}

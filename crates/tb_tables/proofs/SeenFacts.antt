@@ -1,7 +1,6 @@
 -- What the maps hold is what is seen, and facts stay sound with another set that has their pairs.
 use Rattle.std.proofs.Common.{refl, sym, ap, subst, arith, ◌∙◌, ◌≡◌, ℕ, ◌≤◌, Bool, true, List, [], ◌∷◌, map, filter, length, slice_get, suc, Some}
-use Rattle.std.proofs.lemmas.Option.{slice_get_cases}
-use Rattle.tb_tables.proofs.Words.{AllByRecursion, Account as AccountRecord, Transfer as TransferRecord, Facts, is_expired, status_in, HasNoBalances, Sums, sums_of, with_sums, account_rows, Contents, account_made, has_expired, facts_of, transfer_rows, is_open_pair, IsSound, AreContained, AreConsistent, Row, KeepsPairs}
+use Rattle.tb_tables.proofs.Words.{slice_get_cases, AllByRecursion, Account as AccountRecord, Transfer as TransferRecord, Facts, is_expired, status_in, HasNoBalances, Sums, sums_of, with_sums, account_rows, Contents, account_made, has_expired, facts_of, transfer_rows, is_open_pair, IsSound, AreContained, AreConsistent, Row, KeepsPairs}
 use Rattle.tb_tables.proofs.Laws.{resolved_either}
 
 -- ---- facts that the maps hold are those that they are seen as

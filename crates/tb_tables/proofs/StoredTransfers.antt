@@ -1,8 +1,6 @@
 -- A transfer stored in the maps, and taken back.
 use Rattle.std.proofs.Common.{sym, ap, subst, arith, ◌∙◌, ◌≡◌, ℕ, Bool, true, false, not, List, [], ◌∷◌, ◌++◌, map, filter, length, append-nil, ◌==◌, ◌&&◌, ◌||◌, Option, Some, None}
-use Rattle.std.proofs.lemmas.List.Elements.{filter-append}
-use Rattle.std.proofs.lemmas.Option.{slice_get_past}
-use Rattle.tb_tables.proofs.Words.{list_any, nat_tests, Account, Transfer as TransferRecord, is_resolving, Facts, transfer_with, is_expired, add_transfer, is_resolved, is_reserving, IsLawful, has_id, before, AreAt, Contents, AreGrounded, facts_of, is_pair, AreExpiries, IsSound, AreContained, Allow, MayStore, AreConsistent, Contain, new_row, Step, IsBefore, IsAfter, HaveIndices, IsStored, row_in, transfer_rows, Indices, Row, IsUndoable, KeepsPairs, its_pair}
+use Rattle.tb_tables.proofs.Words.{filter-append, slice_get_past, list_any, nat_tests, Account, Transfer as TransferRecord, is_resolving, Facts, transfer_with, is_expired, add_transfer, is_resolved, is_reserving, IsLawful, has_id, before, AreAt, Contents, AreGrounded, facts_of, is_pair, AreExpiries, IsSound, AreContained, Allow, MayStore, AreConsistent, Contain, new_row, Step, IsBefore, IsAfter, HaveIndices, IsStored, row_in, transfer_rows, Indices, Row, IsUndoable, KeepsPairs, its_pair, map_push}
 use Rattle.tb_tables.specs.declared.change.Change.TheVariants.{Transfer}
 use Rattle.tb_tables.proofs.Laws.{find-none, any-push, reserving-same, reserving-other, resolves_nothing, add_transfer_lawful}
 use Rattle.tb_tables.proofs.Added.{resolve_lawful}
@@ -11,7 +9,6 @@ use Rattle.tb_tables.proofs.Pairs.{slice_get-push, pairs-push, is_open_pair-push
 use Rattle.tb_tables.proofs.SeenFacts.{keeps, sound-indexed, held-by}
 use Rattle.tb_tables.proofs.Histories.{without_last-push}
 use Rattle.tb_tables.proofs.ChangedBalances.{row-new}
-use Rattle.std.proofs.lemmas.List.{map_push}
 
 -- the ids of those whose id passes a test
 pub ids-found : (test : ℕ → Bool) (id : ℕ) (xs : List TransferRecord)

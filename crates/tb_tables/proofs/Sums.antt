@@ -1,8 +1,7 @@
 -- How the sums of an account change with the facts.
 use Rattle.std.proofs.Common.{refl, ap, ◌∙◌, arith, ◌≡◌, ℕ, ◌+◌, Bool, true, false, not, List, [], ◌∷◌, ◌++◌, sum_by, filter, if◌then◌else◌, ◌==◌, ◌&&◌, Some, find}
-use Rattle.std.proofs.lemmas.List.Elements.{filter-append, filter_agree}
+use Rattle.tb_tables.proofs.Words.{filter-append, filter_agree, nat_tests, Transfer, has_id, ids_distinct}
 use Rattle.std.proofs.lemmas.List.Sums.{sum_by-append, sum_by-cons}
-use Rattle.tb_tables.proofs.Words.{nat_tests, Transfer, has_id, ids_distinct}
 
 -- the amount of a transfer, if it passes a test
 abbrev pub amount_if : (Transfer → Bool) → Transfer → ℕ

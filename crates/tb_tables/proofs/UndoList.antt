@@ -1,9 +1,7 @@
 -- The undo list: what can be undone stays so.
 use Rattle.std.proofs.Common.{sym, ap, subst, arith, ◌∙◌, ◌≡◌, ℕ, ◌≤◌, ◌-◌, Bool, true, List, [], ◌∷◌, ◌++◌, take, length, slice_get, zero, suc, true≢false, Option, Some, None}
-use Rattle.std.proofs.lemmas.Bool.{eqb-true}
-use Rattle.std.proofs.lemmas.List.{length-take}
-use Rattle.tb_tables.proofs.Words.{AllByRecursion, Account as AccountRecord, Transfer as TransferRecord, Facts, add_account, add_failed, with_change, before, oldest, MapsState, add_transfer, has_pair, HaveIndices, MayStore, KeepsPairs, NamesOne, names_index, resolves_at, IsSound, WasMade, IsUndoable, AreUndoable, history_in, Indices, Change}
-use Rattle.tb_tables.specs.declared.change.Change.TheVariants.{Account, Transfer, Failed}
+use Rattle.tb_tables.proofs.Words.{eqb-true, length-take, AllByRecursion, Account as AccountRecord, Transfer as TransferRecord, Facts, add_account, add_failed, with_change, before, oldest, MapsState, add_transfer, has_pair, HaveIndices, MayStore, KeepsPairs, NamesOne, names_index, resolves_at, IsSound, WasMade, IsUndoable, AreUndoable, history_in, Indices, Change, Failed}
+use Rattle.tb_tables.specs.declared.change.Change.TheVariants.{Account, Transfer}
 use Rattle.tb_tables.proofs.Histories.{oldest-push, history_of-push, without_last-push}
 use Rattle.tb_tables.proofs.SeenFacts.{sound-indexed}
 use Rattle.tb_tables.proofs.StoredTransfers.{allows, back}

@@ -1,3 +1,5 @@
-pub mod Balances
-pub mod Indices
-pub mod Status
+-- What only proofs, private functions and invariants need.
+pub mod Columns
+pub mod MapFields
+pub mod Changing
+pub mod Hashing

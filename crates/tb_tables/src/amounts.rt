@@ -2,7 +2,7 @@
 
 ghost use Rattle.std.specs.Prelude.{◌≡◌, ℕ, List, true};
 ghost use Rattle.tb_layout.specs.declared.account.Account.{Account as AccountRecord};
-ghost use Rattle.tb_tables.specs.Sums.{Sums, AreAt, CanAdd, CanTake, with_amount, posted_if, account_rows, phase_of, debits_in as debits_of, credits_in as credits_of};
+ghost use Rattle.tb_tables.specs.clauses.Sums.{Sums, AreAt, CanAdd, CanTake, with_amount, posted_if, account_rows, phase_of, debits_in as debits_of, credits_in as credits_of};
 ghost use Rattle.tb_tables.specs.declared.amounts.Phase.TheVariants.{Posted};
 
 use crate::balance::{Balance, lower_at, raise_at};

@@ -2,7 +2,7 @@
 
 ghost use Rattle.std.specs.Prelude.{◌≡◌, ◌<◌, ◌≤◌, ◌+◌, ◌^◌, Some, List, slice_get};
 ghost use Rattle.tb_layout.specs.declared.account.Account.{Account as AccountRecord};
-ghost use Rattle.tb_tables.specs.Sums.{Sums, HasRoom, HasAmount, balance_of, raise_balance as raise, lower_balance as lower, with_more, account_rows};
+ghost use Rattle.tb_tables.specs.clauses.Sums.{Sums, HasRoom, HasAmount, balance_of, raise_balance as raise, lower_balance as lower, with_more, account_rows};
 
 use crate::by_id::ById;
 use tb_layout::Account;

@@ -3,8 +3,8 @@
 ghost use Rattle.std.specs.Prelude.{◌≡◌, ◌++◌, ◌∷◌, ◌==◌, ◌≢◌, [], Some, Ok, IfOk, OnOk, OnErr, IsSome, is_some, not, true, false, nat_eq, slice_get};
 ghost use Rattle.std.specs.List.{list_any};
 ghost use Rattle.indexmap.specs.IndexMap.{get, keys};
-ghost use Rattle.tb_tables.specs.Changes.{without_last};
-ghost use Rattle.tb_tables.specs.Changing.{status_after};
+ghost use Rattle.tb_tables.specs.clauses.Changes.{without_last};
+ghost use Rattle.tb_tables.specs.inside.Changing.{status_after};
 
 use crate::by_id::{ById, Ids};
 use crate::status::Status;

@@ -3,7 +3,7 @@
 
 ghost use Rattle.std.specs.Prelude.{◌≡◌, ◌≤◌, ◌<◌, OnOk, OnErr, true, not, ◌&&◌, ◌||◌, ℕ, IfSome, IfNone};
 ghost use Rattle.std.specs.BTreeSet.{btree_set_len};
-ghost use Rattle.tb_tables.specs.Expiries.{is_in_expiries, same_pair};
+ghost use Rattle.tb_tables.specs.clauses.Expiries.{is_in_expiries, same_pair};
 
 use std::cmp::Reverse;
 use std::collections::BTreeSet;

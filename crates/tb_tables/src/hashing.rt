@@ -2,8 +2,8 @@
 
 ghost use Rattle.std.specs.Prelude.{◌≡◌, ◌%◌, ◌/◌, ◌^◌, bit_xor, fold};
 ghost use Rattle.std.specs.Hash as fed;
-ghost use Rattle.tb_layout.specs.Bytes.{little_endian};
-ghost use Rattle.tb_tables.specs.Hashing.{folded, with_id, with_ids};
+ghost use Rattle.tb_layout.specs.claim.Bytes.{little_endian};
+ghost use Rattle.tb_tables.specs.inside.Hashing.{folded, with_id, with_ids};
 
 use std::hash::{BuildHasher, Hasher};
 use tb_layout::{U64_VALUES, read_id};

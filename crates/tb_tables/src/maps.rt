@@ -29,11 +29,11 @@ pub(crate) struct Maps {
 }
 
 impl Model for Maps {
-    ghost use Rattle.tb_tables.specs.Contents.{MapsState, AreConsistent};
+    ghost use Rattle.tb_tables.specs.clauses.Contents.{MapsState, AreConsistent};
 
     ghost Value = { MapsState };
 
-    ghost use Rattle.tb_tables.specs.MapFields.{contents_in, maps_state_of};
+    ghost use Rattle.tb_tables.specs.inside.MapFields.{contents_in, maps_state_of};
 
     ghost view = { maps_state_of };
 
@@ -41,17 +41,17 @@ impl Model for Maps {
 }
 
 impl Maps {
-    ghost use Rattle.tb_tables.specs.Counts.{counts_of};
-    ghost use Rattle.tb_tables.specs.Facts.{no_facts, account_with, transfer_with, is_failed, add_account as with_account, add_transfer as with_transfer, add_failed as with_failed};
-    ghost use Rattle.tb_tables.specs.inside.Indices.{IsIndexOf, IsIndexOfTransfer};
-    ghost use Rattle.tb_layout.specs.Transfer.{is_pending};
-    ghost use Rattle.tb_tables.specs.Status.{expires_at, expire_due as with_due_expired};
-    ghost use Rattle.tb_tables.specs.inside.Status.{status_with, status_if_pending};
-    ghost use Rattle.tb_tables.specs.Balances.{with_balances as balanced, balanced_account};
-    ghost use Rattle.tb_tables.specs.Expiries.{has_pair};
-    ghost use Rattle.tb_tables.specs.Changes.{before};
-    ghost use Rattle.tb_tables.specs.Conditions.{HasNoBalances, MayAdd, MayResolve, stamped};
-    ghost use Rattle.tb_tables.specs.Contents.{MayStore, HaveIndices, IsSound, IsUndoable, KeepsPairs, NamesOne, is_resolved_at, is_spent};
+    ghost use Rattle.tb_tables.specs.clauses.Counts.{counts_of};
+    ghost use Rattle.tb_tables.specs.claim.Facts.{no_facts, account_with, transfer_with, is_failed, add_account as with_account, add_transfer as with_transfer, add_failed as with_failed};
+    ghost use Rattle.tb_tables.specs.clauses.Indices.{IsIndexOf, IsIndexOfTransfer};
+    ghost use Rattle.tb_layout.specs.claim.Transfer.{is_pending};
+    ghost use Rattle.tb_tables.specs.claim.Status.{expires_at, expire_due as with_due_expired};
+    ghost use Rattle.tb_tables.specs.clauses.Status.{status_with, status_if_pending};
+    ghost use Rattle.tb_tables.specs.claim.Balances.{with_balances as balanced, balanced_account};
+    ghost use Rattle.tb_tables.specs.clauses.Expiries.{has_pair};
+    ghost use Rattle.tb_tables.specs.clauses.Changes.{before};
+    ghost use Rattle.tb_tables.specs.clauses.Conditions.{HasNoBalances, MayAdd, MayResolve, stamped};
+    ghost use Rattle.tb_tables.specs.clauses.Contents.{MayStore, HaveIndices, IsSound, IsUndoable, KeepsPairs, NamesOne, is_resolved_at, is_spent};
 
     /// Maps without facts, whose ids are hashed with a seed. Takes no memory.
     pub(crate) fn new(alloc: Global, seed: Seed) -> Maps

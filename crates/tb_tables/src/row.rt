@@ -13,7 +13,7 @@ pub(crate) struct Row {
 }
 
 impl Row {
-    ghost use Rattle.tb_tables.specs.Changing.{is_open_status};
+    ghost use Rattle.tb_tables.specs.inside.Changing.{is_open_status};
 
     /// Returns whether the transfer still reserves its amount.
     pub(crate) fn is_open(&self) -> bool

@@ -1,8 +1,8 @@
 //! A status as the map of transfers stores it.
 
 ghost use Rattle.std.specs.Prelude.{◌≡◌, Some};
-ghost use Rattle.tb_tables.specs.Columns.{status_of_stored};
-ghost use Rattle.tb_tables.specs.Changing.{status_first};
+ghost use Rattle.tb_tables.specs.inside.Columns.{status_of_stored};
+ghost use Rattle.tb_tables.specs.inside.Changing.{status_first};
 
 use crate::status::Status;
 use tb_layout::Transfer;

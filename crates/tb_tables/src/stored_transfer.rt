@@ -24,8 +24,8 @@ pub(crate) struct StoredTransfer {
 const _: () = prove!(size_of::<StoredTransfer>() == 112);
 
 impl StoredTransfer {
-    ghost use Rattle.tb_tables.specs.Columns.{transfer_under};
-    ghost use Rattle.tb_tables.specs.Conditions.{stamped};
+    ghost use Rattle.tb_tables.specs.inside.Columns.{transfer_under};
+    ghost use Rattle.tb_tables.specs.clauses.Conditions.{stamped};
 
     /// Copies the fields of an event, all but its id, with the timestamp at which it is stored.
     pub(crate) fn of(event: &Transfer, timestamp: u64) -> StoredTransfer

@@ -3,13 +3,13 @@
 ghost use Rattle.std.specs.Prelude.{◌≡◌, ℕ, not, ◌&&◌, ◌||◌, ◌<◌, ◌^◌, ◌==◌, OnOk, OnErr, true, Some, length};
 ghost use Rattle.std.specs.List.{AllByRecursion};
 ghost use Rattle.tb_layout.specs.declared.transfer.Transfer.{Transfer as TransferRecord};
-ghost use Rattle.tb_layout.specs.Transfer.{is_pending};
-ghost use Rattle.tb_tables.specs.Facts.{Facts};
-ghost use Rattle.tb_tables.specs.Status.{expires_at as expires_at_of};
-ghost use Rattle.tb_tables.specs.Conditions.{stamped};
-ghost use Rattle.tb_tables.specs.Expiries.{is_in_expiries, same_pair};
-ghost use Rattle.tb_tables.specs.Contents.{is_timed as is_timed_of, named_by as named_by_of, resolves_at, is_resolved_at, is_spent as is_spent_at, Contain};
-ghost use Rattle.tb_tables.specs.Changing.{Step, IsBefore, IsAfter, IsStored, IsRemovable, CanRemove, is_open_status};
+ghost use Rattle.tb_layout.specs.claim.Transfer.{is_pending};
+ghost use Rattle.tb_tables.specs.claim.Facts.{Facts};
+ghost use Rattle.tb_tables.specs.claim.Status.{expires_at as expires_at_of};
+ghost use Rattle.tb_tables.specs.clauses.Conditions.{stamped};
+ghost use Rattle.tb_tables.specs.clauses.Expiries.{is_in_expiries, same_pair};
+ghost use Rattle.tb_tables.specs.clauses.Contents.{is_timed as is_timed_of, named_by as named_by_of, resolves_at, is_resolved_at, is_spent as is_spent_at, Contain};
+ghost use Rattle.tb_tables.specs.inside.Changing.{Step, IsBefore, IsAfter, IsStored, IsRemovable, CanRemove, is_open_status};
 
 use crate::amounts::{Phase, add_amount, phase_of, post_if, subtract_amount, unpost_if};
 use crate::by_id::ById;

@@ -31,9 +31,9 @@ impl Drop for Tables {
 }
 
 impl Model for Tables {
-    ghost use Rattle.tb_tables.specs.History.{History};
-    ghost use Rattle.tb_tables.specs.Expiries.{has_pair};
-    ghost use Rattle.tb_tables.specs.Contents.{history_in, AreUndoable};
+    ghost use Rattle.tb_tables.specs.clauses.History.{History};
+    ghost use Rattle.tb_tables.specs.clauses.Expiries.{has_pair};
+    ghost use Rattle.tb_tables.specs.clauses.Contents.{history_in, AreUndoable};
 
     ghost Value = { History };
 
@@ -43,16 +43,16 @@ impl Model for Tables {
 }
 
 impl Tables {
-    ghost use Rattle.tb_tables.specs.Counts.{counts_of};
-    ghost use Rattle.tb_tables.specs.Facts.{no_facts, account_with, transfer_with, is_failed, add_account as with_account, add_transfer as with_transfer, add_failed as with_failed};
-    ghost use Rattle.tb_tables.specs.inside.Indices.{IsIndexOf, IsIndexOfTransfer};
-    ghost use Rattle.tb_layout.specs.Transfer.{is_pending};
-    ghost use Rattle.tb_tables.specs.Status.{expires_at, expire_due as with_due_expired};
-    ghost use Rattle.tb_tables.specs.inside.Status.{status_with, status_if_pending};
-    ghost use Rattle.tb_tables.specs.Balances.{with_balances as balanced, balanced_account};
-    ghost use Rattle.tb_tables.specs.Conditions.{HasNoBalances, MayAdd, MayResolve, stamped};
-    ghost use Rattle.tb_tables.specs.History.{with_change, mark_of, back_to, without_past};
-    ghost use Rattle.tb_tables.specs.Contents.{MayStore, HaveIndices};
+    ghost use Rattle.tb_tables.specs.clauses.Counts.{counts_of};
+    ghost use Rattle.tb_tables.specs.claim.Facts.{no_facts, account_with, transfer_with, is_failed, add_account as with_account, add_transfer as with_transfer, add_failed as with_failed};
+    ghost use Rattle.tb_tables.specs.clauses.Indices.{IsIndexOf, IsIndexOfTransfer};
+    ghost use Rattle.tb_layout.specs.claim.Transfer.{is_pending};
+    ghost use Rattle.tb_tables.specs.claim.Status.{expires_at, expire_due as with_due_expired};
+    ghost use Rattle.tb_tables.specs.clauses.Status.{status_with, status_if_pending};
+    ghost use Rattle.tb_tables.specs.claim.Balances.{with_balances as balanced, balanced_account};
+    ghost use Rattle.tb_tables.specs.clauses.Conditions.{HasNoBalances, MayAdd, MayResolve, stamped};
+    ghost use Rattle.tb_tables.specs.clauses.History.{with_change, mark_of, back_to, without_past};
+    ghost use Rattle.tb_tables.specs.clauses.Contents.{MayStore, HaveIndices};
 
     /// Returns tables without facts. Takes no memory.
     pub fn new(alloc: Global) -> Tables
@@ -88,13 +88,13 @@ impl Tables {
         ensures ok { OnOk result (self.new ≡ with_change self.old (with_account self.old.now account)) }
         ensures err { OnErr result (self.new ≡ self.old) }
     {
-        self.add_new_account(&account, account.timestamp)?;
+        self.insert_account(&account, account.timestamp)?;
         Ok(())
     }
 
     /// Adds an account after those that are there, with this timestamp and no balances of its own, unless one with its
     /// id is there; whether it was added. The id is looked up once. If memory runs out nothing has changed.
-    pub fn add_new_account(&mut self, event: &Account, timestamp: u64) -> Result<bool, NoMemory>
+    pub fn insert_account(&mut self, event: &Account, timestamp: u64) -> Result<bool, NoMemory>
         requires { HasNoBalances event.now }
         ensures new { IfOk result (λ added. added ≡ not (is_some (account_with self.old.now event.now.id))) }
         ensures added { result ≡ Ok true → self.new ≡ with_change self.old
@@ -160,7 +160,7 @@ impl Tables {
     /// Adds a plain or pending transfer after those that are there, with this timestamp, between the accounts at two
     /// indices. It isn't added if one with its id is there; whether it was added. The id is looked up once. If memory
     /// runs out nothing has changed.
-    pub fn add_new_between(
+    pub fn insert_between(
         &mut self,
         event: &Transfer,
         timestamp: u64,
@@ -199,14 +199,18 @@ impl Tables {
         let Some(pending) = self.maps.transfer_index(transfer.pending_id) else {
             unreachable!()
         };
-        self.resolve_new_at(&transfer, pending)?;
+        self.insert_resolving(&transfer, pending)?;
         Ok(())
     }
 
     /// Adds a post or a void, with its resolved fields, unless a transfer with its id is there; whether it was added.
     /// The transfer that it names is at this index, and is pending no more if it was. The id is looked up once, and
     /// what it names isn't looked up again. If memory runs out nothing has changed.
-    pub fn resolve_new_at(&mut self, transfer: &Transfer, pending: usize) -> Result<bool, NoMemory>
+    pub fn insert_resolving(
+        &mut self,
+        transfer: &Transfer,
+        pending: usize,
+    ) -> Result<bool, NoMemory>
         requires pending { IsIndexOfTransfer self.old.now transfer.now.pending_id (Some pending) }
         requires may { MayResolve self.old.now transfer.now }
         ensures new { IfOk result (λ added. added ≡ not (is_some (transfer_with self.old.now transfer.now.id))) }

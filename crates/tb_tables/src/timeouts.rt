@@ -1,10 +1,10 @@
 //! Pending transfers whose timeout is over.
 
-ghost use Rattle.tb_tables.specs.Facts.{Facts};
-ghost use Rattle.tb_tables.specs.Expiries.{is_in_expiries};
-ghost use Rattle.tb_tables.specs.Contents.{Contain, AreContained};
-ghost use Rattle.tb_tables.specs.Status.{expire_due};
-ghost use Rattle.tb_tables.specs.Changing.{CanExpire, expire_one};
+ghost use Rattle.tb_tables.specs.claim.Facts.{Facts};
+ghost use Rattle.tb_tables.specs.clauses.Expiries.{is_in_expiries};
+ghost use Rattle.tb_tables.specs.clauses.Contents.{Contain, AreContained};
+ghost use Rattle.tb_tables.specs.claim.Status.{expire_due};
+ghost use Rattle.tb_tables.specs.inside.Changing.{CanExpire, expire_one};
 
 use crate::amounts::{Phase, subtract_amount};
 use crate::by_id::ById;

@@ -7,9 +7,9 @@ ghost use Rattle.std.specs.Option.{option_map};
 ghost use Rattle.indexmap.specs.IndexMap.{get, set_value_at};
 ghost use Rattle.tb_tables.specs.declared.row.Row.{Row as RowRecord};
 ghost use Rattle.tb_tables.specs.declared.stored_transfer.StoredTransfer.{StoredTransfer as StoredRecord};
-ghost use Rattle.tb_tables.specs.Changing.{new_row};
-ghost use Rattle.tb_tables.specs.Columns.{transfer_under, status_found};
-ghost use Rattle.tb_tables.specs.Conditions.{stamped};
+ghost use Rattle.tb_tables.specs.inside.Changing.{new_row};
+ghost use Rattle.tb_tables.specs.inside.Columns.{transfer_under, status_found};
+ghost use Rattle.tb_tables.specs.clauses.Conditions.{stamped};
 
 use crate::by_id::ById;
 use crate::hashing::IdHasher;
@@ -32,7 +32,7 @@ pub(crate) struct Transfers {
 impl Model for Transfers {
     ghost use Rattle.std.specs.Prelude.{◌≡◌, ℕ, List, length};
     ghost use Rattle.tb_tables.specs.declared.row.Row.{Row as RowRecord};
-    ghost use Rattle.tb_tables.specs.Columns.{entries_of};
+    ghost use Rattle.tb_tables.specs.inside.Columns.{entries_of};
 
     ghost Value = { List (ℕ × RowRecord) };
 

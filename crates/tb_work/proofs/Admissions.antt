@@ -1,10 +1,9 @@
 -- What admission says of a packet.
 use Rattle.std.proofs.Common.{◌≡◌, ◌≤◌, ℕ, ◌*◌, ◌/◌, ◌%◌, Bool, true, false, not, List, length, Option, Some, None, refl, arith, subst}
-use Rattle.std.specs.Prelude.{◌==◌, nat_lt, Result, Ok, Err, IsOk, IsSome, unwrap_or, if◌then◌else◌, ⊤}
+use Rattle.tb_work.proofs.Words.{◌==◌, nat_lt, Result, Ok, Err, IsOk, IsSome, unwrap_or, if◌then◌else◌, ⊤, admission_of_size, count_of_size}
 use Rattle.std.proofs.lemmas.Nat.{div-add-mod'}
 use Rattle.std.proofs.lemmas.Bool.{eqb-true}
 use Rattle.std.proofs.lemmas.Bool.Decides.{nat_tests}
-use Rattle.tb_work.specs.Admission.{admission_of_size, count_of_size}
 use Rattle.tb_work.specs.declared.refusal.Refusal.{Refusal}
 use Rattle.tb_work.specs.declared.refusal.Refusal.TheVariants.{InvalidOperation, InvalidDataSize, TooMuchData, NoMemory, Shutdown, Stopped}
 

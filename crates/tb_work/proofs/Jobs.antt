@@ -1,12 +1,7 @@
 -- Whether a packet's last event is linked.
 use Rattle.std.proofs.Common.{◌≡◌, ℕ, suc, ◌-◌, List, [], ◌∷◌, length, map, refl, sym, ap, ◌∙◌, arith, Bool, true, false, Some}
-use Rattle.std.specs.List.{slice_get}
-use Rattle.std.specs.Prelude.{◌==◌, if◌then◌else◌}
-use Rattle.tb_layout.specs.Account.{account_of, is_linked as is_linked_account}
-use Rattle.tb_layout.specs.Transfer.{transfer_of, is_linked as is_linked_transfer}
-use Rattle.tb_layout.specs.Events.{Events, Accounts, Transfers, Ids, accounts_of, transfers_of, ids_of, events_of, is_last_linked, chunks as chunks_of}
-use Rattle.tb_layout.specs.inside.Events.{is_open}
-use Rattle.tb_work.specs.Job.{is_chunk_linked}
+use Rattle.tb_work.proofs.Words.{slice_get, ◌==◌, if◌then◌else◌, account_of, is_linked_account, transfer_of, is_linked_transfer, Events, Accounts, Transfers, Ids, accounts_of, transfers_of, ids_of, events_of, is_last_linked, chunks_of, is_chunk_linked}
+use Rattle.tb_layout.specs.claim.EventCounts.{is_open}
 
 -- of events that chunks hold, the last chunk tells
 is_last_linked-chunk : {Event : Type 0} (is_linked : Event → Bool) (f : List ℕ → Event) (chunks : List (List ℕ))

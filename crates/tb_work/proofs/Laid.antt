@@ -1,10 +1,8 @@
 -- Events laid one after the other.
 use Rattle.std.proofs.Common.{refl, sym, ap, ◌∙◌, arith, ◌≡◌, ◌≤◌, ℕ, zero, suc, ◌+◌, ◌*◌, ◌/◌, List, [], ◌∷◌, ◌++◌, map, take, drop, length, length-append, append-nil}
-use Rattle.std.specs.List.{flat_map}
+use Rattle.tb_work.proofs.Words.{flat_map, map-append, take-append-le, drop-append-le, length-drop, take_all, chunks}
 use Rattle.std.specs.Simd.{first_chunks}
-use Rattle.std.proofs.lemmas.List.{map-append, take-append-le, drop-append-le, length-drop, take_all}
 use Rattle.std.proofs.lemmas.Grind.{flat_map-append}
-use Rattle.tb_layout.specs.Events.{chunks}
 
 -- chunks of a size, as large as a whole number of them
 module _ (size : ℕ) (counts : (k : ℕ) → (k * size) / size ≡ k) (grows : (k : ℕ) → suc k * size ≡ size + k * size) where

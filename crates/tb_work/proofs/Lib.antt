@@ -1,3 +1,4 @@
+pub mod Words
 pub mod Jobs
 pub mod Laid
 pub mod Admissions

@@ -1,7 +1,2 @@
-pub mod Refusal
-pub mod Admission
-pub mod Packet
-pub mod Job
-pub mod Answer
-pub mod Ahead
-pub mod Queue
+pub mod claim
+pub mod clauses

@@ -1,8 +1,8 @@
 //! Which packets are admitted.
 
 ghost use Rattle.std.specs.Prelude.{◌≡◌, Ok, IsOk};
-ghost use Rattle.tb_layout.specs.inside.Limits.{batch_max};
-ghost use Rattle.tb_work.specs.Admission as spec;
+ghost use Rattle.tb_layout.specs.claim.Bounds.{batch_max};
+ghost use Rattle.tb_work.specs.claim.Admission as spec;
 
 use crate::packet::{EVENT_SIZE, Packet};
 use crate::refusal::Refusal;
@@ -62,8 +62,8 @@ pub struct AdmittedPacket {
 
 impl Model for AdmittedPacket {
     ghost use Rattle.std.specs.Prelude.{◌≡◌, Ok};
-    ghost use Rattle.tb_layout.specs.inside.Limits.{batch_max};
-    ghost use Rattle.tb_work.specs.Admission.{admission_of};
+    ghost use Rattle.tb_layout.specs.claim.Bounds.{batch_max};
+    ghost use Rattle.tb_work.specs.claim.Admission.{admission_of};
     ghost use Rattle.tb_work.specs.declared.packet.Packet.{Packet};
 
     ghost Value = { Packet };

@@ -1,11 +1,11 @@
 //! Packets that were admitted.
 
 ghost use Rattle.std.specs.Prelude.{◌≡◌, ◌<◌, ◌≤◌, ◌==◌, ◌⊎◌, true, false, [], IfOk, OnOk, IfErr, OnErr, IsOk, Err};
-ghost use Rattle.tb_layout.specs.inside.Limits.{batch_max};
-ghost use Rattle.tb_work.specs.Admission as spec;
-ghost use Rattle.tb_work.specs.Admission.{admission_of};
+ghost use Rattle.tb_layout.specs.claim.Bounds.{batch_max};
+ghost use Rattle.tb_work.specs.claim.Admission as spec;
+ghost use Rattle.tb_work.specs.claim.Admission.{admission_of};
 ghost use Rattle.tb_work.specs.declared.refusal.Refusal.TheVariants.{NoMemory};
-ghost use Rattle.tb_work.specs.Job.{is_chunk_linked};
+ghost use Rattle.tb_work.specs.claim.Job.{is_chunk_linked};
 
 use crate::admission::{AdmittedPacket, looks_up};
 use crate::packet::Packet;
@@ -38,8 +38,8 @@ impl Drop for Job {
 }
 
 impl Model for Job {
-    ghost use Rattle.tb_work.specs.Packet.{Numbered};
-    ghost use Rattle.tb_work.specs.Job.{HasRoomFor};
+    ghost use Rattle.tb_work.specs.claim.Packet.{Numbered};
+    ghost use Rattle.tb_work.specs.claim.Job.{HasRoomFor};
 
     ghost Value = { Numbered };
 
@@ -80,8 +80,8 @@ fn is_last_linked(operation: u8, chunk: &[u8; 128]) -> bool
 }
 
 impl Job {
-    ghost use Rattle.tb_work.specs.Admission.{count_of};
-    ghost use Rattle.tb_work.specs.Job.{stub_of, is_lookup, is_open, numbered_packet};
+    ghost use Rattle.tb_work.specs.claim.Admission.{count_of};
+    ghost use Rattle.tb_work.specs.claim.Job.{stub_of, is_lookup, is_open, numbered_packet};
 
     /// Makes a job of a packet that is admitted under the limit, at most 8190 events, as `of` does.
     ///

@@ -1,12 +1,14 @@
 //! Packets, from the submitter that hands them in to the reply that returns them.
 //!
 //! - `Packet::of_accounts` and `Packet::of_transfers` lay out exactly the given events (`bytes`, `events`);
+//! - `Packet::operation` returns what a packet asks for;
 //! - `admit` returns the number of a packet's events, or the first refusal that applies;
 //! - `Packet::admitted` returns the packet as an `AdmittedPacket`, or unchanged with that refusal (`refused`);
 //! - `Job::of` makes a job of it, with capacity for its failures, or returns the packet unchanged (`back`). Memory is an
 //!   excuse only for more than two events of no lookup (`few`). `Job::new` does both;
 //! - `Reply::of` and `Reply::committed` return the packet unchanged with its outcome, and allocate nothing;
-//! - `Moment`, `Item`, `Ticket`, `Stub`, `Outcome` and `Refusal` are what queue, rings and journal carry.
+//! - `Moment`, `Item`, `Ticket`, `Stub`, `Outcome` and `Refusal` are what queue, rings and journal carry;
+//! - `SubmitError` is a refused packet with its refusal, as an error that `?` passes on.
 //!
 //! The types keep what they promise: an `AdmittedPacket` and a job's packet are admitted, failures rise and are below the
 //! packet's count, a moment is in range.
@@ -24,6 +26,7 @@ mod packet;
 mod refusal;
 mod reply;
 mod stub;
+mod submit_error;
 
 pub use admission::{AdmittedPacket, admit, looks_up};
 pub use bytes::Bytes;
@@ -35,4 +38,5 @@ pub use packet::Packet;
 pub use refusal::Refusal;
 pub use reply::Reply;
 pub use stub::Stub;
+pub use submit_error::SubmitError;
 pub use tb_layout::{Accounts, Answer, Failures};

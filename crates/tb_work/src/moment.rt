@@ -1,7 +1,7 @@
 //! The moment of a pulse.
 
 ghost use Rattle.std.specs.Prelude.{◌≡◌, ◌≤◌, ◌^◌, ℕ};
-ghost use Rattle.tb_layout.specs.inside.Limits.{moment_max};
+ghost use Rattle.tb_layout.specs.claim.Bounds.{moment_max};
 
 use std::marker::Model;
 

@@ -2,23 +2,25 @@
 
 ghost use Rattle.std.specs.Prelude.{◌≡◌, ◌≤◌, ◌+◌, ◌++◌, length, Err, IfOk, OnOk, IfErr, IsOk};
 ghost use Rattle.std.specs.List.{flat_map};
-ghost use Rattle.tb_layout.specs.inside.Records.{account_bytes, transfer_bytes};
-ghost use Rattle.tb_layout.specs.Account.{account_of};
-ghost use Rattle.tb_layout.specs.inside.Bytes.{bytes_of};
-ghost use Rattle.tb_layout.specs.Bytes.{little_endian};
-ghost use Rattle.tb_layout.specs.Events.{accounts_of, ids_of, transfers_of, create_accounts, create_transfers};
-ghost use Rattle.tb_layout.specs.inside.Events.{lookup_accounts};
-ghost use Rattle.tb_layout.specs.Transfer.{transfer_of};
-ghost use Rattle.tb_layout.specs.inside.Limits.{batch_max};
-ghost use Rattle.tb_work.specs.Admission.{admission_of};
+ghost use Rattle.tb_layout.specs.clauses.Records.{account_bytes, transfer_bytes};
+ghost use Rattle.tb_layout.specs.claim.Account.{account_of};
+ghost use Rattle.tb_layout.specs.claim.BytesOfNumbers.{bytes_of};
+ghost use Rattle.tb_layout.specs.claim.Bytes.{little_endian};
+ghost use Rattle.tb_layout.specs.claim.Events.{accounts_of, ids_of, transfers_of, create_accounts, create_transfers};
+ghost use Rattle.tb_layout.specs.claim.EventCounts.{lookup_accounts};
+ghost use Rattle.tb_layout.specs.claim.Transfer.{transfer_of};
+ghost use Rattle.tb_layout.specs.claim.Bounds.{batch_max};
+ghost use Rattle.tb_work.specs.claim.Admission.{admission_of};
 
 use crate::admission::{AdmittedPacket, admit};
 use crate::bytes::Bytes;
 use crate::refusal::Refusal;
 use std::alloc::Global;
+use std::fmt;
+use std::fmt::{Debug, Formatter};
 use tb_layout::{
-    Account, CREATE_ACCOUNTS, CREATE_TRANSFERS, LOOKUP_ACCOUNTS, NoMemory, Transfer, write_account,
-    write_id, write_transfer,
+    Account, CREATE_ACCOUNTS, CREATE_TRANSFERS, LOOKUP_ACCOUNTS, NoMemory, Operation, Transfer,
+    write_account, write_id, write_transfer,
 };
 
 /// The bytes of an event of an account or a transfer.
@@ -34,6 +36,24 @@ pub struct Packet {
     pub operation: u8,
     pub bytes: Bytes,
     pub user: u64,
+}
+
+impl Debug for Packet {
+    /// Writes the operation, the user word and the number of events, and none of their bytes. An unknown operation is written as its
+    /// number. Then, or if the data isn't whole events, the number of bytes takes the place of the events.
+    fn fmt<W: fmt::Write>(&self, f: &mut Formatter<W>) -> fmt::Result {
+        let mut text = f.debug_struct("Packet");
+        match self.operation() {
+            Some(operation) => text.field("operation", &operation),
+            None => text.field("operation", &self.operation),
+        };
+        text.field("user", &self.user);
+        match admit(u32::MAX, self) {
+            Ok(events) => text.field("events", &events),
+            Err(_) => text.field("bytes", &self.bytes.as_slice().len()),
+        };
+        text.finish()
+    }
 }
 
 /// Puts an account after what is there.
@@ -103,8 +123,9 @@ fn lay_ids(alloc: Global, ids: &[u128]) -> Result<Vec<u8>, NoMemory>
 }
 
 impl Packet {
-    ghost use Rattle.tb_layout.specs.Events.{Accounts, Ids, Transfers};
-    ghost use Rattle.tb_work.specs.Packet.{events_in};
+    ghost use Rattle.tb_layout.specs.claim.Events.{Accounts, Ids, Transfers};
+    ghost use Rattle.tb_layout.specs.clauses.Operations.{operation_of};
+    ghost use Rattle.tb_work.specs.claim.Packet.{events_in};
 
     /// Returns a packet that makes these accounts, in their order, with a user word. Takes 128 bytes of memory an
     /// account, at once. How many a packet may have is its pipeline's limit, 8190 at most, and isn't looked at here.
@@ -154,6 +175,13 @@ impl Packet {
             bytes: Bytes::from_vec(lay_ids(alloc, ids)?),
             user,
         })
+    }
+
+    /// Returns what the packet asks for, or `None` if its operation is none of 129, 130 and 131.
+    pub fn operation(&self) -> Option<Operation>
+        ensures { result ≡ operation_of self.now.operation }
+    {
+        Operation::of_number(self.operation)
     }
 
     /// Takes the packet as one that `admit` admits under a limit, at most 8190 events.

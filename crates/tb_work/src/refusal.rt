@@ -1,7 +1,7 @@
 //! Why a call was refused.
 
 ghost use Rattle.std.specs.Prelude.{◌≡◌};
-ghost use Rattle.tb_work.specs.Refusal as spec;
+ghost use Rattle.tb_work.specs.clauses.Refusal as spec;
 
 use std::error::Error;
 use std::fmt;

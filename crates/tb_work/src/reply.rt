@@ -1,10 +1,10 @@
 //! Replies.
 
 ghost use Rattle.std.specs.Prelude.{◌≡◌, ◌+◌, ◌≤◌, [], false, map};
-ghost use Rattle.tb_layout.specs.Failures.{RiseWithin, from_offset};
-ghost use Rattle.tb_work.specs.Admission.{count_of};
-ghost use Rattle.tb_work.specs.Answer.{IsOutcomeOf};
-ghost use Rattle.tb_work.specs.Job.{is_lookup};
+ghost use Rattle.tb_layout.specs.claim.Failures.{RiseWithin, from_offset};
+ghost use Rattle.tb_work.specs.claim.Admission.{count_of};
+ghost use Rattle.tb_work.specs.claim.Answer.{IsOutcomeOf};
+ghost use Rattle.tb_work.specs.claim.Job.{is_lookup};
 ghost use Rattle.tb_layout.specs.declared.answer.Answer.TheVariants.{Failures as FailuresOf};
 ghost use Rattle.tb_work.specs.declared.outcome.Outcome.TheVariants.{Committed as CommittedAt};
 
@@ -16,7 +16,7 @@ use std::marker::Model;
 use tb_layout::{Answer, Failure, FailureRoom, Failures};
 
 /// A packet as it was handed in, with its outcome.
-#[derive(Drop)]
+#[derive(Debug, Drop)]
 pub struct Reply {
     pub submitter: u32,
     pub number: u64,
@@ -25,8 +25,8 @@ pub struct Reply {
 }
 
 impl Model for Reply {
-    ghost use Rattle.tb_work.specs.Packet.{ReplyValue};
-    ghost use Rattle.tb_work.specs.Answer.{IsOutcomeOf};
+    ghost use Rattle.tb_work.specs.claim.Packet.{ReplyValue};
+    ghost use Rattle.tb_work.specs.claim.Answer.{IsOutcomeOf};
 
     ghost Value = { ReplyValue };
 
@@ -55,7 +55,7 @@ fn rebase_into(room: &mut FailureRoom, failures: &[Failure], offset: u32, count:
 }
 
 impl Reply {
-    ghost use Rattle.tb_work.specs.Answer.{reply_with};
+    ghost use Rattle.tb_work.specs.claim.Answer.{reply_with};
 
     /// Returns the reply to a job's packet, with this outcome. Takes no memory; the job's room is freed.
     pub fn of(job: Job, outcome: Outcome) -> Reply

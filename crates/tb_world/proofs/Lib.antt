@@ -1,2 +1,3 @@
+pub mod Words
 mod orders
 mod progress

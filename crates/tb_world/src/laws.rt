@@ -1,7 +1,7 @@
 //! Laws of how a World goes on and comes to rest. Each is the clause of a function that does nothing.
 
-ghost use Rattle.tb_world.specs.EveryOrder.{RunsGoOn, WorldsFollow};
-ghost use Rattle.tb_world.specs.Progress.{CreditLeavesRoom, EachStepCounts, FairListsRest, FairRunsAreAnswered, LeftIsBounded, NoneIsStuck, OneRoundIsARound};
+ghost use Rattle.tb_world.specs.clauses.EveryOrder.{RunsGoOn, WorldsFollow};
+ghost use Rattle.tb_world.specs.clauses.Progress.{CreditLeavesRoom, EachStepCounts, FairListsRest, FairRunsAreAnswered, LeftIsBounded, NoneIsStuck, OneRoundIsARound};
 
 /// Establishes that a World that began over a ledger goes on with any events: one that began and then takes events is as
 /// one that takes them all.

@@ -2,12 +2,12 @@
 //!
 //! A list of pushes and pops says in which order the stages of a pipeline move, and `run_world` executes it. Whatever
 //! the list, what was committed is a prefix of what was pushed ahead of the Close. What each submitter received is a
-//! prefix of what is due to it (`HasRun`, `specs/EveryOrder.antt`).
+//! prefix of what is due to it (`HasRun`, `specs/clauses/EveryOrder.antt`).
 //!
 //! A World begins with a new ledger (`World::new`, `run_world`) or with one that an earlier run left (`World::over`). A
 //! World at rest yields its ledger (`World::into_ledger`). In a later run places count on.
 //!
-//! No state is stuck, and fair turns lead to rest (`specs/Progress.antt`): `run_to_rest` brings any list to rest, with all packets
+//! No state is stuck, and fair turns lead to rest (`specs/clauses/Progress.antt`): `run_to_rest` brings any list to rest, with all packets
 //! answered.
 //!
 //! `world_one_packet` in tb_core_tests is an example that the gate compiles.

@@ -1,9 +1,9 @@
 //! The submitters' reply rings, and what was taken from them.
 
 ghost use Rattle.std.specs.Prelude.{◌≡◌, ◌≤◌, replicate, slice_set, is_some, true, unwrap_or, sum_by, IfOk, OnOk, IfErr, OnErr, IfSome, IfNone};
-ghost use Rattle.tb_layout.specs.inside.Limits.{submitters_max};
-ghost use Rattle.tb_world.specs.Mailbox.{mailbox_at, mailboxes_with, with_reply, empty_mailbox, after_pop};
-ghost use Rattle.tb_world.specs.Progress.{unread};
+ghost use Rattle.tb_layout.specs.claim.Bounds.{submitters_max};
+ghost use Rattle.tb_world.specs.clauses.Mailbox.{mailbox_at, mailboxes_with, with_reply, empty_mailbox, after_pop};
+ghost use Rattle.tb_world.specs.clauses.Progress.{unread};
 
 use arrayvec::ArrayVec;
 use std::alloc::{AllocError, Global};
@@ -21,7 +21,7 @@ pub(crate) struct Mailbox {
 }
 
 impl Model for Mailbox {
-    ghost use Rattle.tb_world.specs.Mailbox.{Mailbox as MailboxValue};
+    ghost use Rattle.tb_world.specs.clauses.Mailbox.{Mailbox as MailboxValue};
 
     ghost Value = { MailboxValue };
 
@@ -79,7 +79,7 @@ pub(crate) struct Mailboxes {
 
 impl Model for Mailboxes {
     ghost use Rattle.std.specs.Prelude.{List};
-    ghost use Rattle.tb_world.specs.Mailbox.{Mailbox as MailboxValue};
+    ghost use Rattle.tb_world.specs.clauses.Mailbox.{Mailbox as MailboxValue};
 
     ghost Value = { List MailboxValue };
 

@@ -1,8 +1,8 @@
 //! What the demultiplexer has left to push.
 
 ghost use Rattle.std.specs.Prelude.{◌≡◌, [], false, IfOk, OnErr};
-ghost use Rattle.tb_core.specs.Run.{replies_in};
-ghost use Rattle.tb_world.specs.PendingReplies.{IsGiven, is_none};
+ghost use Rattle.tb_core.specs.claim.Run.{replies_in};
+ghost use Rattle.tb_world.specs.inside.PendingReplies.{IsGiven, is_none};
 
 use crate::mailbox::Mailboxes;
 use std::marker::Model;
@@ -21,8 +21,8 @@ pub(crate) struct PendingReplies {
 
 impl Model for PendingReplies {
     ghost use Rattle.std.specs.Prelude.{◌≡◌, List, [], ◌++◌, option_to_list, None};
-    ghost use Rattle.tb_work.specs.Packet.{ReplyValue};
-    ghost use Rattle.tb_world.specs.PendingReplies.{replies_of};
+    ghost use Rattle.tb_work.specs.claim.Packet.{ReplyValue};
+    ghost use Rattle.tb_world.specs.inside.PendingReplies.{replies_of};
 
     ghost Value = { List ReplyValue };
 

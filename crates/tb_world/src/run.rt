@@ -1,14 +1,14 @@
 //! A list of events.
 
 ghost use Rattle.std.specs.Prelude.{◌≡◌, ◌≤◌, ◌⊎◌, ◌++◌, ℕ, List, [], true, is_some, IfOk, OnOk, OnErr};
-ghost use Rattle.tb_layout.specs.inside.Limits.{batch_max, submitters_max};
-ghost use Rattle.tb_layout.specs.Limits.{clock_max};
-ghost use Rattle.tb_core.specs.Journal.{LedgerState};
-ghost use Rattle.tb_core.specs.Ledger.{new_ledger};
+ghost use Rattle.tb_layout.specs.claim.Bounds.{batch_max, submitters_max};
+ghost use Rattle.tb_layout.specs.claim.Limits.{clock_max};
+ghost use Rattle.tb_core.specs.claim.Journal.{LedgerState};
+ghost use Rattle.tb_core.specs.claim.Ledger.{new_ledger};
 ghost use Rattle.tb_world.specs.declared.event.Event.{Event as EventValue};
-ghost use Rattle.tb_world.specs.EveryOrder.{HasPlaces, HasRun, history};
-ghost use Rattle.tb_world.specs.Progress.{HasFinished, HasRested, MayRunOut, RunsOut};
-ghost use Rattle.tb_world.specs.World.{FailsAt, TakeMemory, after_event, moved, new_world, run, takes_memory};
+ghost use Rattle.tb_world.specs.clauses.EveryOrder.{HasPlaces, HasRun, history};
+ghost use Rattle.tb_world.specs.clauses.Progress.{HasFinished, HasRested, MayRunOut, RunsOut};
+ghost use Rattle.tb_world.specs.clauses.World.{FailsAt, TakeMemory, after_event, moved, new_world, run, takes_memory};
 
 use crate::event::Event;
 use crate::world::World;

@@ -1,7 +1,7 @@
 //! What a World knows of a sender.
 
 ghost use Rattle.std.specs.Prelude.{◌≡◌, ℕ, true};
-ghost use Rattle.tb_world.specs.Pushing.{may_push, sender_after};
+ghost use Rattle.tb_world.specs.clauses.Pushing.{may_push, sender_after};
 
 use tb_work::Item;
 

@@ -1,15 +1,15 @@
 //! The stages in one thread, in any order of their steps.
 
 ghost use Rattle.std.specs.Prelude.{◌≡◌, ◌≤◌, ◌<◌, ◌+◌, [], true, false, length, replicate, slice_set, Some, None, IfOk, OnOk, IfErr, OnErr, is_some, IfSome, IfNone};
-ghost use Rattle.tb_layout.specs.Limits.{clock_max};
-ghost use Rattle.tb_layout.specs.inside.Limits.{submitters_max};
-ghost use Rattle.tb_core.specs.Front.{opening_refusal};
-ghost use Rattle.tb_world.specs.Pushing.{newcomer};
-ghost use Rattle.tb_world.specs.Mailbox.{empty_mailbox};
-ghost use Rattle.tb_core.specs.Ledger.{new_ledger};
-ghost use Rattle.tb_world.specs.EveryOrder.{HasRun, IsAtRest};
-ghost use Rattle.tb_world.specs.World.{pending_of, new_world, world_over, IsMove, batch_push};
-ghost use Rattle.tb_world.specs.Progress.{MayMove, left};
+ghost use Rattle.tb_layout.specs.claim.Limits.{clock_max};
+ghost use Rattle.tb_layout.specs.claim.Bounds.{submitters_max};
+ghost use Rattle.tb_core.specs.claim.Front.{opening_refusal};
+ghost use Rattle.tb_world.specs.clauses.Pushing.{newcomer};
+ghost use Rattle.tb_world.specs.clauses.Mailbox.{empty_mailbox};
+ghost use Rattle.tb_core.specs.claim.Ledger.{new_ledger};
+ghost use Rattle.tb_world.specs.clauses.EveryOrder.{HasRun, IsAtRest};
+ghost use Rattle.tb_world.specs.clauses.World.{pending_of, new_world, world_over, IsMove, batch_push};
+ghost use Rattle.tb_world.specs.clauses.Progress.{MayMove, left};
 
 use crate::event::Event;
 use crate::mailbox::Mailboxes;
@@ -74,7 +74,7 @@ impl Drop for World {
 }
 
 impl Model for World {
-    ghost use Rattle.tb_world.specs.World.{WorldState, IsWorld};
+    ghost use Rattle.tb_world.specs.clauses.World.{WorldState, IsWorld};
 
     ghost Value = { WorldState };
 
@@ -133,7 +133,7 @@ fn keep(outcome: &mut Option<Outcomes>, outcomes: Outcomes)
 }
 
 impl World {
-    ghost use Rattle.tb_world.specs.World.{received_of, moved, takes_memory};
+    ghost use Rattle.tb_world.specs.clauses.World.{received_of, moved, takes_memory};
     ghost use Rattle.tb_world.specs.declared.event.Event.TheVariants as event;
 
     /// Returns a World in which nothing happened, whose clock starts at a number of nanoseconds, 0 to `CLOCK_MAX`. The

@@ -1,10 +1,10 @@
 //! Scripts into a ledger that is kept in a file, and what such a ledger has.
 
 ghost use Rattle.std.specs.Prelude.{◌≡◌, ◌≤◌, false, IfOk};
-ghost use Rattle.tb_core.specs.Journal.{LedgerState};
-ghost use Rattle.tb_durable.specs.Durable.{IsKept};
-ghost use Rattle.tb_layout.specs.Limits.{clock_max};
-ghost use Rattle.tb_program_text.specs.Script.{clock_of};
+ghost use Rattle.tb_core.specs.claim.Journal.{LedgerState};
+ghost use Rattle.tb_durable.specs.clauses.Entries.{IsInFile};
+ghost use Rattle.tb_layout.specs.claim.Limits.{clock_max};
+ghost use Rattle.tb_program_text.specs.clauses.Script.{clock_of};
 
 mod committing;
 mod door;
@@ -47,7 +47,8 @@ fn open<S: Store + Drop>(
     settings: Settings,
 ) -> Result<DurableLedger<S>, JournalFault>
     requires { settings.clock ≤ clock_max }
-    ensures kept { IfOk result (λ ledger. (now : LedgerState) × IsKept (S.Store.view ledger.table.store) ledger.bare now) }
+    ensures kept { IfOk result (λ ledger. (now : LedgerState) × IsInFile (S.Store.recovers ledger.table.store)
+        (S.Store.view ledger.table.store) ledger.bare ledger.counts now) }
     ensures goes_on { IfOk result (λ ledger. ledger.bare.stopped ≡ false) }
 {
     match DurableLedger::over(alloc, store, settings, Seed::default()) {
@@ -76,7 +77,8 @@ fn open_for<S: Store + Drop>(
     given: &ScriptSettings,
 ) -> Result<DurableLedger<S>, JournalFault>
     requires { clock_of given.now ≤ clock_max }
-    ensures kept { IfOk result (λ ledger. (now : LedgerState) × IsKept (S.Store.view ledger.table.store) ledger.bare now) }
+    ensures kept { IfOk result (λ ledger. (now : LedgerState) × IsInFile (S.Store.recovers ledger.table.store)
+        (S.Store.view ledger.table.store) ledger.bare ledger.counts now) }
     ensures goes_on { IfOk result (λ ledger. ledger.bare.stopped ≡ false) }
 {
     let asked = Settings {

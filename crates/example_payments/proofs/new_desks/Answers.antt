@@ -1,6 +1,6 @@
 use Rattle.std.proofs.Common.{rules, ◌≡◌, ◌+◌, ◌∙◌, ◌∷◌, ◌++◌, [], All, length, ap, sym, subst, length-append}
 use Rattle.tb_drive.proofs.Opened.{all_with_driver}
-use Rattle.example_payments.specs.Desk.{IsNew}
+use Rattle.example_payments.specs.clauses.Desk.{IsNew}
 use Rattle.example_payments.specs.declared.desk.Desk.{Desk}
 use Rattle.example_payments.proofs.new_desks.Goals as goal
 

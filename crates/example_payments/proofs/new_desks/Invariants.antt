@@ -1,6 +1,6 @@
 use Rattle.std.proofs.Common.{◌≡◌, All, length}
-use Rattle.example_payments.specs.Desk.{IsNew}
-use Rattle.example_payments.specs.Ready.{IsReady}
+use Rattle.example_payments.specs.clauses.Desk.{IsNew}
+use Rattle.example_payments.specs.inside.Ready.{IsReady}
 use Rattle.example_payments.proofs.new_desks.Given as goal
 
 abbrev pub invariant-loop-desk : goal.invariant-loop-desk

@@ -1,7 +1,7 @@
 use Rattle.std.proofs.Common.{rules, ◌≡◌, ◌∙◌, refl, sym}
 use Rattle.tb_drive.proofs.Opened.{all_opened}
-use Rattle.tb_submit.specs.Ends.{control_seat}
-use Rattle.example_payments.specs.Ready.{IsUnread}
+use Rattle.tb_submit.specs.clauses.Ends.{control_seat}
+use Rattle.example_payments.specs.inside.Ready.{IsUnread}
 use Rattle.example_payments.proofs.open_for_desks.Goals as goal
 
 pub returns : goal.returns

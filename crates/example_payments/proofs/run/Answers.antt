@@ -1,7 +1,7 @@
 use Rattle.std.proofs.Common.{sym, subst}
 use Rattle.tb_drive.proofs.Opened.{all_have_seen}
-use Rattle.example_payments.specs.Desk.{HasCounted, HasSeenOf, IsNew}
-use Rattle.example_payments.specs.Ready.{IsUnread}
+use Rattle.example_payments.specs.clauses.Desk.{HasCounted, HasSeenOf, IsNew}
+use Rattle.example_payments.specs.inside.Ready.{IsUnread}
 use Rattle.example_payments.proofs.run.Goals as goal
 
 pub drive_all-requires-clause-seen : goal.drive_all-requires-clause-seen

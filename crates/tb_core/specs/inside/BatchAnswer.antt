@@ -1,15 +1,15 @@
 -- The parts of a batch that the machine took.
 use Rattle.std.specs.Prelude.{◌≡◌, ◌≤◌, ℕ, ◌==◌, true, false, List, map, if◌then◌else◌}
-use Rattle.tb_layout.specs.inside.Events.{lookup_accounts}
+use Rattle.tb_layout.specs.claim.EventCounts.{lookup_accounts}
 use Rattle.tb_layout.specs.declared.account.Account.{Account}
 use Rattle.tb_layout.specs.declared.failure.Failure.{Failure}
-use Rattle.tb_layout.specs.Events.{events_of, ids_of}
-use Rattle.tb_layout.specs.Limits.{clock_max}
-use Rattle.tb_machine.specs.Replay.{State, failures_of, accounts_found}
-use Rattle.tb_work.specs.Job.{stub_of}
+use Rattle.tb_layout.specs.claim.Events.{events_of, ids_of}
+use Rattle.tb_layout.specs.claim.Limits.{clock_max}
+use Rattle.tb_machine.specs.claim.Replay.{State, failures_of, accounts_found}
+use Rattle.tb_work.specs.claim.Job.{stub_of}
 use Rattle.tb_layout.specs.declared.answer.Answer.{Answer}
 use Rattle.tb_layout.specs.declared.answer.Answer.TheVariants.{Failures, Accounts}
-use Rattle.tb_batch.specs.Batch.{body_of, IsLawful}
+use Rattle.tb_batch.specs.claim.Batch.{body_of, IsLawful}
 use Rattle.tb_batch.specs.declared.parts.Parts.{Parts}
 
 -- accounts are the answer to a lookup, failures to all else

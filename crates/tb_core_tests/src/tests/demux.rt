@@ -2,8 +2,8 @@
 
 ghost use Rattle.std.specs.Prelude.{◌≡◌, not, true, length};
 ghost use Rattle.std.specs.List.{list_all};
-ghost use Rattle.tb_work.specs.Admission.{count_of};
-ghost use Rattle.tb_work.specs.Job.{count_of_all, is_lookup};
+ghost use Rattle.tb_work.specs.claim.Admission.{count_of};
+ghost use Rattle.tb_work.specs.claim.Job.{count_of_all, is_lookup};
 
 use super::{failures_at, packet_of};
 use std::alloc::Global;

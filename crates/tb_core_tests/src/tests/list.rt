@@ -1,7 +1,7 @@
 //! A list of items, by worked examples.
 
 ghost use Rattle.std.specs.Prelude.{◌≤◌};
-ghost use Rattle.tb_layout.specs.inside.Limits.{batch_max};
+ghost use Rattle.tb_layout.specs.claim.Bounds.{batch_max};
 
 use super::made::{Made, creating, item};
 use super::push;

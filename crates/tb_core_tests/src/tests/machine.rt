@@ -1,8 +1,8 @@
 //! The machine: each call once with ample memory, and commits with each allocation refused.
 
 ghost use Rattle.std.specs.Prelude.{◌≡◌, ◌==◌, ◌||◌, ◌/◌, ◌%◌, ◌≤◌, true, length};
-ghost use Rattle.tb_layout.specs.inside.Limits.{batch_max};
-ghost use Rattle.tb_layout.specs.Events.{create_accounts, create_transfers};
+ghost use Rattle.tb_layout.specs.claim.Bounds.{batch_max};
+ghost use Rattle.tb_layout.specs.claim.Events.{create_accounts, create_transfers};
 
 use std::alloc::Global;
 use std::process::Abort;

@@ -1,7 +1,7 @@
 //! Facts: each call once with ample memory.
 
 ghost use Rattle.std.specs.Prelude.{◌≡◌, []};
-ghost use Rattle.tb_tables.specs.Facts.{no_facts};
+ghost use Rattle.tb_tables.specs.claim.Facts.{no_facts};
 
 use std::process::Abort;
 use tb_layout::{Account, Transfer};
@@ -137,8 +137,8 @@ fn each_call_by_places(rt: HostRuntime) {
 fn adds_a_new_account(rt: &impl Abort, tables: &mut Tables)
     requires { tables.old ≡ record { now = no_facts; past = [] } }
 {
-    check!(rt; tables.add_new_account(&account(1), 7).expect(rt, "memory"));
-    check!(rt; !tables.add_new_account(&account(1), 8).expect(rt, "memory"));
+    check!(rt; tables.insert_account(&account(1), 7).expect(rt, "memory"));
+    check!(rt; !tables.insert_account(&account(1), 8).expect(rt, "memory"));
     check!(rt; matches!(tables.account(1), Some(stored) if stored.timestamp == 7));
 }
 
@@ -147,8 +147,8 @@ fn adds_a_new_transfer(rt: &impl Abort, tables: &mut Tables)
 {
     tables.add_account(account(1)).expect(rt, "memory");
     tables.add_account(account(2)).expect(rt, "memory");
-    check!(rt; tables.add_new_between(&transfer(1, 100, 0, 0), 7, 0, 1).expect(rt, "memory"));
-    check!(rt; !tables.add_new_between(&transfer(1, 100, 0, 0), 8, 0, 1).expect(rt, "memory"));
+    check!(rt; tables.insert_between(&transfer(1, 100, 0, 0), 7, 0, 1).expect(rt, "memory"));
+    check!(rt; !tables.insert_between(&transfer(1, 100, 0, 0), 8, 0, 1).expect(rt, "memory"));
     check!(rt; matches!(tables.transfer(1), Some(stored) if stored.timestamp == 7));
     check!(rt; debits(tables) == Some((0, 100)));
 }
@@ -164,9 +164,9 @@ fn resolves_by_a_new_post(rt: &impl Abort, tables: &mut Tables)
     tables
         .add_transfer(transfer(2, 30, 0, 0))
         .expect(rt, "memory");
-    check!(rt; !tables.resolve_new_at(&transfer(2, 40, 1, 4), 0).expect(rt, "memory"));
+    check!(rt; !tables.insert_resolving(&transfer(2, 40, 1, 4), 0).expect(rt, "memory"));
     check!(rt; debits(tables) == Some((100, 30)));
-    check!(rt; tables.resolve_new_at(&transfer(3, 40, 1, 4), 0).expect(rt, "memory"));
+    check!(rt; tables.insert_resolving(&transfer(3, 40, 1, 4), 0).expect(rt, "memory"));
     check!(rt; debits(tables) == Some((0, 70)));
 }
 

@@ -10,6 +10,7 @@ mod admission;
 mod calls;
 mod memory;
 mod packets;
+mod printed;
 mod sizes;
 
 /// Returns a packet that asks for accounts with these ids and flags.

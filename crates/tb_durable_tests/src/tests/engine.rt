@@ -25,7 +25,7 @@ impl Drop for FailingLedger {
 }
 
 impl AnyLedger for FailingLedger {
-    ghost use Rattle.tb_core.specs.AnyLedger.{IsWithJournal};
+    ghost use Rattle.tb_core.specs.claim.AnyLedger.{IsWithJournal};
 
     ghost is = { λ ledger state. IsWithJournal ledger.bare state };
 

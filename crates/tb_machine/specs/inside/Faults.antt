@@ -1,9 +1,9 @@
 -- The first fault of a chain apart from the facts that its events leave, as the code finds them.
 use Rattle.std.specs.Prelude.{ℕ, ◌+◌, ◌==◌, List, [], ◌∷◌, ◌++◌, length, replicate, Option, Some, None, if◌then◌else◌, nat_lt}
-use Rattle.tb_layout.specs.Limits.{clock_max}
-use Rattle.tb_tables.specs.Facts.{Facts}
+use Rattle.tb_layout.specs.claim.Limits.{clock_max}
+use Rattle.tb_tables.specs.claim.Facts.{Facts}
 use Rattle.tb_machine.specs.declared.fault.ChainFault.{ChainFault}
-use Rattle.tb_machine.specs.Chain.{Operation, Results, clock_after, clock_exhausted, linked_event_failed, linked_event_chain_open, failed_results}
+use Rattle.tb_machine.specs.claim.Chain.{Operation, Results, clock_after, clock_exhausted, linked_event_failed, linked_event_chain_open, failed_results}
 
 abbrev pub next_timestamp : ℕ → Option ℕ
 next_timestamp clock = if nat_lt clock clock_max then Some (clock + 1) else None
@@ -38,7 +38,7 @@ module _ {Event : Type 0} (operation : Operation Event) where
 
   abbrev pub facts_after_failure : Facts → Option (ChainFault Event) → Facts
   facts_after_failure facts None = facts
-  facts_after_failure facts (Some fault) = operation.remembered facts fault.code fault.event
+  facts_after_failure facts (Some fault) = operation.after_failure facts fault.code fault.event
 
   abbrev pub closed_results : ℕ → Facts → List Event
       → Option (ChainFault Event) → Results

@@ -5,8 +5,8 @@
 //! is tried with refused memory returns the refusal.
 
 ghost use Rattle.std.specs.Prelude.{◌≡◌, ◌++◌, ◌∷◌, [], IfOk, length, map};
-ghost use Rattle.tb_submit.specs.Ends.{origin_of, end_origin, control_seat};
-ghost use Rattle.tb_pipe_tests.specs.Together.{AreTogether, IsOpenedAs, IsRun};
+ghost use Rattle.tb_submit.specs.clauses.Ends.{origin_of, end_origin, control_seat};
+ghost use Rattle.tb_pipe_tests.specs.inside.Together.{AreTogether, IsOpenedAs, IsRun};
 
 use std::alloc::{AllocError, Global};
 use std::process::Abort;
@@ -14,7 +14,7 @@ use std::sync::Wait;
 use std::thread::Threads;
 use tb_core::Entry;
 use tb_layout::{CREATE_ACCOUNTS, NoMemory};
-use tb_pipe::{Gate, Opened, Pipeline, Report, open, settle};
+use tb_pipe::{Gate, Opened, Options, Pipeline, Report, settle};
 use tb_submit::{Control, ControlEnd, Ended, Intake, Submitter};
 use tb_test_makers::{account, accounts_packet, check};
 use tb_work::{Outcome, Packet, Refusal, Reply};
@@ -81,7 +81,14 @@ fn opened(
     ensures as_asked { IfOk result (λ opened. IsOpenedAs 0 limit submitters opened.pipeline) }
     ensures number { IfOk result (λ opened. length opened.pipeline.submitters ≡ submitters) }
 {
-    open(alloc, 0, limit, capacity, credit, submitters)
+    let options = Options {
+        clock: 0,
+        limit,
+        capacity,
+        credit,
+        submitters,
+    };
+    options.open(alloc)
 }
 
 /// A pipeline with its one submitter and its control.

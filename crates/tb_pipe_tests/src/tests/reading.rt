@@ -1,8 +1,8 @@
 //! A driver whose relations use that no more replies are read than packets were queued.
 
 ghost use Rattle.std.specs.Prelude.{◌≡◌, IfSome, true};
-ghost use Rattle.tb_pipe_tests.specs.Reading.{HaveReadAll};
-ghost use Rattle.tb_submit.specs.Ends.{SenderState};
+ghost use Rattle.tb_pipe_tests.specs.clauses.Reading.{HaveReadAll};
+ghost use Rattle.tb_submit.specs.clauses.Ends.{SenderState};
 
 use super::packet_of;
 use std::alloc::Global;
@@ -38,7 +38,7 @@ impl Reader {
 
 impl Driver for Reader {
     ghost use Rattle.std.specs.Prelude.{◌≡◌, true};
-    ghost use Rattle.tb_pipe_tests.specs.Reading.{HasRead, HasReadAll};
+    ghost use Rattle.tb_pipe_tests.specs.clauses.Reading.{HasRead, HasReadAll};
 
     ghost has_seen = { λ reader _ queued read. HasRead (reader.exact ≡ true) reader.unread queued read };
 
@@ -64,8 +64,8 @@ impl Driver for Reader {
         }
     }
 
-    fn submitted(&mut self, told: Result<u64, Refusal>) {
-        if told.is_ok() {
+    fn submitted(&mut self, response: Result<u64, Refusal>) {
+        if response.is_ok() {
             match self.unread.checked_add(1) {
                 Some(unread) => self.unread = unread,
                 None => self.exact = false,

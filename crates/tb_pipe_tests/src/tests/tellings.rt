@@ -95,8 +95,8 @@ impl Driver for Asker {
         packet_of_three(alloc).map_or(Action::End, Action::Submit)
     }
 
-    fn submitted(&mut self, told: Result<u64, Refusal>) {
-        self.refusal = self.refusal.or(told.err());
+    fn submitted(&mut self, response: Result<u64, Refusal>) {
+        self.refusal = self.refusal.or(response.err());
     }
 
     fn receive(&mut self, _reply: Reply) {}

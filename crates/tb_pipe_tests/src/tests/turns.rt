@@ -34,7 +34,7 @@ fn wait_for(turn: &AtomicU32, wanted: u32) {
 struct Pulser<'a> {
     turn: &'a AtomicU32,
     own: u32,
-    told: Vec<Result<(), Refusal>>,
+    responses: Vec<Result<(), Refusal>>,
 }
 
 impl<'a> ControlDriver for Pulser<'a> {
@@ -48,8 +48,8 @@ impl<'a> ControlDriver for Pulser<'a> {
         ControlAction::Pulse(u64::from(self.own))
     }
 
-    fn pulsed(&mut self, told: Result<(), Refusal>) {
-        let _ = self.told.push(told);
+    fn pulsed(&mut self, response: Result<(), Refusal>) {
+        let _ = self.responses.push(response);
         self.own = self.own.saturating_add(2);
         self.turn.fetch_add(1, Ordering::SeqCst);
     }
@@ -81,7 +81,7 @@ impl<'a> Driver for Submits<'a> {
         }
     }
 
-    fn submitted(&mut self, _told: Result<u64, Refusal>) {}
+    fn submitted(&mut self, _response: Result<u64, Refusal>) {}
 
     fn receive(&mut self, reply: Reply) {
         if let Outcome::Committed { place, .. } = reply.outcome {
@@ -107,7 +107,7 @@ fn pulses_in_turn_with_packets(rt: HostRuntime) {
     let pulser = Pulser {
         turn: &turn,
         own: 0,
-        told: Vec::new(alloc),
+        responses: Vec::new(alloc),
     };
     let mut drivers = Vec::new(alloc);
     drivers.push(submits).expect(&rt, "memory");
@@ -115,7 +115,7 @@ fn pulses_in_turn_with_packets(rt: HostRuntime) {
     let Ok(finished) = drive_all(&rt, alloc, opened, drivers, pulser) else {
         rt.panic("the run is given up")
     };
-    check!(&rt; finished.control.told.as_slice() == [Ok(()), Ok(()), Ok(())].as_slice());
+    check!(&rt; finished.control.responses.as_slice() == [Ok(()), Ok(()), Ok(())].as_slice());
     check!(&rt; finished.drivers.len() == 1);
     check!(&rt; finished.drivers[0].places.as_slice() == [1u64, 3, 5].as_slice());
     drop(finished);

@@ -68,8 +68,8 @@ impl Driver for WakingSender {
     }
 
     /// Ends after a refused packet, so that a test fails and doesn't wait for a reply to it.
-    fn submitted(&mut self, told: Result<u64, Refusal>) {
-        if told.is_err() {
+    fn submitted(&mut self, response: Result<u64, Refusal>) {
+        if response.is_err() {
             self.sent = self.sent.saturating_sub(1);
             self.packets = self.sent;
         }

@@ -1,12 +1,12 @@
 //! The lines of `list`.
 
 ghost use Rattle.std.specs.Prelude.{◌≡◌, ◌<◌, ◌++◌, ℕ, IfSome, OnOk, List, Some, map, string_bytes};
-ghost use Rattle.tb_layout.specs.inside.Limits.{places_max};
-ghost use Rattle.tb_core.specs.Run.{IsListed};
-ghost use Rattle.tb_program.specs.SplitPlan.{line_of};
-ghost use Rattle.tb_program.specs.Plan.{Planned, queue_of};
-ghost use Rattle.tb_program.specs.Listing.{plan_text};
-ghost use Rattle.tb_program.specs.Printing.{one_further, first_text, pending_after, pending, text_from};
+ghost use Rattle.tb_layout.specs.claim.Bounds.{places_max};
+ghost use Rattle.tb_core.specs.claim.Run.{IsListed};
+ghost use Rattle.tb_program.specs.inside.SplitPlan.{line_of};
+ghost use Rattle.tb_program.specs.clauses.Plan.{Planned, queue_of};
+ghost use Rattle.tb_program.specs.clauses.Listing.{plan_text};
+ghost use Rattle.tb_program.specs.inside.Printing.{one_further, first_text, pending_after, pending, text_from};
 
 use crate::list::plan::Line;
 use crate::state::put_state;
@@ -88,7 +88,7 @@ impl<'a> Pending<'a> {
 }
 
 /// Adds the lines of all items, in the order of the script.
-#[tactic(auto, unfolding(crate::specs::Printing::text_from))]
+#[tactic(auto, unfolding(crate::specs::inside::Printing::text_from))]
 fn put_lines(out: &mut String, lines: &[Line], replies: &[Reply]) -> Result<(), AllocError>
     ensures { OnOk result (string_bytes out.new ≡ string_bytes out.old ++ text_from (Some 0) replies.now lines.now) }
 {

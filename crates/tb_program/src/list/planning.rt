@@ -1,9 +1,9 @@
 //! The plan of a script's items.
 
 ghost use Rattle.std.specs.Prelude.{◌≡◌, ◌<◌, ◌≤◌, [], ℕ, get_or, OnOk, IfOk};
-ghost use Rattle.tb_layout.specs.inside.Limits.{batch_max};
-ghost use Rattle.tb_program.specs.Plan.{Packet as PacketPlanned, Close as ClosePlanned, number_in, pulse_as, planned_as, plan_after};
-ghost use Rattle.tb_program.specs.SplitPlan.{with_planned, split_plan};
+ghost use Rattle.tb_layout.specs.claim.Bounds.{batch_max};
+ghost use Rattle.tb_program.specs.clauses.Plan.{Packet as PacketPlanned, Close as ClosePlanned, number_in, pulse_as, planned_as, plan_after};
+ghost use Rattle.tb_program.specs.inside.SplitPlan.{with_planned, split_plan};
 ghost use Rattle.tb_program_text.specs.declared.item.ScriptItem.TheVariants.{Packet as PacketItem};
 
 use crate::list::plan::Line;
@@ -30,8 +30,8 @@ pub(crate) struct Plan {
 
 impl Model for Plan {
     ghost use Rattle.std.specs.Prelude.{◌≡◌, ◌<◌, ℕ, get_or};
-    ghost use Rattle.tb_program.specs.SplitPlan.{SplitPlan};
-    ghost use Rattle.tb_program.specs.Plan.{number_in};
+    ghost use Rattle.tb_program.specs.inside.SplitPlan.{SplitPlan};
+    ghost use Rattle.tb_program.specs.clauses.Plan.{number_in};
 
     ghost Value = { SplitPlan };
 
@@ -142,7 +142,7 @@ impl Plan {
 
 /// Returns the plan of a script's items. A packet is moved into its job, with room for its failures; none of its bytes
 /// is copied. The items are taken out of the list, which keeps its own memory.
-#[tactic(auto, unfolding(crate::specs::Plan::plan_after))]
+#[tactic(auto, unfolding(crate::specs::clauses::Plan::plan_after))]
 pub(crate) fn plan_all(
     alloc: Global,
     limit: u32,

@@ -1,9 +1,9 @@
 //! What a submitter queues.
 
 ghost use Rattle.std.specs.Prelude.{◌≡◌, ℕ, [], IfOk, IfSome, IsSome};
-ghost use Rattle.tb_program.specs.Drivers.{HasAskedOf, HasEndedOf, HasSeenOf, IsDone, share_of};
+ghost use Rattle.tb_program.specs.inside.Drivers.{HasAskedOf, HasEndedOf, HasSeenOf, IsDone, share_of};
 
-use crate::run::notes::{Notes, Told};
+use crate::run::notes::{Notes, PacketResult};
 use std::alloc::Global;
 use std::snapshot::Snapshot;
 use std::sync::Wait;
@@ -64,10 +64,10 @@ impl Driver for ScriptDriver {
         }
     }
 
-    fn submitted(&mut self, told: Result<u64, Refusal>) {
-        match told {
-            Ok(_) => self.notes.tell(Told::Queued),
-            Err(refusal) => self.notes.tell(Told::Refused(refusal)),
+    fn submitted(&mut self, response: Result<u64, Refusal>) {
+        match response {
+            Ok(_) => self.notes.push(PacketResult::Queued),
+            Err(refusal) => self.notes.push(PacketResult::Refused(refusal)),
         }
     }
 

@@ -1,7 +1,7 @@
 //! The fault of a run.
 
 ghost use Rattle.std.specs.Prelude.{◌≡◌};
-ghost use Rattle.tb_program.specs.Faults.{program_fault_of};
+ghost use Rattle.tb_program.specs.inside.Faults.{program_fault_of};
 
 use tb_drive::DriveFault;
 use tb_program_text::ProgramFault;

@@ -8,7 +8,7 @@ use tb_work::{Refusal, Reply};
 
 /// The result of a packet that a driver handed in.
 #[derive(Clone, Copy)]
-pub(crate) enum Told {
+pub(crate) enum PacketResult {
     Queued,
     Refused(Refusal),
 }
@@ -17,7 +17,7 @@ pub(crate) enum Told {
 /// any thread is started.
 #[derive(Drop)]
 pub(crate) struct Notes {
-    pub(crate) told: Vec<Told>,
+    pub(crate) results: Vec<PacketResult>,
     pub(crate) replies: Vec<Reply>,
     /// Whether all of it found room.
     pub(crate) complete: bool,
@@ -26,30 +26,30 @@ pub(crate) struct Notes {
 impl Notes {
     /// Returns no notes, with room for this number of packets and their replies.
     pub(crate) fn new(alloc: Global, packets: usize) -> Result<Notes, NoMemory>
-        ensures { IfOk result (λ notes. (notes.told.items ≡ []) × (notes.replies.items ≡ [])
+        ensures { IfOk result (λ notes. (notes.results.items ≡ []) × (notes.replies.items ≡ [])
             × (notes.complete ≡ true)) }
     {
         Ok(Notes {
-            told: Vec::with_capacity(alloc, packets)?,
+            results: Vec::with_capacity(alloc, packets)?,
             replies: Vec::with_capacity(alloc, packets)?,
             complete: true,
         })
     }
 
     /// Notes the result of the next packet.
-    pub(crate) fn tell(&mut self, told: Told)
-        ensures told { self.new.complete ≡ true → (self.old.complete ≡ true)
-            × (self.new.told.items ≡ self.old.told.items ++ told ∷ []) }
+    pub(crate) fn push(&mut self, last: PacketResult)
+        ensures results { self.new.complete ≡ true → (self.old.complete ≡ true)
+            × (self.new.results.items ≡ self.old.results.items ++ last ∷ []) }
         ensures replies { self.new.replies ≡ self.old.replies }
     {
-        if self.told.push(told).is_err() {
+        if self.results.push(last).is_err() {
             self.complete = false;
         }
     }
 
     /// Keeps the next reply.
     pub(crate) fn keep(&mut self, reply: Reply)
-        ensures told { self.new.told ≡ self.old.told }
+        ensures results { self.new.results ≡ self.old.results }
         ensures replies { self.new.complete ≡ true → (self.old.complete ≡ true)
             × (self.new.replies.items ≡ self.old.replies.items ++ reply ∷ []) }
     {

@@ -2,18 +2,18 @@
 
 ghost use Rattle.std.specs.Prelude.{◌≡◌, ◌≤◌, [], false, length, IfOk, map, string_bytes};
 ghost use Rattle.std.specs.List.{flat_map};
-ghost use Rattle.tb_core.specs.Journal.{LedgerState};
-ghost use Rattle.tb_layout.specs.inside.Limits.{submitters_max};
-ghost use Rattle.tb_drive.specs.Plan.{planned_items, refused_of};
-ghost use Rattle.tb_pipe.specs.Reported.{AreTogether, GoesFrom};
-ghost use Rattle.tb_program.specs.Answering.{AreAllAnswered, AreAllDone};
-ghost use Rattle.tb_program.specs.Drivers.{AreNew, share_of, told_of};
-ghost use Rattle.tb_program.specs.Noting.{AreFresh};
-ghost use Rattle.tb_program.specs.Operations.{operations_of};
-ghost use Rattle.tb_program.specs.RunText.{IsRunOver, packets_text};
-ghost use Rattle.tb_program.specs.Sharing.{moments_asked, shares_of, shuts_in};
-ghost use Rattle.tb_program_text.specs.Script.{InBounds, limit_of, submitters_of};
-ghost use Rattle.tb_submit.specs.Ends.{replies_of};
+ghost use Rattle.tb_core.specs.claim.Journal.{LedgerState};
+ghost use Rattle.tb_layout.specs.claim.Bounds.{submitters_max};
+ghost use Rattle.tb_drive.specs.clauses.Plan.{planned_items, refused_of};
+ghost use Rattle.tb_pipe.specs.clauses.Reported.{AreTogether, GoesFrom};
+ghost use Rattle.tb_program.specs.inside.Answering.{AreAllAnswered, AreAllDone};
+ghost use Rattle.tb_program.specs.inside.Drivers.{AreNew, share_of, results_of};
+ghost use Rattle.tb_program.specs.clauses.Noting.{AreFresh};
+ghost use Rattle.tb_program.specs.clauses.Operations.{operations_of};
+ghost use Rattle.tb_program.specs.clauses.RunText.{IsRunOver, packets_text};
+ghost use Rattle.tb_program.specs.clauses.Sharing.{moments_asked, shares_of, shuts_in};
+ghost use Rattle.tb_program_text.specs.clauses.Script.{InBounds, limit_of, submitters_of};
+ghost use Rattle.tb_submit.specs.clauses.Ends.{replies_of};
 
 use crate::operations::operations_shared;
 use crate::run::driver::ScriptDriver;
@@ -49,7 +49,7 @@ fn lines_of(alloc: Global, drivers: Vec<ScriptDriver>, ends: Vec<Ended>) -> Resu
     requires number { length ends.items ≡ length drivers.items }
     requires answered { AreAllAnswered drivers.items ends.items }
     ensures done { IfOk result (λ lines. AreAllDone drivers.items) }
-    ensures text { IfOk result (λ lines. string_bytes lines ≡ packets_text 0 (map told_of drivers.items) (replies_of ends.items)) }
+    ensures text { IfOk result (λ lines. string_bytes lines ≡ packets_text 0 (map results_of drivers.items) (replies_of ends.items)) }
 {
     let mut lines = String::new(alloc);
     put_all_packets(&mut lines, drivers, ends)?;

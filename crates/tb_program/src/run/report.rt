@@ -2,18 +2,18 @@
 
 ghost use Rattle.std.specs.Prelude.{◌≡◌, ◌<◌, ◌≤◌, ◌+◌, ◌^◌, ◌++◌, ◌∷◌, [], length, map, IfOk, IsSomeAnd, OnOk, string_bytes};
 ghost use Rattle.std.specs.List.{flat_map};
-ghost use Rattle.tb_core.specs.Ledger.{group_of};
-ghost use Rattle.tb_core.specs.Journal.{inputs};
-ghost use Rattle.tb_layout.specs.inside.Limits.{submitters_max};
-ghost use Rattle.tb_machine.specs.Replay.{replay};
-ghost use Rattle.tb_submit.specs.Ends.{replies_of};
-ghost use Rattle.tb_program.specs.Answering.{AreAllAnswered, AreAllDone, IsAnswered, IsAnsweredBy};
-ghost use Rattle.tb_program.specs.Drivers.{IsDone, told_of};
-ghost use Rattle.tb_program.specs.RunText.{replies_after, ledger_text, packets_text, pulses_text, refused_pulses_text, run_text, line_of_packet, lines_of_packets};
-ghost use Rattle.tb_program.specs.declared.run.notes.Told.TheVariants.{Queued};
+ghost use Rattle.tb_core.specs.claim.Ledger.{group_of};
+ghost use Rattle.tb_core.specs.claim.Journal.{inputs};
+ghost use Rattle.tb_layout.specs.claim.Bounds.{submitters_max};
+ghost use Rattle.tb_machine.specs.claim.Replay.{replay};
+ghost use Rattle.tb_submit.specs.clauses.Ends.{replies_of};
+ghost use Rattle.tb_program.specs.inside.Answering.{AreAllAnswered, AreAllDone, IsAnswered, IsAnsweredBy};
+ghost use Rattle.tb_program.specs.inside.Drivers.{IsDone, results_of};
+ghost use Rattle.tb_program.specs.clauses.RunText.{replies_after, ledger_text, packets_text, pulses_text, refused_pulses_text, run_text, line_of_packet, lines_of_packets};
+ghost use Rattle.tb_program.specs.declared.run.notes.PacketResult.TheVariants.{Queued};
 
 use crate::run::driver::ScriptDriver;
-use crate::run::notes::{Notes, Told};
+use crate::run::notes::{Notes, PacketResult};
 use crate::state::put_state;
 use std::alloc::{AllocError, Global};
 use std::marker::Model;
@@ -40,7 +40,7 @@ struct Replies {
 impl Model for Replies {
     ghost use Rattle.std.specs.Prelude.{List, ◌++◌};
     ghost use Rattle.std.specs.Vec.Iter.{into_iter_items};
-    ghost use Rattle.tb_work.specs.Packet.{ReplyValue};
+    ghost use Rattle.tb_work.specs.claim.Packet.{ReplyValue};
 
     ghost Value = { List ReplyValue };
 
@@ -58,34 +58,39 @@ impl Replies {
     }
 
     /// Adds the line of a packet: its reply, or why it was refused.
-    fn put_told(&mut self, out: &mut String, submitter: u32, told: Told) -> Result<(), AllocError>
-        requires { told ≡ Queued → 0 < length self.old }
-        ensures text { OnOk result (string_bytes out.new ≡ string_bytes out.old ++ line_of_packet submitter told self.old) }
-        ensures left { OnOk result (self.new ≡ replies_after told self.old) }
+    fn put_result(
+        &mut self,
+        out: &mut String,
+        submitter: u32,
+        packet_result: PacketResult,
+    ) -> Result<(), AllocError>
+        requires { packet_result ≡ Queued → 0 < length self.old }
+        ensures text { OnOk result (string_bytes out.new ≡ string_bytes out.old ++ line_of_packet submitter packet_result self.old) }
+        ensures left { OnOk result (self.new ≡ replies_after packet_result self.old) }
     {
-        match told {
-            Told::Queued => match self.next() {
+        match packet_result {
+            PacketResult::Queued => match self.next() {
                 Some(reply) => put_reply(out, &reply),
                 None => Ok(()),
             },
-            Told::Refused(refusal) => put_refused(out, submitter, refusal),
+            PacketResult::Refused(refusal) => put_refused(out, submitter, refusal),
         }
     }
 }
 
 /// Adds the lines of packets whose results are noted.
-#[tactic(auto, unfolding(crate::specs::RunText::lines_of_packets))]
-fn put_all_told(
+#[tactic(auto, unfolding(crate::specs::clauses::RunText::lines_of_packets))]
+fn put_results(
     out: &mut String,
     submitter: u32,
-    told: &[Told],
+    results: &[PacketResult],
     replies: &mut Replies,
 ) -> Result<(), AllocError>
-    requires { IsAnswered told.now replies.old }
-    ensures { OnOk result (string_bytes out.new ≡ string_bytes out.old ++ lines_of_packets submitter told.now replies.old) }
+    requires { IsAnswered results.now replies.old }
+    ensures { OnOk result (string_bytes out.new ≡ string_bytes out.old ++ lines_of_packets submitter results.now replies.old) }
 {
-    for told in told {
-        replies.put_told(out, submitter, *told)?;
+    for packet_result in results {
+        replies.put_result(out, submitter, *packet_result)?;
     }
     Ok(())
 }
@@ -100,9 +105,16 @@ fn put_packets(
     requires { IsAnsweredBy driver ended }
     ensures done { OnOk result (IsDone driver) }
     ensures text { OnOk result (string_bytes out.new
-        ≡ string_bytes out.old ++ lines_of_packets submitter (told_of driver) (ended.read ++ ended.lying)) }
+        ≡ string_bytes out.old ++ lines_of_packets submitter (results_of driver) (ended.read ++ ended.lying)) }
 {
-    let Some(Notes { told, replies, .. }) = driver.into_notes() else {
+    let Some(
+        Notes {
+            results,
+            replies,
+            ..
+        },
+    ) = driver.into_notes()
+    else {
         drop(ended);
         return Err(NoMemory);
     };
@@ -110,13 +122,13 @@ fn put_packets(
         read: replies.into_iter(),
         ended,
     };
-    let put = put_all_told(out, submitter, &told, &mut replies);
+    let put = put_results(out, submitter, &results, &mut replies);
     drop(replies);
     Ok(put?)
 }
 
 /// Adds the lines of all packets, by rising number of their submitters.
-#[tactic(auto, unfolding(crate::specs::RunText::packets_text))]
+#[tactic(auto, unfolding(crate::specs::clauses::RunText::packets_text))]
 pub(crate) fn put_all_packets(
     out: &mut String,
     drivers: Vec<ScriptDriver>,
@@ -127,7 +139,7 @@ pub(crate) fn put_all_packets(
     requires answered { AreAllAnswered drivers.items ends.items }
     ensures done { OnOk result (AreAllDone drivers.items) }
     ensures text { OnOk result (string_bytes out.new
-        ≡ string_bytes out.old ++ packets_text 0 (map told_of drivers.items) (replies_of ends.items)) }
+        ≡ string_bytes out.old ++ packets_text 0 (map results_of drivers.items) (replies_of ends.items)) }
 {
     let mut ends = ends.into_iter();
     let mut submitter = 0u32;
@@ -204,7 +216,7 @@ fn put_run(
     requires places { length (inputs ledger.now) < 2 ^ 64 }
     ensures done { OnOk result (AreAllDone drivers.items) }
     ensures text { OnOk result (string_bytes out.new
-        ≡ string_bytes out.old ++ run_text (map told_of drivers.items) (replies_of ends.items)
+        ≡ string_bytes out.old ++ run_text (map results_of drivers.items) (replies_of ends.items)
         (inputs ledger.now) refused_pulses ledger.now.state) }
 {
     put_all_packets(out, drivers, ends)?;
@@ -226,7 +238,7 @@ fn with_run(text: String, finished: Finished<ScriptDriver, PlanDriver>) -> Resul
     requires answered { AreAllAnswered finished.drivers.items finished.report.ends.items }
     ensures done { IfOk result (λ all. AreAllDone finished.drivers.items) }
     ensures text { IfOk result (λ all. string_bytes all
-        ≡ string_bytes text ++ run_text (map told_of finished.drivers.items) (replies_of finished.report.ends.items)
+        ≡ string_bytes text ++ run_text (map results_of finished.drivers.items) (replies_of finished.report.ends.items)
         (inputs finished.report.ledger) finished.control.refused
         finished.report.ledger.state) }
 {
@@ -255,7 +267,7 @@ pub(crate) fn text_of(
     requires answered { AreAllAnswered finished.drivers.items finished.report.ends.items }
     ensures done { IfOk result (λ text. AreAllDone finished.drivers.items) }
     ensures text { IfOk result (λ text. string_bytes text
-        ≡ run_text (map told_of finished.drivers.items) (replies_of finished.report.ends.items)
+        ≡ run_text (map results_of finished.drivers.items) (replies_of finished.report.ends.items)
         (inputs finished.report.ledger) finished.control.refused
         finished.report.ledger.state) }
 {

@@ -1,7 +1,7 @@
 //! What each thread is to queue.
 
 ghost use Rattle.std.specs.Prelude.{◌≡◌, ◌++◌, ◌∷◌, [], List, false, ◌||◌, length, OnOk, IfOk};
-ghost use Rattle.tb_program.specs.Sharing.{AreDealt, is_shut, moment_in, moments_asked, shuts_in};
+ghost use Rattle.tb_program.specs.clauses.Sharing.{AreDealt, is_shut, moment_in, moments_asked, shuts_in};
 ghost use Rattle.tb_program_text.specs.declared.item.ScriptItem.{ScriptItem as ItemValue};
 ghost use Rattle.tb_program_text.specs.declared.item.ScriptItem.TheVariants.{Packet as PacketItem};
 

@@ -1,6 +1,6 @@
 //! Rings: the worked example, and each call once with ample memory.
 
-use tb_rings::{SpinWait, ring};
+use tb_rings::{IdleWait, ring};
 use tb_test_makers::check;
 
 /// What both ends answer in one thread.
@@ -46,15 +46,15 @@ fn ring_goes_round(rt: HostRuntime) {
 #[test]
 fn woken_before_it_sleeps(rt: HostRuntime) {
     let (mut outlet, mut inlet) = ring::<u32>(rt.alloc(), 2).expect(&rt, "memory");
-    let spin = SpinWait::new();
+    let idle = IdleWait::new();
     for turn in 0..1000u32 {
         check!(&rt; outlet.give(turn) == Ok(()));
-        inlet.wait(&rt, &spin);
+        inlet.wait(&rt, &idle);
         check!(&rt; inlet.take() == Some(turn));
     }
     let waker = inlet.waker().expect(&rt, "memory");
     waker.wake();
-    inlet.wait(&rt, &spin);
+    inlet.wait(&rt, &idle);
     check!(&rt; inlet.take().is_none());
 }
 

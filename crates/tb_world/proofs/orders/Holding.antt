@@ -1,29 +1,8 @@
 -- What holds of a World is kept by each of its steps.
 use Rattle.std.proofs.Common.{refl, sym, ap, ◌∙◌, subst, arith, ◌≡◌, ◌≢◌, ◌==◌, ⊎_elim, ℕ, ◌<◌, Bool, true, false, ◌&&◌, not, List, [], ◌∷◌, ◌++◌, map, length, set, append_assoc, append-nil, length-set, get_or-set_other, Option, Some, None, unwrap_or}
-use Rattle.std.specs.Prelude.{if◌then◌else◌, flat_map}
-use Rattle.std.specs.List.{AllByRecursion}
-use Rattle.std.proofs.lemmas.List.{get_or-set_same, map-append}
-use Rattle.std.proofs.lemmas.List.Elements.{filter-append}
-use Rattle.std.proofs.lemmas.Grind.{flat_map-append}
-use Rattle.std.proofs.lemmas.Bool.{cases_eq, eq-eqb, ne_eqb}
-use Rattle.tb_work.specs.Packet.{Numbered, ReplyValue}
-use Rattle.tb_work.specs.Ahead.{items_in}
-use Rattle.tb_work.specs.declared.item.Ticket.{Ticket}
-use Rattle.tb_core.specs.declared.outcomes.Outcomes.{Outcomes}
+use Rattle.tb_world.proofs.Words.{if◌then◌else◌, flat_map, AllByRecursion, get_or-set_same, map-append, filter-append, flat_map-append, cases_eq, eq-eqb, ne_eqb, Numbered, ReplyValue, items_in, Ticket, Outcomes, Parcel, Decision, Admitted, AreDecisions, FrontState, take_step, with_group, all_ended, all_decisions_in, decisions_in, held_by, LedgerState, apply_step, replies_to, Commits, replies_in, Mailbox, empty_mailbox, mailbox_at, with_reply, mailboxes_with, after_pop_of, may_push, WorldState, sender_at, is_lawful, pop, batch_push, pending_of, batch_pop, outcome_push, outcome_pop, reply_push, reply_pop, senders_after, IsClear, IsStep, is_step, passes_then, goes_on, HasJobs, all-push, commits_more}
 use Rattle.tb_core.specs.declared.outcomes.Outcomes.TheVariants as outcomes
-use Rattle.tb_core.specs.declared.parcel.Parcel.{Parcel}
 use Rattle.tb_core.specs.declared.parcel.Parcel.TheVariants as parcel
-use Rattle.tb_core.specs.inside.Decision.{Decision, Admitted, AreDecisions}
-use Rattle.tb_core.specs.Front.{FrontState, take_step, with_group, all_ended, all_decisions_in, decisions_in, held_by}
-use Rattle.tb_core.specs.Journal.{LedgerState}
-use Rattle.tb_core.specs.Ledger.{apply_step}
-use Rattle.tb_core.specs.Due.{replies_to}
-use Rattle.tb_core.specs.Run.{Commits, replies_in}
-use Rattle.tb_world.specs.Mailbox.{Mailbox, empty_mailbox, mailbox_at, with_reply, mailboxes_with, after_pop_of}
-use Rattle.tb_world.specs.Pushing.{may_push}
-use Rattle.tb_world.specs.World.{WorldState, sender_at, is_lawful, pop, batch_push, pending_of, batch_pop, outcome_push, outcome_pop, reply_push, reply_pop, senders_after}
-use Rattle.tb_core.proofs.TicketDecisions.{IsClear, IsStep, is_step, passes_then, goes_on}
-use Rattle.tb_core.proofs.LedgerSteps.{HasJobs, all-push, commits_more}
 use Rattle.tb_world.proofs.orders.Pushed.{HavePushed, push_counted}
 
 abbrev pub AllHaveJobs : List Parcel → Type 0

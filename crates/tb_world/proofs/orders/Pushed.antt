@@ -1,20 +1,7 @@
 -- Who pushed what: the senders of a World count what is in the history of its pushes.
 use Rattle.std.proofs.Common.{refl, sym, ap, ◌∙◌, subst, arith, ◌≡◌, ◌≢◌, ◌==◌, ⊎_elim, ℕ, ◌+◌, ◌<◌, ◌≤◌, Bool, true, false, not, ◌&&◌, nat_lt, List, [], ◌∷◌, ◌++◌, length, append-nil, length-set, get_or-set_other}
-use Rattle.std.specs.List.{list_all, list_any}
-use Rattle.std.proofs.lemmas.List.{get_or-set_same}
-use Rattle.std.proofs.lemmas.List.Folds.{list_all-append}
-use Rattle.std.proofs.lemmas.Bool.{and_parts, cases_eq, eq-eqb, eqb-true, leb-true, ltb-true, ne_eqb, not-true}
-use Rattle.tb_work.specs.Ahead.{items_from}
-use Rattle.tb_work.specs.Queue.{is_end, IsUnended, IsEnded, IsSubmitted, AreSubmitted, AreNumbered, IsQueueOf}
-use Rattle.tb_work.specs.declared.item.Item.{Item}
+use Rattle.tb_world.proofs.Words.{list_all, list_any, get_or-set_same, list_all-append, and_parts, cases_eq, eq-eqb, eqb-true, leb-true, ltb-true, ne_eqb, not-true, items_from, is_end, IsUnended, IsEnded, IsSubmitted, AreSubmitted, AreNumbered, IsQueueOf, Item, Ticket, WorldSender, may_push_item, may_push, newcomer, sender_after, sender_at, senders_after, HaveAllEnded, part_push, all-push}
 use Rattle.tb_work.specs.declared.item.Item.TheVariants as item
-use Rattle.tb_work.specs.declared.item.Ticket.{Ticket}
-use Rattle.tb_world.specs.declared.sender.WorldSender.{WorldSender}
-use Rattle.tb_world.specs.Pushing.{may_push_item, may_push, newcomer, sender_after}
-use Rattle.tb_world.specs.World.{sender_at, senders_after}
-use Rattle.tb_core.specs.Front.{HaveAllEnded}
-use Rattle.tb_core.proofs.TicketDecisions.{part_push}
-use Rattle.tb_core.proofs.LedgerSteps.{all-push}
 
 -- ---- what may be pushed
 

@@ -1,31 +1,9 @@
 -- Every order of steps: what holds of a World after a list of events.
 use Rattle.std.proofs.Common.{refl, sym, ap, subst, ◌∙◌, arith, ◌≡◌, ℕ, ◌+◌, ◌^◌, ◌≤◌, Bool, true, false, List, [], ◌∷◌, ◌++◌, length, append_assoc, append-nil, length-append, replicate, None}
-use Rattle.std.specs.Prelude.{if◌then◌else◌}
-use Rattle.std.specs.List.{list_any}
-use Rattle.std.proofs.lemmas.List.{get_or-replicate, length-replicate, length-map, map-append}
-use Rattle.std.proofs.lemmas.Bool.{le-ltb, or_parts}
-use Rattle.tb_work.specs.Ahead.{ahead, items_in}
-use Rattle.tb_work.specs.Packet.{input_of}
-use Rattle.tb_work.specs.declared.item.Item.{Item}
+use Rattle.tb_world.proofs.Words.{if◌then◌else◌, list_any, get_or-replicate, length-replicate, length-map, map-append, le-ltb, or_parts, ahead, items_in, input_of, Item, Ticket, Parcel, Event, Push, Pop, BatchPush, BatchPop, OutcomePush, OutcomePop, ReplyPush, ReplyPop, inputs_in, decisions_in, LedgerState, inputs, inputs_since, Commits, Applied, must_stop, apply_step, newcomer, Mailbox, empty_mailbox, mailbox_at, WorldState, is_lawful, after_event, run, world_over, pushed_at, history, is_refused, HasPlaces, ahead-first, inputs_in-append, inputs_in-admitted, so_far}
 use Rattle.tb_work.specs.declared.item.Item.TheVariants as item
-use Rattle.tb_work.specs.declared.item.Ticket.{Ticket}
-use Rattle.tb_core.specs.declared.parcel.Parcel.{Parcel}
 use Rattle.tb_core.specs.declared.parcel.Parcel.TheVariants as parcel
-use Rattle.tb_world.specs.declared.event.Event.{Event}
-use Rattle.tb_world.specs.declared.event.Event.TheVariants.{Push, Pop, BatchPush, BatchPop, OutcomePush, OutcomePop, ReplyPush, ReplyPop}
-use Rattle.tb_core.specs.inside.Decision.{inputs_in}
-use Rattle.tb_core.specs.Front.{decisions_in}
-use Rattle.tb_core.specs.Journal.{LedgerState, inputs, inputs_since}
-use Rattle.tb_core.specs.Run.{Commits}
-use Rattle.tb_core.specs.Ledger.{Applied, must_stop, apply_step}
-use Rattle.tb_world.specs.Pushing.{newcomer}
-use Rattle.tb_world.specs.Mailbox.{Mailbox, empty_mailbox, mailbox_at}
-use Rattle.tb_world.specs.World.{WorldState, is_lawful, after_event, run, world_over}
-use Rattle.tb_world.specs.EveryOrder.{pushed_at, history, is_refused, HasPlaces}
-use Rattle.tb_core.proofs.FrontDecisions.{ahead-first}
 use Rattle.tb_core.proofs.Since.{cancel, inputs-parts}
-use Rattle.tb_core.proofs.LedgerSteps.{inputs_in-append, inputs_in-admitted}
-use Rattle.tb_core.proofs.Runs.{so_far}
 use Rattle.tb_world.proofs.orders.Pushed.{none_pushed}
 use Rattle.tb_world.proofs.orders.Holding.{on_the_way, Holds, NextIsApplied, push_holds, pop_holds, batch_push_holds, batch_pop_holds, outcome_push_holds, outcome_pop_holds, reply_push_holds, reply_pop_holds}
 

@@ -1,27 +1,6 @@
 -- What a World's steps tell: so far, if nothing was refused, and at rest.
 use Rattle.std.proofs.Common.{refl, sym, ap, subst, ◌∙◌, ◌≡◌, ℕ, ◌<◌, ◌==◌, false, List, [], ◌∷◌, ◌++◌, map, length, append_assoc, append-nil, Option, Some, None}
-use Rattle.std.proofs.lemmas.List.{map-append}
-use Rattle.tb_layout.specs.Events.{Input}
-use Rattle.tb_work.specs.Packet.{Numbered, ReplyValue}
-use Rattle.tb_work.specs.Ahead.{ahead, items_in}
-use Rattle.tb_work.specs.declared.item.Item.{Item}
-use Rattle.tb_work.specs.declared.item.Ticket.{Ticket}
-use Rattle.tb_core.specs.declared.outcomes.Outcomes.{Outcomes}
-use Rattle.tb_core.specs.declared.parcel.Parcel.{Parcel}
-use Rattle.tb_world.specs.declared.event.Event.{Event}
-use Rattle.tb_world.specs.declared.event.Event.TheVariants.{Pop, BatchPush, BatchPop, OutcomePush, OutcomePop, ReplyPush, ReplyPop}
-use Rattle.tb_core.specs.Due.{outcome_at, reply_due, all_due_from, all_due, replies_to, Place, Ahead, next_place}
-use Rattle.tb_core.specs.inside.Decision.{inputs_in, Decision, Admitted, AreDecisions}
-use Rattle.tb_core.specs.Front.{all_decisions_in, held_by}
-use Rattle.tb_core.specs.Journal.{LedgerState, inputs, inputs_since}
-use Rattle.tb_core.specs.Run.{Commits, Ran}
-use Rattle.tb_world.specs.Mailbox.{Mailbox, mailbox_at, after_pop_of}
-use Rattle.tb_world.specs.World.{WorldState, pop, batch_push, batch_pop, outcome_push, outcome_pop, reply_push, reply_pop, received_of, after_event, run, world_over}
-use Rattle.tb_core.specs.EndedRun.{IsPrefix}
-use Rattle.tb_world.specs.EveryOrder.{history, IsAtRest, IsLawfulSoFar, NoneStopped, IsLawfulAtRest, HasRun, RunsGoOn, WorldsFollow}
-use Rattle.tb_core.proofs.HeadlineLemmas.{is-prefix-trans, prefix-filter}
-use Rattle.tb_core.proofs.FrontDecisions.{ahead-first}
-use Rattle.tb_core.proofs.Runs.{none_of_first, none_among, SoFar, so_far, run_is_lawful}
+use Rattle.tb_world.proofs.Words.{map-append, Input, Numbered, ReplyValue, ahead, items_in, Item, Ticket, Outcomes, Parcel, Event, Pop, BatchPush, BatchPop, OutcomePush, OutcomePop, ReplyPush, ReplyPop, outcome_at, reply_due, all_due_from, all_due, replies_to, Place, Ahead, next_place, inputs_in, Decision, Admitted, AreDecisions, all_decisions_in, held_by, LedgerState, inputs, inputs_since, Commits, Ran, Mailbox, mailbox_at, after_pop_of, WorldState, pop, batch_push, batch_pop, outcome_push, outcome_pop, reply_push, reply_pop, received_of, after_event, run, world_over, IsPrefix, history, IsAtRest, IsLawfulSoFar, NoneStopped, IsLawfulAtRest, HasRun, RunsGoOn, WorldsFollow, is-prefix-trans, prefix-filter, ahead-first, none_of_first, none_among, SoFar, so_far, run_is_lawful}
 use Rattle.tb_world.proofs.orders.Pushed.{numbered_by, queue_of_all}
 use Rattle.tb_world.proofs.orders.Holding.{on_the_way, unrouted, of_all, of_one, shelved, Holds, Goes}
 use Rattle.tb_world.proofs.orders.Runs.{GoesOn, all_holds}

@@ -1,29 +1,9 @@
 -- Within the credit a reply ring has room for each reply.
 use Rattle.std.proofs.Common.{refl, sym, ap, subst, ◌∙◌, arith, ◌≡◌, ◌≢◌, ⊎_elim, ℕ, ◌+◌, ◌-◌, ◌<◌, ◌≤◌, ◌==◌, Bool, true, false, List, [], ◌∷◌, ◌++◌, length, length-append, set, Option, Some, None, unwrap_or, ltb-true, lt-ltb, eq-eqb, get_or-set_other}
-use Rattle.std.specs.Prelude.{if◌then◌else◌, nat_lt}
-use Rattle.std.proofs.lemmas.Bool.{cases_eq, cases_lt}
-use Rattle.std.proofs.lemmas.List.{length-map, get_or-set_same, set_past, get_or-replicate, get_or_past, length-replicate}
-use Rattle.tb_layout.specs.Events.{Input}
-use Rattle.tb_work.specs.Packet.{ReplyValue}
-use Rattle.tb_work.specs.Ahead.{items_in, items_from}
-use Rattle.tb_work.specs.Queue.{AreSubmitted}
-use Rattle.tb_work.specs.declared.item.Item.{Item}
+use Rattle.tb_world.proofs.Words.{if◌then◌else◌, nat_lt, cases_eq, cases_lt, length-map, get_or-set_same, set_past, get_or-replicate, get_or_past, length-replicate, Input, ReplyValue, items_in, items_from, AreSubmitted, Item, Ticket, all_due, replies_to, Ahead, IsPrefix, LedgerState, inputs, prefix-filter, one-each, Event, Push, WorldSender, newcomer, sender_after, empty_mailbox, mailbox_at, WorldState, sender_at, is_lawful, senders_after, received_of, moved, after_event, run, world_over, history, unread, in_flight, has_credit, uses_credit, UseCredit, has_reply_slot, CreditLeavesRoom}
 use Rattle.tb_work.specs.declared.item.Item.TheVariants as item
-use Rattle.tb_work.specs.declared.item.Ticket.{Ticket}
-use Rattle.tb_core.specs.Due.{all_due, replies_to, Ahead}
-use Rattle.tb_core.specs.EndedRun.{IsPrefix}
-use Rattle.tb_core.specs.Headline.{packets_queued}
-use Rattle.tb_core.specs.Journal.{LedgerState, inputs}
-use Rattle.tb_core.proofs.HeadlineLemmas.{prefix-filter, one-each}
+use Rattle.tb_core.specs.claim.Headline.{packets_queued}
 use Rattle.tb_core.proofs.Packets.{jobs-part}
-use Rattle.tb_world.specs.declared.event.Event.{Event}
-use Rattle.tb_world.specs.declared.event.Event.TheVariants.{Push}
-use Rattle.tb_world.specs.declared.sender.WorldSender.{WorldSender}
-use Rattle.tb_world.specs.Pushing.{newcomer, sender_after}
-use Rattle.tb_world.specs.Mailbox.{empty_mailbox, mailbox_at}
-use Rattle.tb_world.specs.World.{WorldState, sender_at, is_lawful, senders_after, received_of, moved, after_event, run, world_over}
-use Rattle.tb_world.specs.EveryOrder.{history}
-use Rattle.tb_world.specs.Progress.{unread, in_flight, has_credit, uses_credit, UseCredit, has_reply_slot, CreditLeavesRoom}
 use Rattle.tb_world.proofs.progress.Steps.{Steps, steps}
 use Rattle.tb_world.proofs.orders.Pushed.{packets_in}
 use Rattle.tb_world.proofs.orders.Holding.{unrouted, Holds}

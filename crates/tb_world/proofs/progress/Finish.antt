@@ -1,20 +1,6 @@
 -- Steps that end at rest, and rounds after any events.
 use Rattle.std.proofs.Common.{refl, sym, ap, subst, ◌∙◌, arith, ◌≡◌, ◌⊎◌, inl, inr, ℕ, zero, suc, add-one, ◌+◌, ◌*◌, ◌<◌, ◌≤◌, Bool, true, false, ◌&&◌, List, [], ◌∷◌, ◌++◌, length, length-append, append-nil, append_assoc, sum_by, replicate, Option, Some, None, is_some, unwrap_or}
-use Rattle.std.specs.Prelude.{if◌then◌else◌}
-use Rattle.std.specs.List.{list_any, AllByRecursion}
-use Rattle.std.proofs.lemmas.Bool.{or_parts}
-use Rattle.std.proofs.lemmas.List.{length-replicate}
-use Rattle.std.proofs.lemmas.List.Folds.{list_any-append}
-use Rattle.std.proofs.lemmas.List.Sums.{sum_by-cons}
-use Rattle.tb_work.specs.declared.item.Ticket.{Ticket}
-use Rattle.tb_core.specs.Front.{all_ended}
-use Rattle.tb_world.specs.declared.event.Event.{Event}
-use Rattle.tb_world.specs.declared.event.Event.TheVariants.{Push}
-use Rattle.tb_world.specs.Mailbox.{empty_mailbox}
-use Rattle.tb_world.specs.World.{WorldState, is_lawful, senders_after, moved, after_event, run, world_over, takes_memory}
-use Rattle.tb_world.specs.EveryOrder.{IsAtRest, is_push, is_refused, pushed_at, history, HasRun, IsLawfulAtRest}
-use Rattle.tb_core.specs.Journal.{LedgerState}
-use Rattle.tb_world.specs.Progress.{unread, left, left_of_last, MayMove, HasFinished, RunsOut, HasRested, IsRound, all_of, has_room, run_within, LeftIsBounded, EachStepCounts, FairRunsAreAnswered}
+use Rattle.tb_world.proofs.Words.{if◌then◌else◌, list_any, AllByRecursion, or_parts, length-replicate, list_any-append, sum_by-cons, Ticket, all_ended, Event, Push, empty_mailbox, WorldState, is_lawful, senders_after, moved, after_event, run, world_over, takes_memory, IsAtRest, is_push, is_refused, pushed_at, history, HasRun, IsLawfulAtRest, LedgerState, unread, left, left_of_last, MayMove, HasFinished, RunsOut, HasRested, IsRound, all_of, has_room, run_within, LeftIsBounded, EachStepCounts, FairRunsAreAnswered}
 use Rattle.tb_world.proofs.orders.Told.{run_more, runs_go_on}
 use Rattle.tb_world.proofs.progress.Steps.{Steps, steps}
 use Rattle.tb_world.proofs.progress.Rests.{MovesWithin, within_parts, moves_within, rests, ends}

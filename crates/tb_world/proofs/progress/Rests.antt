@@ -1,21 +1,7 @@
 -- A World with nothing left is at rest, and any other moves, however full its rings are.
 use Rattle.std.proofs.Common.{refl, ap, ◌∙◌, arith, ◌≡◌, ◌⊎◌, inl, inr, ⊎_elim, ℕ, suc, ◌+◌, ◌*◌, ◌<◌, ◌≤◌, Bool, true, false, ◌&&◌, not, List, [], ◌∷◌, ◌++◌, length, sum_by, Option, Some, None, is_some, lt-ltb}
-use Rattle.std.specs.Prelude.{if◌then◌else◌, nat_lt}
-use Rattle.std.proofs.lemmas.Bool.{cases_lt}
-use Rattle.std.proofs.lemmas.List.{get_or_past}
-use Rattle.std.proofs.lemmas.List.Sums.{sum_by-cons, get_or-le-sum_by}
-use Rattle.tb_work.specs.Packet.{Numbered, ReplyValue}
-use Rattle.tb_work.specs.declared.item.Ticket.{Ticket}
-use Rattle.tb_core.specs.declared.outcomes.Outcomes.{Outcomes}
-use Rattle.tb_core.specs.declared.parcel.Parcel.{Parcel}
+use Rattle.tb_world.proofs.Words.{if◌then◌else◌, nat_lt, cases_lt, get_or_past, sum_by-cons, get_or-le-sum_by, Numbered, ReplyValue, Ticket, Outcomes, Parcel, all_ended, group_as_batch, Event, Pop, BatchPush, BatchPop, OutcomePush, OutcomePop, ReplyPush, ReplyPop, Mailbox, empty_mailbox, mailbox_at, after_pop_of, WorldState, pop, batch_push, batch_pop, outcome_push, outcome_pop, reply_push, reply_pop, moved, IsAtRest, is_push, left_of_parcel, left_of_pushed, left_of_last, left_of_outcome, left_of_outcomes, unread, left, has_reply_slot, has_room, moved_within}
 use Rattle.tb_core.specs.declared.parcel.Parcel.TheVariants as parcel
-use Rattle.tb_core.specs.Front.{all_ended, group_as_batch}
-use Rattle.tb_world.specs.declared.event.Event.{Event}
-use Rattle.tb_world.specs.declared.event.Event.TheVariants.{Pop, BatchPush, BatchPop, OutcomePush, OutcomePop, ReplyPush, ReplyPop}
-use Rattle.tb_world.specs.Mailbox.{Mailbox, empty_mailbox, mailbox_at, after_pop_of}
-use Rattle.tb_world.specs.World.{WorldState, pop, batch_push, batch_pop, outcome_push, outcome_pop, reply_push, reply_pop, moved}
-use Rattle.tb_world.specs.EveryOrder.{IsAtRest, is_push}
-use Rattle.tb_world.specs.Progress.{left_of_parcel, left_of_pushed, left_of_last, left_of_outcome, left_of_outcomes, unread, left, has_reply_slot, has_room, moved_within}
 use Rattle.tb_world.proofs.progress.Steps.{Steps, steps}
 
 pub rests : (w : WorldState) → left w ≡ 0 → IsAtRest w

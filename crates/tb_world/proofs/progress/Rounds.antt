@@ -1,18 +1,6 @@
 -- A round takes one at least from what is left, so as many rounds as steps are left lead to rest.
 use Rattle.std.proofs.Common.{refl, sym, ap, subst, ◌∙◌, arith, ◌≡◌, ◌≢◌, ◌⊎◌, inl, inr, ⊎_elim, ℕ, zero, suc, ◌<◌, ◌≤◌, Bool, true, false, ◌||◌, List, [], ◌∷◌, ◌++◌, length, Option, Some, None, is_some, unwrap_or, eqb-true, ltb-true, eq-eqb, lt-ltb}
-use Rattle.std.specs.Prelude.{if◌then◌else◌}
-use Rattle.std.specs.List.{list_any, AllByRecursion}
-use Rattle.std.proofs.lemmas.Bool.{cases_eq, or_parts, ne_eqb}
-use Rattle.tb_work.specs.Packet.{ReplyValue}
-use Rattle.tb_work.specs.declared.item.Ticket.{Ticket}
-use Rattle.tb_core.specs.declared.outcomes.Outcomes.{Outcomes}
-use Rattle.tb_core.specs.declared.parcel.Parcel.{Parcel}
-use Rattle.tb_world.specs.declared.event.Event.{Event}
-use Rattle.tb_world.specs.declared.event.Event.TheVariants.{Push, Pop, BatchPush, BatchPop, OutcomePush, OutcomePop, ReplyPush, ReplyPop}
-use Rattle.tb_world.specs.Mailbox.{mailbox_at, after_pop_of}
-use Rattle.tb_world.specs.World.{WorldState, pop, batch_pop, reply_pop, moved}
-use Rattle.tb_world.specs.EveryOrder.{IsAtRest, is_push}
-use Rattle.tb_world.specs.Progress.{left, is_same_step, is_step_of, IsRound, all_of, readers, one_round, OneRoundIsARound, has_room, moved_within, run_within, FairListsRest}
+use Rattle.tb_world.proofs.Words.{if◌then◌else◌, list_any, AllByRecursion, cases_eq, or_parts, ne_eqb, ReplyValue, Ticket, Outcomes, Parcel, Event, Push, Pop, BatchPush, BatchPop, OutcomePush, OutcomePop, ReplyPush, ReplyPop, mailbox_at, after_pop_of, WorldState, pop, batch_pop, reply_pop, moved, IsAtRest, is_push, left, is_same_step, is_step_of, IsRound, all_of, readers, one_round, OneRoundIsARound, has_room, moved_within, run_within, FairListsRest}
 use Rattle.tb_world.proofs.progress.Steps.{Steps, steps, is_among}
 use Rattle.tb_world.proofs.progress.Rests.{MovesWithin, within_parts, moves_within, rests}
 

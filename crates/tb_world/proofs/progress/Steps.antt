@@ -1,34 +1,14 @@
 -- Each step that is no push takes at least one from what is left, and a push adds seven.
 use Rattle.std.proofs.Common.{refl, sym, ap, subst, arith, ◌≡◌, ◌≢◌, ⊎_elim, ℕ, ◌+◌, ◌*◌, ◌<◌, ◌≤◌, Bool, true, false, ◌&&◌, ◌||◌, not, List, [], ◌∷◌, ◌++◌, map, length, length-append, length-set, get_or-set_other, sum_by, set, Option, Some, None}
-use Rattle.std.specs.Prelude.{if◌then◌else◌, IfSome}
-use Rattle.std.proofs.lemmas.Bool.{cases_eq, cases_lt}
-use Rattle.std.proofs.lemmas.List.{length-map, get_or-set_same, set_past, get_or_past}
-use Rattle.std.proofs.lemmas.List.Sums.{sum_by-cons, sum_by-append, sum_by-set}
-use Rattle.tb_work.specs.Packet.{Numbered, ReplyValue, input_of}
-use Rattle.tb_work.specs.Answer.{reply_with}
-use Rattle.tb_work.specs.declared.item.Item.{Item}
+use Rattle.tb_world.proofs.Words.{if◌then◌else◌, IfSome, cases_eq, cases_lt, length-map, get_or-set_same, set_past, get_or_past, sum_by-cons, sum_by-append, sum_by-set, Numbered, ReplyValue, input_of, Item, Ticket, Outcomes, Parcel, Input, Admitted, replies_from, FrontState, Taken, take_result, with_group, with_end, all_ended, group_as_batch, step_of_packet, step_of_pulse, take_step, LedgerState, inputs, Applied, apply_result, must_stop, with_stop, with_entry, step_of_batch, apply_step, replies_in, Event, Push, Pop, BatchPush, BatchPop, OutcomePush, OutcomePop, ReplyPush, ReplyPop, Mailbox, empty_mailbox, mailbox_at, with_reply, mailboxes_with, after_pop_of, WorldState, received_of, pop, batch_push, pending_of, batch_pop, outcome_push, outcome_pop, reply_push, reply_pop, moved, is_push, owed, left_of_parcel, left_of_pushed, left_of_last, left_of_outcome, left_of_outcomes, unread, left_of_batcher, left}
+use Rattle.tb_work.specs.claim.Answer.{reply_with}
 use Rattle.tb_work.specs.declared.item.Item.TheVariants as item
-use Rattle.tb_work.specs.declared.item.Ticket.{Ticket}
 use Rattle.tb_work.specs.declared.outcome.Outcome.TheVariants as outcome
-use Rattle.tb_batch.specs.Grouping.{is_taken}
-use Rattle.tb_core.specs.declared.outcomes.Outcomes.{Outcomes}
+use Rattle.tb_batch.specs.claim.Grouping.{is_taken}
 use Rattle.tb_core.specs.declared.outcomes.Outcomes.TheVariants as outcomes
 use Rattle.tb_core.specs.declared.parcel.Cause.TheVariants.{Stopped}
-use Rattle.tb_core.specs.declared.parcel.Parcel.{Parcel}
 use Rattle.tb_core.specs.declared.parcel.Parcel.TheVariants as parcel
-use Rattle.tb_layout.specs.Events.{Input}
-use Rattle.tb_layout.specs.Events as input
-use Rattle.tb_core.specs.inside.Decision.{Admitted, replies_from}
-use Rattle.tb_core.specs.Front.{FrontState, Taken, take_result, with_group, with_end, all_ended, group_as_batch, step_of_packet, step_of_pulse, take_step}
-use Rattle.tb_core.specs.Journal.{LedgerState, inputs}
-use Rattle.tb_core.specs.Ledger.{Applied, apply_result, must_stop, with_stop, with_entry, step_of_batch, apply_step}
-use Rattle.tb_core.specs.Run.{replies_in}
-use Rattle.tb_world.specs.declared.event.Event.{Event}
-use Rattle.tb_world.specs.declared.event.Event.TheVariants.{Push, Pop, BatchPush, BatchPop, OutcomePush, OutcomePop, ReplyPush, ReplyPop}
-use Rattle.tb_world.specs.Mailbox.{Mailbox, empty_mailbox, mailbox_at, with_reply, mailboxes_with, after_pop_of}
-use Rattle.tb_world.specs.World.{WorldState, received_of, pop, batch_push, pending_of, batch_pop, outcome_push, outcome_pop, reply_push, reply_pop, moved}
-use Rattle.tb_world.specs.EveryOrder.{is_push}
-use Rattle.tb_world.specs.Progress.{owed, left_of_parcel, left_of_pushed, left_of_last, left_of_outcome, left_of_outcomes, unread, left_of_batcher, left}
+use Rattle.tb_layout.specs.claim.Events as input
 
 -- a step that is no push: less is left, who pushed what stays, and no submitter has received less
 pub record IsStep (w next : WorldState) : Type 0 where

@@ -26,9 +26,10 @@ impl<S: Store + Drop> Drop for Noting<S> {
 }
 
 impl<S: Store + Drop> AnyLedger for Noting<S> {
-    ghost use Rattle.tb_durable.specs.Durable.{IsKept};
+    ghost use Rattle.tb_durable.specs.clauses.Entries.{IsInFile};
 
-    ghost is = { λ noting ledger. IsKept (S.Store.view noting.ledger.table.store) noting.ledger.bare ledger };
+    ghost is = { λ noting ledger. IsInFile (S.Store.recovers noting.ledger.table.store)
+        (S.Store.view noting.ledger.table.store) noting.ledger.bare noting.ledger.counts ledger };
 
     fn stopped(&self) -> bool {
         AnyLedger::stopped(&self.ledger)

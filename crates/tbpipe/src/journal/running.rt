@@ -1,9 +1,9 @@
 //! A script through a pipeline over a ledger in a file, and the lines of the output.
 
 ghost use Rattle.std.specs.Prelude.{◌≡◌, false};
-ghost use Rattle.tb_core.specs.Journal.{LedgerState};
-ghost use Rattle.tb_durable.specs.Durable.{IsKept};
-ghost use Rattle.tb_program_text.specs.Script.{InBounds};
+ghost use Rattle.tb_core.specs.claim.Journal.{LedgerState};
+ghost use Rattle.tb_durable.specs.clauses.Entries.{IsInFile};
+ghost use Rattle.tb_program_text.specs.clauses.Script.{InBounds};
 
 use crate::journal::fault::{JournalFault, stop_of};
 use crate::journal::noting::Noting;
@@ -70,7 +70,8 @@ fn run_noting<R: Threads + Wait + Sync, S: Store + Drop + Send>(
     script: ScriptParts,
 ) -> Result<RunOver<Noting<S>>, ProgramFault>
     requires bounds { InBounds script.settings }
-    requires known { (now : LedgerState) × IsKept (S.Store.view ledger.table.store) ledger.bare now }
+    requires known { (now : LedgerState) × IsInFile (S.Store.recovers ledger.table.store)
+        (S.Store.view ledger.table.store) ledger.bare ledger.counts now }
     requires goes_on { ledger.bare.stopped ≡ false }
 {
     let noting = Noting {

@@ -1,7 +1,7 @@
 use Rattle.std.proofs.Common.{◌∙◌, sym, ap, subst, Some}
 use Rattle.tb_work.specs.declared.packet.Packet.{Packet}
-use Rattle.tb_embed.specs.Engine.{Queues}
-use Rattle.tb_embed.specs.Queued.{packet_ticket}
+use Rattle.kip.proofs.Words.{Queues}
+use Rattle.tb_embed.specs.clauses.Queued.{packet_ticket}
 use Rattle.kip.proofs.Moved.{moved}
 use Rattle.kip.proofs.calls.kip_submit_bytes.Goals as goal
 

@@ -1,5 +1,5 @@
 use Rattle.std.proofs.Common.{◌∙◌, arith}
-use Rattle.tb_layout.specs.inside.Records.{account_bytes}
+use Rattle.kip.proofs.Words.{account_bytes}
 use Rattle.tb_layout.specs.declared.account.Account.{Account}
 use Rattle.kip.proofs.Written.{written_more}
 use Rattle.kip.proofs.reading.put_accounts.Goals as goal

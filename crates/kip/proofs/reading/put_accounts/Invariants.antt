@@ -1,6 +1,5 @@
 use Rattle.std.proofs.Common.{◌≡◌, ◌*◌, ◌++◌, take, drop, length}
-use Rattle.std.specs.List.{flat_map}
-use Rattle.tb_layout.specs.inside.Records.{account_bytes}
+use Rattle.kip.proofs.Words.{flat_map, account_bytes}
 use Rattle.kip.proofs.reading.put_accounts.Given as goal
 
 abbrev pub invariant-loop-account : goal.invariant-loop-account

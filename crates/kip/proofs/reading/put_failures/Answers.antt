@@ -1,5 +1,5 @@
 use Rattle.std.proofs.Common.{◌∙◌, arith}
-use Rattle.tb_layout.specs.Failure.{failure_bytes}
+use Rattle.kip.proofs.Words.{failure_bytes}
 use Rattle.tb_layout.specs.declared.failure.Failure.{Failure}
 use Rattle.kip.proofs.Written.{written_more}
 use Rattle.kip.proofs.reading.put_failures.Goals as goal

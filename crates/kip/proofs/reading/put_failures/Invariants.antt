@@ -1,6 +1,5 @@
 use Rattle.std.proofs.Common.{◌≡◌, ◌*◌, ◌++◌, take, drop, length}
-use Rattle.std.specs.List.{flat_map}
-use Rattle.tb_layout.specs.Failure.{failure_bytes}
+use Rattle.kip.proofs.Words.{flat_map, failure_bytes}
 use Rattle.kip.proofs.reading.put_failures.Given as goal
 
 abbrev pub invariant-loop-failure : goal.invariant-loop-failure

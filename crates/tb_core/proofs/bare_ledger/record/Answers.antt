@@ -1,8 +1,7 @@
 use Rattle.std.proofs.Common.{◌∙◌, ap, refl, sym, subst}
-use Rattle.tb_machine.specs.Replay.{replay}
-use Rattle.tb_batch.specs.Batch.{body_of}
-use Rattle.tb_core.specs.Ledger.{batch_packets, IsBatchEntry}
-use Rattle.tb_core.proofs.Batches.{JoinInvisibly, entry_has, entry_is}
+use Rattle.tb_core.proofs.Words.{replay, body_of, batch_packets, IsBatchEntry}
+use Rattle.tb_core.proofs.Batches.{JoinInvisibly, entry_is}
+use Rattle.tb_core.proofs.Bodies.{entry_has}
 use Rattle.tb_core.proofs.LedgerSteps.{replies_from-answers}
 use Rattle.tb_core.proofs.RecordedBatch.{recorded}
 use Rattle.tb_core.proofs.bare_ledger.record.Goals as goal

@@ -1,5 +1,5 @@
 use Rattle.std.proofs.Common.{◌∙◌, ap, arith, rules, length, ◌%◌, ◌/◌}
-use Rattle.std.proofs.lemmas.Bool.{eq-eqb}
+use Rattle.tb_core.proofs.Words.{eq-eqb}
 use Rattle.tb_machine.proofs.Faults.{eqb-false}
 use Rattle.tb_core.proofs.Batches.{may_commit, may_look_up}
 use Rattle.tb_core.proofs.bare_ledger.take_batch.Goals as goal

@@ -1,6 +1,5 @@
 use Rattle.std.proofs.Common.{arith, ◌≡◌, [], ◌∷◌, List, refl, sym, ap, ◌∙◌, ◌++◌, append-nil, append_assoc, Some, None, slice_get, remove}
-use Rattle.tb_core.specs.declared.parcel.Parcel.{Parcel}
-use Rattle.tb_core.specs.Front.{all_decisions_in, decisions_in}
+use Rattle.tb_core.proofs.Words.{Parcel, all_decisions_in, decisions_in}
 use Rattle.tb_core.proofs.list.apply_all.Goals as goal
 
 first_out : (parcels rest : List Parcel) (parcel : Parcel) → Some parcel ≡ slice_get parcels 0

@@ -1,9 +1,5 @@
 use Rattle.std.proofs.Common.{ℕ, List, ◌++◌, length}
-use Rattle.tb_core.specs.Front.{all_decisions_in}
-use Rattle.tb_core.specs.Grouping.{AreJoinedParcels}
-use Rattle.tb_core.specs.inside.Decision.{Decision}
-use Rattle.tb_core.specs.Journal.{LedgerState}
-use Rattle.tb_core.specs.Run.{HasNotStopped}
+use Rattle.tb_core.proofs.Words.{all_decisions_in, AreJoinedParcels, Decision, LedgerState, HasNotStopped}
 use Rattle.tb_core.proofs.ItemList.{AreApplied}
 use Rattle.tb_core.proofs.list.apply_all.Given as goal
 

@@ -1,6 +1,6 @@
 -- Found by the prover itself, but late; on file since a check then costs less.
 use Rattle.std.proofs.Common.{arith}
-use Rattle.std.proofs.lemmas.Grind.{common_steps}
+use Rattle.tb_core.proofs.Words.{common_steps}
 use Rattle.tb_core.proofs.list.put_all.Goals as goal
 
 pub loop-reply-preserved : goal.loop-reply-preserved

@@ -1,9 +1,5 @@
 use Rattle.std.proofs.Common.{ap, sym, subst, []}
-use Rattle.tb_core.specs.Front.{FrontState}
-use Rattle.tb_core.specs.Grouping.{AreWithin}
-use Rattle.tb_core.specs.Journal.{LedgerState}
-use Rattle.tb_core.specs.Ledger.{new_ledger}
-use Rattle.tb_core.specs.Run.{IsListed, Commits, IsDrained}
+use Rattle.tb_core.proofs.Words.{FrontState, AreWithin, LedgerState, new_ledger, IsListed, Commits, IsDrained}
 use Rattle.tb_core.proofs.Runs.{run_is_listed}
 use Rattle.tb_core.proofs.list.run_list.Goals as goal
 

@@ -29,6 +29,7 @@ fn each_call(rt: HostRuntime) {
     check!(&rt; machine.account(9).is_none());
     check!(&rt; machine.account_at(1) == Some(with_posted(account(2, 0), 0, 30, 2)));
     check!(&rt; machine.account_at(2).is_none());
+    check!(&rt; machine.each_account().count() == 2);
     drop(machine);
 }
 

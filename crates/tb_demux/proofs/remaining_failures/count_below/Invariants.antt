@@ -1,5 +1,5 @@
 use Rattle.std.proofs.Common.{◌≡◌, ◌+◌, drop}
-use Rattle.tb_demux.specs.Leading.{count_below}
+use Rattle.tb_demux.specs.inside.Leading.{count_below}
 use Rattle.tb_demux.proofs.remaining_failures.count_below.Given as goal
 
 abbrev pub invariant-loop-place : goal.invariant-loop-place

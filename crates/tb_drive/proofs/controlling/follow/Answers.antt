@@ -1,5 +1,5 @@
 use Rattle.std.proofs.Common.{rules, []}
-use Rattle.tb_drive.specs.Plan.{pulse_of}
+use Rattle.tb_drive.proofs.Words.{pulse_of}
 use Rattle.tb_drive.proofs.Pulsed.{has_queued_more, nothing_queued}
 use Rattle.tb_drive.proofs.controlling.follow.Goals as goal
 
@@ -14,5 +14,5 @@ loop-preserved g c = λ started.
 pub loop-preserved-in-Continue-1 : goal.loop-preserved-in-Continue-1
 loop-preserved-in-Continue-1 g c = λ started.
     has_queued_more _ _ _ (pulse_of c.in-Pulse.moment) _ _ (c.loop.invariant started) (search rules)
-    (λ items had. c.in_ok-pulse-in-Pulse.ensures.told c.args.driver.now items
+    (λ items had. c.in_ok-pulse-in-Pulse.ensures.response c.args.driver.now items
     (c.in-Pulse.ensures c.args.driver.now items had))

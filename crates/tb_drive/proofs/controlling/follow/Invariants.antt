@@ -1,5 +1,5 @@
 use Rattle.std.proofs.Common.{[]}
-use Rattle.tb_drive.specs.Threads.{HasQueued}
+use Rattle.tb_drive.proofs.Words.{HasQueued}
 use Rattle.tb_drive.proofs.controlling.follow.Given as goal
 
 abbrev pub invariant-loop : goal.invariant-loop

@@ -1,7 +1,6 @@
 use Rattle.std.proofs.Common.{rules, ◌≡◌, ◌∙◌, [], ◌∷◌, ◌++◌, ap, subst, sym}
-use Rattle.tb_submit.specs.Ends.{EndedState, SubmitterState, end_origin, origin_of}
+use Rattle.tb_drive.proofs.Words.{EndedState, SubmitterState, end_origin, origin_of, HasSeen, HasSeenEnd}
 use Rattle.tb_work.specs.declared.item.Item.TheVariants.{End}
-use Rattle.tb_drive.specs.Seen.{HasSeen, HasSeenEnd}
 use Rattle.tb_drive.proofs.Seen.{seen_at_end}
 use Rattle.tb_drive.proofs.submitting.end.Goals as goal
 

@@ -1,5 +1,5 @@
 use Rattle.std.proofs.Common.{◌∙◌}
-use Rattle.std.proofs.lemmas.Result.{IfOk-from_err}
+use Rattle.tb_drive.proofs.Words.{IfOk-from_err}
 use Rattle.tb_drive.proofs.Seen.{front_of_more}
 use Rattle.tb_drive.proofs.submitting.follow.Goals as goal
 

@@ -1,6 +1,5 @@
 use Rattle.std.proofs.Common.{◌<◌, length, ap, refl, subst, sym}
-use Rattle.tb_submit.specs.Ends.{SubmitterState, origin_of}
-use Rattle.tb_drive.specs.Seen.{HasAsked, HasSeen, jobs_in}
+use Rattle.tb_drive.proofs.Words.{SubmitterState, origin_of, HasAsked, HasSeen, jobs_in}
 use Rattle.tb_drive.proofs.Seen.{fewer_read}
 use Rattle.tb_drive.proofs.submitting.read.Goals as goal
 

@@ -1,6 +1,5 @@
 use Rattle.std.proofs.Common.{◌≡◌}
-use Rattle.tb_submit.specs.Ends.{origin_of}
-use Rattle.tb_drive.specs.Seen.{HasSeen}
+use Rattle.tb_drive.proofs.Words.{origin_of, HasSeen}
 use Rattle.tb_drive.proofs.submitting.receive.Given as goal
 
 abbrev pub invariant-loop : goal.invariant-loop

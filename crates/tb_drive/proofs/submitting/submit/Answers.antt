@@ -1,6 +1,5 @@
 use Rattle.std.proofs.Common.{rules, ◌≡◌, ◌∙◌, ap, subst, sym}
-use Rattle.tb_submit.specs.Ends.{SubmitterState}
-use Rattle.tb_drive.specs.Seen.{HasAsked, IsFront}
+use Rattle.tb_drive.proofs.Words.{SubmitterState, HasAsked, IsPrefixOf}
 use Rattle.tb_drive.proofs.submitting.submit.Goals as goal
 
 pub loop-preserved : goal.loop-preserved
@@ -20,21 +19,21 @@ returns-in-Ok-clause-seen g c = search rules
 
 pub returns-in-Ok-clause-front : goal.returns-in-Ok-clause-front
 returns-in-Ok-clause-front g c =
-    subst (λ first. IsFront first c.submit_once.new.submitter.queued) c.loop.invariant.front c.submit_once.ensures.front
+    subst (λ first. IsPrefixOf first c.submit_once.new.submitter.queued) c.loop.invariant.front c.submit_once.ensures.front
 
 pub returns-in-Err : goal.returns-in-Err
 returns-in-Err g c = record {
   own = c.submit_once.ensures.own ∙ c.loop.invariant.own;
-  front = subst (λ first. IsFront first c.submit_once.new.submitter.queued) c.loop.invariant.front
+  front = subst (λ first. IsPrefixOf first c.submit_once.new.submitter.queued) c.loop.invariant.front
       c.submit_once.ensures.front;
   seen = search rules;
   share = c.submitted-in-Err.ensures.share ∙ c.loop.invariant.share;
 }
 
-pub returns-then-is_asked : goal.returns-then-is_asked
-returns-then-is_asked g c = record {
+pub returns-then-is_given_up : goal.returns-then-is_given_up
+returns-then-is_given_up g c = record {
   own = c.submit_once.ensures.own ∙ c.loop.invariant.own;
-  front = subst (λ first. IsFront first c.submit_once.new.submitter.queued) c.loop.invariant.front
+  front = subst (λ first. IsPrefixOf first c.submit_once.new.submitter.queued) c.loop.invariant.front
       c.submit_once.ensures.front;
   seen = λ had. tt;
   share = c.loop.invariant.share;

@@ -1,5 +1,5 @@
 use Rattle.std.proofs.Common.{rules}
-use Rattle.std.proofs.lemmas.Result.{IfErr-weaker, on_ok_weaker}
+use Rattle.tb_drive.proofs.Words.{IfErr-weaker, on_ok_weaker}
 use Rattle.tb_drive.proofs.Refused.{final, none_final}
 use Rattle.tb_drive.proofs.submitting.submit_once.Goals as goal
 
@@ -7,8 +7,8 @@ use Rattle.tb_drive.proofs.submitting.submit_once.Goals as goal
 pub returns-then-queued-ge-QUEUED_MAX-clause-refusal : goal.returns-then-queued-ge-QUEUED_MAX-clause-refusal
 returns-then-queued-ge-QUEUED_MAX-clause-refusal c = search rules
 
-pub returns-clause-told : goal.returns-clause-told
-returns-clause-told g c =
+pub returns-clause-refused : goal.returns-clause-refused
+returns-clause-refused g c =
     IfErr-weaker c.submit.result _ _ (λ refused. final c.args.submitter.now c.args.packet refused.1)
     c.submit.ensures.refusal
 

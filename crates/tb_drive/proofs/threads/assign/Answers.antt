@@ -1,10 +1,5 @@
 use Rattle.std.proofs.Common.{rules, ◌≡◌, ◌∙◌, ◌∷◌, ◌++◌, [], append_assoc, append-nil, length, map, map-id, refl, ap, sym, arith}
-use Rattle.std.proofs.lemmas.List.{map-append, nil_from_length}
-use Rattle.std.proofs.lemmas.Iterator.Adapters.{YieldsList-from_vec}
-use Rattle.std.proofs.lemmas.Iterator.Consumers.{YieldsList-end}
-use Rattle.std.specs.Vec.Iter.{into_iter_items}
-use Rattle.tb_submit.specs.Ends.{origin_of}
-use Rattle.tb_drive.specs.Tasks.{SubmitterTaskState, task_origin, task_share, task_submitter}
+use Rattle.tb_drive.proofs.Words.{map-append, nil_from_length, YieldsList-from_vec, YieldsList-end, into_iter_items, origin_of, SubmitterTaskState, task_origin, task_share, task_submitter}
 use Rattle.tb_drive.proofs.Seen.{first_has, others_have}
 use Rattle.tb_drive.proofs.threads.assign.Goals as goal
 

@@ -1,9 +1,5 @@
 use Rattle.std.proofs.Common.{◌≡◌, ◌≤◌, ◌+◌, ◌++◌, map, length, vec_len}
-use Rattle.std.specs.Prelude.{vec_capacity}
-use Rattle.std.specs.Vec.Iter.{into_iter_items}
-use Rattle.tb_submit.specs.Ends.{origin_of}
-use Rattle.tb_drive.specs.Tasks.{task_origin, task_share, task_submitter}
-use Rattle.tb_drive.specs.Seen.{HaveSeen}
+use Rattle.tb_drive.proofs.Words.{vec_capacity, into_iter_items, origin_of, task_origin, task_share, task_submitter, HaveSeen}
 use Rattle.tb_drive.proofs.threads.assign.Given as goal
 
 abbrev pub invariant-loop-submitter : goal.invariant-loop-submitter

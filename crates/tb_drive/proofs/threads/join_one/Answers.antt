@@ -1,10 +1,5 @@
 use Rattle.std.proofs.Common.{rules, ◌≡◌, ◌∙◌, ◌∷◌, ◌++◌, [], Option, ap, sym, subst, arith}
-use Rattle.std.specs.Prelude.{IfSome}
-use Rattle.std.proofs.lemmas.List.{length-append}
-use Rattle.tb_submit.specs.Ends.{EndedState, end_origin, origin_of}
-use Rattle.tb_drive.specs.Seen.{HasSeenEnd, IsFront}
-use Rattle.tb_drive.specs.Tasks.{SubmitterResultState, SubmitterTaskState}
-use Rattle.tb_drive.specs.Threads.{started_from}
+use Rattle.tb_drive.proofs.Words.{IfSome, length-append, EndedState, end_origin, origin_of, HasSeenEnd, IsPrefixOf, SubmitterResultState, SubmitterTaskState, started_from}
 use Rattle.tb_drive.proofs.Results.{one_more_result}
 use Rattle.tb_drive.proofs.Seen.{one_more}
 use Rattle.tb_drive.proofs.threads.join_one.Goals as goal
@@ -16,11 +11,11 @@ returns g c = λ all had.
     let end = c.in-Some.ended in
     let ends : c.push.new.self.items ≡ c.args.ends.now.items ++ end ∷ [] = c.in_ok-push.ensures.items in
     let drivers : c.push-2.new.self.items ≡ c.args.drivers.now.items ++ driver ∷ [] = c.in_ok-push-2.ensures.items in
-    let is : (end_origin end ≡ origin_of task.submitter) × IsFront task.submitter.queued end.queued =
+    let is : (end_origin end ≡ origin_of task.submitter) × IsPrefixOf task.submitter.queued end.queued =
     subst (λ (ended : Option EndedState). IfSome ended (λ (one : EndedState). (end_origin one ≡ origin_of task.submitter)
-    × IsFront task.submitter.queued one.queued)) c.in-Some.is
+    × IsPrefixOf task.submitter.queued one.queued)) c.in-Some.is
     (subst (λ (result : SubmitterResultState). IfSome result.ended (λ (one : EndedState).
-    (end_origin one ≡ origin_of task.submitter) × IsFront task.submitter.queued one.queued)) (sym c.ended.view_is)
+    (end_origin one ≡ origin_of task.submitter) × IsPrefixOf task.submitter.queued one.queued)) (sym c.ended.view_is)
     c.join.ensures.0) in
     let share : g.D.Driver.share driver ≡ task.share =
     ap (λ (result : SubmitterResultState). result.share) c.ended.view_is ∙ c.join.ensures.1 in

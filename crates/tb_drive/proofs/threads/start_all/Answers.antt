@@ -1,6 +1,5 @@
 use Rattle.std.proofs.Common.{◌≡◌, ◌∙◌, [], ◌∷◌, ◌++◌, length, map, ap, arith}
-use Rattle.std.proofs.lemmas.List.{map-append}
-use Rattle.tb_drive.specs.Threads.{started_from}
+use Rattle.tb_drive.proofs.Words.{map-append, started_from}
 use Rattle.tb_drive.proofs.threads.start_all.Goals as goal
 
 pub push_reserved-requires : goal.push_reserved-requires

@@ -1,6 +1,5 @@
 use Rattle.std.proofs.Common.{◌≡◌, ◌≤◌, ◌+◌, length, map, vec_len}
-use Rattle.std.specs.Prelude.{vec_capacity}
-use Rattle.tb_drive.specs.Threads.{started_from}
+use Rattle.tb_drive.proofs.Words.{vec_capacity, started_from}
 use Rattle.tb_drive.proofs.threads.start_all.Given as goal
 
 abbrev pub invariant-loop-task : goal.invariant-loop-task

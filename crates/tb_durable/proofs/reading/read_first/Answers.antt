@@ -1,6 +1,5 @@
 use Rattle.std.proofs.Common.{◌≡◌, arith, sym, subst, ◌∙◌, true, false, []}
-use Rattle.sqlite_trees.specs.View.{Advances, IsClean}
-use Rattle.tb_durable.specs.Durable.{IsReading}
+use Rattle.tb_durable.proofs.Words.{Advances, IsClean, IsReading}
 use Rattle.tb_durable.proofs.StoreLemmas.{advances_same, reads_all, reads_one}
 use Rattle.tb_durable.proofs.reading.read_first.Goals as goal
 

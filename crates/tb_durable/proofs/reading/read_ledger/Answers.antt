@@ -1,8 +1,5 @@
 use Rattle.std.proofs.Common.{arith, refl, rules, subst, sym, [], ◌∷◌}
-use Rattle.sqlite_trees.specs.View.{IsClean}
-use Rattle.tb_durable.specs.Durable.{HasJournal, opened_rows}
-use Rattle.tb_durable.specs.Faults.{IsCause}
-use Rattle.tb_durable.specs.Entries.{HasReadFile, IsFailure, IsHalfway, IsLedgerFile}
+use Rattle.tb_durable.proofs.Words.{IsClean, HasJournal, opened_rows, IsCause, HasReadFile, IsFailure, IsHalfway, IsLedgerFile}
 use Rattle.tb_durable.proofs.FileLemmas.{begins_halfway, first_file, opened_file}
 use Rattle.tb_durable.proofs.Journals.{new_journal}
 use Rattle.tb_durable.proofs.reading.read_ledger.Goals as goal

@@ -1,6 +1,5 @@
 use Rattle.std.proofs.Common.{◌≡◌, ap, arith, rules, false, Ok}
-use Rattle.sqlite_trees.specs.View.{IsClean}
-use Rattle.tb_durable.specs.Durable.{opened_rows}
+use Rattle.tb_durable.proofs.Words.{IsClean, opened_rows}
 use Rattle.tb_durable.proofs.FileLemmas.{written_first}
 use Rattle.tb_durable.proofs.reading.read_settings.Goals as goal
 

@@ -1,9 +1,5 @@
 use Rattle.std.proofs.Common.{◌≡◌, rules, subst, ◌++◌, true, false, [], ◌∷◌}
-use Rattle.sqlite_trees.specs.View.{Advances}
-use Rattle.tb_durable.specs.Rows.{group_in}
-use Rattle.tb_durable.specs.Faults.{IsCause}
-use Rattle.tb_durable.specs.Entries.{IsFailure}
-use Rattle.tb_durable.specs.declared.fault.OpenFault.TheVariants.{NoMemory}
+use Rattle.tb_durable.proofs.Words.{Advances, group_in, IsCause, IsFailure, NoMemory}
 use Rattle.tb_durable.proofs.FaultLemmas.{row_fault}
 use Rattle.tb_durable.proofs.FileLemmas.{halfway_on, next_entry, no_memory_fails, read_file_on, whole_file}
 use Rattle.tb_durable.proofs.Journals.{one_more}

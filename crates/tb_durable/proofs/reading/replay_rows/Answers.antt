@@ -1,8 +1,5 @@
 use Rattle.std.proofs.Common.{◌≡◌, ◌∙◌, ap, arith, rules, subst, true, false, Ok}
-use Rattle.sqlite_trees.specs.Tree.{Trees}
-use Rattle.sqlite_trees.specs.View.{IsClean}
-use Rattle.tb_durable.specs.Entries.{IsFailure}
-use Rattle.tb_durable.specs.Faults.{IsCause}
+use Rattle.tb_durable.proofs.Words.{Trees, IsClean, IsFailure, IsCause}
 use Rattle.tb_durable.proofs.reading.replay_rows.Goals as goal
 
 pub returns-in_err-replay_row-clause-fault : goal.returns-in_err-replay_row-clause-fault

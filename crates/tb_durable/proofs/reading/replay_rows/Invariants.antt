@@ -1,8 +1,4 @@
-use Rattle.std.specs.Prelude.{◌≡◌, ◌≤◌, false, IsSome}
-use Rattle.sqlite_trees.specs.View.{IsClean, doubt}
-use Rattle.tb_durable.specs.declared.counts.PacketCounts.{PacketCounts}
-use Rattle.tb_durable.specs.Durable.{HasJournal, IsReplaying}
-use Rattle.tb_durable.specs.Entries.{HasReadFile, IsHalfway}
+use Rattle.tb_durable.proofs.Words.{◌≡◌, ◌≤◌, false, IsSome, IsClean, doubt, PacketCounts, HasJournal, IsReplaying, HasReadFile, IsHalfway}
 use Rattle.tb_durable.proofs.reading.replay_rows.Given as goal
 
 abbrev pub invariant-loop : goal.invariant-loop

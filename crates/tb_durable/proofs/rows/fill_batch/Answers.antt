@@ -1,5 +1,5 @@
 use Rattle.std.proofs.Common.{◌≡◌, rules, sym, ap, subst, ◌∙◌}
-use Rattle.tb_durable.specs.Rows.{batch_row, group_in, stubs_bytes, stubs_in}
+use Rattle.tb_durable.proofs.Words.{batch_row, group_in, stubs_bytes, stubs_in}
 use Rattle.tb_durable.proofs.Cutting.{group_of_jobs, row_of_parts}
 use Rattle.tb_durable.proofs.rows.fill_batch.Goals as goal
 

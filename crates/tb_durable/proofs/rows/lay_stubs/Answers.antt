@@ -1,10 +1,7 @@
 use Rattle.std.proofs.Common.{ap, ◌∙◌, arith, ℕ, List}
-use Rattle.std.specs.List.{flat_map}
-use Rattle.std.proofs.lemmas.List.{take_all, take_more}
-use Rattle.tb_layout.specs.Bytes.{little_endian}
+use Rattle.tb_durable.proofs.Words.{flat_map, take_all, take_more, Stub, stub_in, stub_bytes}
+use Rattle.tb_layout.specs.claim.Bytes.{little_endian}
 use Rattle.tb_work.proofs.Laid.{laid-bytes, laid-length, laid-events}
-use Rattle.tb_work.specs.declared.stub.Stub.{Stub}
-use Rattle.tb_durable.specs.Rows.{stub_in, stub_bytes}
 use Rattle.tb_durable.proofs.rows.lay_stubs.Goals as goal
 
 abbrev read : List ℕ → Stub

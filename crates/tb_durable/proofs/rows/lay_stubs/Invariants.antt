@@ -1,5 +1,5 @@
 use Rattle.std.proofs.Common.{◌≡◌, ◌*◌, length, take}
-use Rattle.tb_durable.specs.Rows.{stubs_bytes, stubs_in}
+use Rattle.tb_durable.proofs.Words.{stubs_bytes, stubs_in}
 use Rattle.tb_durable.proofs.rows.lay_stubs.Given as goal
 
 abbrev pub invariant-loop-stub : goal.invariant-loop-stub

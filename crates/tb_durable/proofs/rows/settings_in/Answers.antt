@@ -1,5 +1,5 @@
 use Rattle.std.proofs.Common.{◌≡◌, ◌≤◌, ◌∙◌, ap, arith, length, sym}
-use Rattle.sqlite_value.specs.Order.{bytes}
+use Rattle.tb_durable.proofs.Words.{bytes}
 use Rattle.tb_durable.proofs.rows.settings_in.Goals as goal
 
 pub returns-in_err-first-clause-none : goal.returns-in_err-first-clause-none

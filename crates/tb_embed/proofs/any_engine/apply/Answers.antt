@@ -1,9 +1,5 @@
 use Rattle.std.proofs.Common.{subst, append_assoc, ◌++◌, [], ◌∷◌}
-use Rattle.std.specs.Prelude.{option_to_list}
-use Rattle.tb_core.specs.Front.{all_decisions_in}
-use Rattle.tb_core.specs.Grouping.{AreJoinedParcels}
-use Rattle.tb_core.specs.Run.{replies_in}
-use Rattle.tb_embed.specs.AnyEngine.{HasSentBy}
+use Rattle.tb_embed.proofs.Words.{option_to_list, all_decisions_in, AreJoinedParcels, replies_in, HasSentBy}
 use Rattle.tb_embed.proofs.AnyRun.{parcel_sent}
 use Rattle.tb_embed.proofs.any_engine.apply.Goals as goal
 

@@ -1,6 +1,5 @@
 use Rattle.std.proofs.Common.{◌++◌}
-use Rattle.std.specs.Prelude.{option_to_list}
-use Rattle.tb_core.specs.BareLedger.{HasSent}
+use Rattle.tb_embed.proofs.Words.{option_to_list, HasSent}
 use Rattle.tb_embed.proofs.Parcels.{ticket_taken}
 use Rattle.tb_embed.proofs.engine.pass.Goals as goal
 

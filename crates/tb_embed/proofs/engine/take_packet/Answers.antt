@@ -1,6 +1,6 @@
-use Rattle.std.proofs.Common.{◌++◌}
-use Rattle.std.specs.Prelude.{option_to_list}
-use Rattle.tb_core.specs.BareLedger.{HasSent}
+use Rattle.std.proofs.Common.{◌++◌, false, subst, sym}
+use Rattle.tb_batch.specs.claim.Grouping.{IsGroup}
+use Rattle.tb_embed.proofs.Words.{option_to_list, has_taken, take_result, AreJoinedParcels, HasSent}
 use Rattle.tb_embed.proofs.Parcels.{ticket_taken}
 use Rattle.tb_embed.proofs.engine.take_packet.Goals as goal
 
@@ -12,3 +12,11 @@ returns-in-Ok-apply-clause-taken c = λ start items read has.
     items front c.offer.new.front c.args.ticket (option_to_list c.in-Ok.parcel) c.offer.ensures.front
     c.requires.sender c.in-Ok.ensures.ok
     (λ sent joined had. c.in-Ok-apply.ensures.sent start front.limit sent read joined had) has
+
+pub take_back-requires-clause-group : goal.take_back-requires-clause-group
+take_back-requires-clause-group c =
+    let front = c.args.front.now in
+    let taken = has_taken false front c.args.ticket (take_result c.offer.new.front (option_to_list c.in-Ok.parcel))
+    c.offer.ensures.front c.requires.sender c.in-Ok.ensures.ok in
+    subst (λ limit. IsGroup limit c.in-Err-apply.batch) (sym taken.same.0)
+    (subst (λ parcel. AreJoinedParcels front.limit (option_to_list parcel)) c.in-Err-apply.ensures.batch taken.lawful).0

@@ -1,8 +1,8 @@
 use Rattle.std.proofs.Common.{◌≡◌, ◌≤◌, ◌++◌, [], length}
 use Rattle.std.specs.List.{flat_map}
 use Rattle.std.specs.VecDeque.{deque_len, deque_capacity}
-use Rattle.tb_core.specs.Run.{replies_in}
-use Rattle.tb_embed.specs.Unread.{replies_of}
+use Rattle.tb_embed.proofs.Words.{replies_in}
+use Rattle.tb_embed.specs.inside.Unread.{replies_of}
 use Rattle.tb_embed.proofs.unread.next_reply.Given as goal
 
 abbrev pub invariant-loop-first : goal.invariant-loop-first

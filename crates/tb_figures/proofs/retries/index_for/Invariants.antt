@@ -1,4 +1,4 @@
-use Rattle.tb_figures.specs.Retries.{AreUpTo}
+use Rattle.tb_figures.proofs.Words.{AreUpTo}
 use Rattle.tb_figures.proofs.retries.index_for.Given as goal
 
 abbrev pub invariant-loop-index : goal.invariant-loop-index

@@ -1,7 +1,7 @@
 use Rattle.std.proofs.Common.{ap, sym, ◌∙◌, ◌≡◌, arith, take, append_assoc, append-nil}
 use Rattle.std.proofs.lemmas.List.{take_all}
-use Rattle.tb_layout.specs.Account.{account_of}
-use Rattle.tb_layout.specs.inside.Records.{account_bytes}
+use Rattle.tb_layout.specs.claim.Account.{account_of}
+use Rattle.tb_layout.specs.clauses.Records.{account_bytes}
 use Rattle.tb_layout.proofs.Records.{account_of-account_bytes, account_bytes-account_of}
 use Rattle.tb_layout.proofs.account.write_account.Goals as goal
 

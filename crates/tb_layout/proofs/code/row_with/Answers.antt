@@ -1,7 +1,7 @@
 use Rattle.std.proofs.Common.{sym, ap, ◌∙◌, rules, map}
 use Rattle.std.proofs.Math.Seq.{drop-cons}
 use Rattle.std.proofs.lemmas.List.{drop_all}
-use Rattle.tb_layout.specs.inside.Codes.{first_with, read_row}
+use Rattle.tb_layout.specs.clauses.Codes.{first_with, read_row}
 use Rattle.tb_layout.proofs.Codes.{passed_over}
 use Rattle.tb_layout.proofs.code.row_with.Goals as goal
 

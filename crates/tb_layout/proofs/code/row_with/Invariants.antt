@@ -1,5 +1,5 @@
 use Rattle.std.proofs.Common.{◌≡◌, drop, map}
-use Rattle.tb_layout.specs.inside.Codes.{first_with, read_row}
+use Rattle.tb_layout.specs.clauses.Codes.{first_with, read_row}
 use Rattle.tb_layout.proofs.code.row_with.Given as goal
 
 abbrev pub invariant-loop-row : goal.invariant-loop-row

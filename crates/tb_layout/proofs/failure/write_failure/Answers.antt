@@ -1,6 +1,6 @@
 use Rattle.std.proofs.Common.{ap, sym, ◌∙◌, ◌≡◌, arith, take, append_assoc, append-nil}
 use Rattle.std.proofs.lemmas.List.{take_all}
-use Rattle.tb_layout.specs.Failure.{failure_of, failure_bytes}
+use Rattle.tb_layout.specs.clauses.Failure.{failure_of, failure_bytes}
 use Rattle.tb_layout.proofs.Records.{failure_of-failure_bytes, failure_bytes-failure_of}
 use Rattle.tb_layout.proofs.failure.write_failure.Goals as goal
 

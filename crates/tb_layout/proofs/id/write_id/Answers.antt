@@ -1,6 +1,6 @@
 use Rattle.std.proofs.Common.{◌≡◌, ◌∙◌, ap, take}
-use Rattle.tb_layout.specs.inside.Bytes.{bytes_of}
-use Rattle.tb_layout.specs.Bytes.{little_endian}
+use Rattle.tb_layout.specs.claim.BytesOfNumbers.{bytes_of}
+use Rattle.tb_layout.specs.claim.Bytes.{little_endian}
 use Rattle.tb_layout.proofs.Numbers.{little_endian-bytes_of}
 use Rattle.tb_layout.proofs.id.write_id.Goals as goal
 

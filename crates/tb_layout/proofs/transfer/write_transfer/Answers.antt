@@ -1,7 +1,7 @@
 use Rattle.std.proofs.Common.{ap, sym, ◌∙◌, ◌≡◌, arith, take, append_assoc, append-nil}
 use Rattle.std.proofs.lemmas.List.{take_all}
-use Rattle.tb_layout.specs.Transfer.{transfer_of}
-use Rattle.tb_layout.specs.inside.Records.{transfer_bytes}
+use Rattle.tb_layout.specs.claim.Transfer.{transfer_of}
+use Rattle.tb_layout.specs.clauses.Records.{transfer_bytes}
 use Rattle.tb_layout.proofs.Records.{transfer_of-transfer_bytes, transfer_bytes-transfer_of}
 use Rattle.tb_layout.proofs.transfer.write_transfer.Goals as goal
 

@@ -1,9 +1,6 @@
 use Rattle.std.proofs.Common.{◌≡◌, ◌∙◌, refl, sym, ap, Option, Some, None}
-use Rattle.std.specs.Option.{option_map}
-use Rattle.tb_layout.specs.declared.account.Account.{Account}
-use Rattle.tb_tables.specs.Facts.{Facts, account_with}
-use Rattle.tb_tables.specs.Balances.{with_balances}
-use Rattle.tb_machine.specs.AccountVerdict.{against_id}
+use Rattle.tb_machine.proofs.Words.{option_map, Account, Facts, account_with, with_balances}
+use Rattle.tb_machine.specs.claim.AccountVerdict.{against_id}
 use Rattle.tb_machine.proofs.account_verdict.account_verdict.Goals as goal
 
 -- the balances of the account with its id don't matter

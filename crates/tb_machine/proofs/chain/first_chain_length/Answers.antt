@@ -1,6 +1,6 @@
 -- Found by the prover itself, but late; on file since a check then costs less.
 use Rattle.std.proofs.Common.{arith}
-use Rattle.std.proofs.lemmas.Grind.{common_steps}
+use Rattle.tb_machine.proofs.Words.{common_steps}
 use Rattle.tb_machine.proofs.chain.first_chain_length.Goals as goal
 
 pub loop-index-preserved : goal.loop-index-preserved

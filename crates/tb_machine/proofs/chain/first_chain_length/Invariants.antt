@@ -1,5 +1,5 @@
 use Rattle.std.proofs.Common.{◌≡◌, ◌+◌, drop, map}
-use Rattle.tb_machine.specs.Examining.{first_chain_length}
+use Rattle.tb_machine.proofs.Words.{first_chain_length}
 use Rattle.tb_machine.proofs.chain.first_chain_length.Given as goal
 
 abbrev pub invariant-loop-index : goal.invariant-loop-index

@@ -1,7 +1,5 @@
 use Rattle.std.proofs.Common.{◌≡◌, ◌-◌, ◌≤◌, length, drop, map, vec_len}
-use Rattle.std.specs.Prelude.{vec_capacity}
-use Rattle.tb_tables.specs.History.{Extends}
-use Rattle.tb_layout.specs.Limits.{clock_max}
+use Rattle.tb_machine.proofs.Words.{vec_capacity, Extends, clock_max}
 use Rattle.tb_machine.proofs.FirstChain.{IsLeft}
 use Rattle.tb_machine.proofs.commit.commit_chains.Given as goal
 

@@ -1,6 +1,5 @@
 use Rattle.std.proofs.Common.{◌∙◌, ap, sym, ◌++◌, append-nil, map, arith}
-use Rattle.std.specs.Prelude.{is_some}
-use Rattle.std.proofs.lemmas.Grind.{common_steps}
+use Rattle.tb_machine.proofs.Words.{is_some, common_steps}
 use Rattle.tb_machine.proofs.Faults.{fault-below, quiet_as}
 use Rattle.tb_machine.proofs.Failures.{failures_from-quiet}
 use Rattle.tb_machine.proofs.commit.commit_closed_chain.Goals as goal

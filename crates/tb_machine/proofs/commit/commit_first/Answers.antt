@@ -1,6 +1,6 @@
 -- Found by the prover itself; on file since the check of an edit then costs less.
 use Rattle.std.proofs.Common.{arith, rules}
-use Rattle.std.proofs.lemmas.Grind.{common_steps}
+use Rattle.tb_machine.proofs.Words.{common_steps}
 use Rattle.tb_machine.proofs.commit.commit_first.Goals as goal
 
 pub returns-then-not-is_chunk_linked-clause-count : goal.returns-then-not-is_chunk_linked-clause-count

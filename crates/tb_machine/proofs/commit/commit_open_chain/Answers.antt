@@ -1,13 +1,12 @@
 use Rattle.std.proofs.Common.{append_assoc, arith}
-use Rattle.std.proofs.lemmas.List.{length-map}
-use Rattle.std.proofs.lemmas.Grind.{common_steps}
+use Rattle.tb_machine.proofs.Words.{length-map, common_steps}
 use Rattle.tb_machine.proofs.Faults.{fault-below}
 use Rattle.tb_machine.proofs.Failures.{failures_from-open}
 use Rattle.tb_machine.proofs.commit.commit_open_chain.Goals as goal
 
 pub report_failed-requires-clause-below : goal.report_failed-requires-clause-below
 report_failed-requires-clause-below g c =
-    rw (c.with_event-fault.ensures, c.in_ok-examine_all.ensures.fault)
+    rw (c.with_event-fault.ensures, c.in_ok-try_store_all.ensures.fault)
     (fault-below g.E.CreateEvent.operation g.E.CreateEvent.event_of c.args.start.clock c.args.tables.now.now c.args.front.now)
 
 pub returns-clause-failures : goal.returns-clause-failures
@@ -20,7 +19,7 @@ returns-clause-failures g c =
       c.push_reserved.ensures.items,
       c.report_failed.ensures.items,
       c.with_event-fault.ensures,
-      c.in_ok-examine_all.ensures.fault,
+      c.in_ok-try_store_all.ensures.fault,
     ) (simp append_assoc)
 
 pub returns-in_err-undo_chain-clause-extends : goal.returns-in_err-undo_chain-clause-extends

@@ -1,17 +1,15 @@
 use Rattle.std.proofs.Common.{ap, subst}
-use Rattle.tb_layout.specs.declared.transfer.Transfer.{Transfer}
-use Rattle.tb_tables.specs.Facts.{transfer_with}
-use Rattle.tb_tables.specs.Conditions.{MayAdd}
+use Rattle.tb_machine.proofs.Words.{Transfer, transfer_with, MayAdd}
 use Rattle.tb_machine.proofs.StoredEvents.{fits, may_add, has_debit, resolves_nothing}
 use Rattle.tb_machine.proofs.event.store_new.Goals as goal
 
-pub add_new_between-requires-clause-fits : goal.add_new_between-requires-clause-fits
-add_new_between-requires-clause-fits c =
+pub insert_between-requires-clause-fits : goal.insert_between-requires-clause-fits
+insert_between-requires-clause-fits c =
     λ _. fits c.args.tables.now.now c.args.timestamp c.args.event.now c.requires.clock
     c.requires.ok c.requires.target.0
 
-pub add_new_between-requires-clause-may : goal.add_new_between-requires-clause-may
-add_new_between-requires-clause-may c = λ new.
+pub insert_between-requires-clause-may : goal.insert_between-requires-clause-may
+insert_between-requires-clause-may c = λ new.
     let facts = c.args.tables.now.now in
     let event = c.args.event.now in
     let plain = c.requires.target.0 in

@@ -1,7 +1,5 @@
 use Rattle.std.proofs.Common.{refl, ap, append-nil}
-use Rattle.tb_layout.specs.Events.{Accounts, Transfers}
-use Rattle.tb_machine.specs.Operations.{accounts_operation, transfers_operation}
-use Rattle.tb_machine.specs.Replay.{accounts_found}
+use Rattle.tb_machine.proofs.Words.{Accounts, Transfers, accounts_operation, transfers_operation, accounts_found}
 use Rattle.tb_machine.proofs.Joined.{after_as_many, joining_group}
 use Rattle.tb_machine.proofs.joining.joining_is_invisible.Goals as goal
 

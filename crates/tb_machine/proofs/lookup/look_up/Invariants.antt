@@ -1,7 +1,6 @@
 use Rattle.std.proofs.Common.{◌≡◌, ◌≤◌, ◌++◌, drop, map, vec_len}
-use Rattle.std.specs.Prelude.{vec_capacity}
-use Rattle.tb_layout.specs.Bytes.{little_endian}
-use Rattle.tb_machine.specs.Replay.{accounts_found}
+use Rattle.tb_machine.proofs.Words.{vec_capacity, accounts_found}
+use Rattle.tb_layout.specs.claim.Bytes.{little_endian}
 use Rattle.tb_machine.proofs.lookup.look_up.Given as goal
 
 abbrev pub invariant-loop-chunk : goal.invariant-loop-chunk

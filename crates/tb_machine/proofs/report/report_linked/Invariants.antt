@@ -1,6 +1,5 @@
 use Rattle.std.proofs.Common.{◌≡◌, ◌+◌, ◌++◌, replicate, vec_len}
-use Rattle.std.specs.Prelude.{vec_capacity}
-use Rattle.tb_machine.specs.Chain.{failures_from}
+use Rattle.tb_machine.proofs.Words.{vec_capacity, failures_from}
 use Rattle.tb_machine.proofs.report.report_linked.Given as goal
 
 abbrev pub invariant-loop-k : goal.invariant-loop-k

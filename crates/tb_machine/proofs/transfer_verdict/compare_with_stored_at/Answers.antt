@@ -1,8 +1,5 @@
 use Rattle.std.proofs.Common.{sym, ap, ◌∙◌}
-use Rattle.tb_layout.specs.declared.transfer_code.TransferCode.TheVariants.{Exists}
-use Rattle.tb_tables.specs.Facts.{transfer_with}
-use Rattle.tb_machine.specs.Checks.{first_row}
-use Rattle.tb_machine.specs.TransferVerdict.{against_id, stored_checks}
+use Rattle.tb_machine.proofs.Words.{Exists, transfer_with, first_row, against_id, stored_checks}
 use Rattle.tb_machine.proofs.StoredEvents.{resolves_nothing}
 use Rattle.tb_machine.proofs.transfer_verdict.compare_with_stored_at.Goals as goal
 

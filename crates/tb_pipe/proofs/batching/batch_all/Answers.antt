@@ -1,8 +1,5 @@
 use Rattle.std.proofs.Common.{◌∙◌, ◌≤◌, refl, sym, subst, inl, inr, length}
-use Rattle.std.proofs.lemmas.List.Elements.{Contains-push}
-use Rattle.tb_core.specs.Front.{HaveAllEnded}
-use Rattle.tb_rings.specs.Ends.{given}
-use Rattle.tb_submit.specs.Ends.{with_empty}
+use Rattle.tb_pipe.proofs.Words.{Contains-push, HaveAllEnded, given, with_empty}
 use Rattle.tb_pipe.proofs.Batches.{all_batched, empty_more, intake_empty, intake_more}
 use Rattle.tb_pipe.proofs.batching.batch_all.Goals as goal
 

@@ -1,6 +1,5 @@
 use Rattle.std.proofs.Common.{◌≡◌, []}
-use Rattle.tb_rings.specs.Ends.{given, SameOutlet}
-use Rattle.tb_pipe.specs.Carried.{IsBatched}
+use Rattle.tb_pipe.proofs.Words.{given, SameOutlet, IsBatched}
 use Rattle.tb_pipe.proofs.Batches.{IsSameIntake}
 use Rattle.tb_pipe.proofs.batching.batch_all.Given as goal
 

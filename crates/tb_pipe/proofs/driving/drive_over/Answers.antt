@@ -1,32 +1,29 @@
-use Rattle.std.proofs.Common.{◌∙◌, ap, length, map, subst, sym}
-use Rattle.std.proofs.lemmas.List.{length-map}
-use Rattle.std.proofs.lemmas.Result.{IfOk-from_err, IfOk-weaker}
-use Rattle.tb_submit.specs.Ends.{origin_of}
-use Rattle.tb_drive.specs.Tasks.{ControlTaskState, task_submitter}
-use Rattle.tb_pipe.specs.Reported.{GoesFrom, HasFinishedWith, HasRun}
+use Rattle.std.proofs.Common.{◌∙◌, ap, length, refl, subst, sym}
+use Rattle.tb_pipe.proofs.Words.{length-map, IfOk-from_err, IfOk-weaker, origin_of, ControlTaskState, GoesFrom, HasReported}
 use Rattle.tb_pipe.proofs.driving.drive_over.Goals as goal
 
 pub returns-clause-reported : goal.returns-clause-reported
 returns-clause-reported g c =
     let opened = c.args.opened in
-    let tasks = c.in_ok-tasks.tasks in
-    let ended = g.C.ControlDriver.has_ended in
-    let said = HasFinishedWith g.D.Driver.has_seen g.D.Driver.has_ended in
     let may_be = g.L.AnyLedger.is in
+    let seen = g.D.Driver.has_seen in
+    let done = g.D.Driver.has_ended in
+    let ended = g.C.ControlDriver.has_ended in
+    let tasks = c.in_ok-tasks.tasks in
+    let control = c.in_ok-tasks.ensures.control in
     IfOk-weaker c.scoped.result
     (λ finished. GoesFrom (may_be opened.pipeline.start) (may_be finished.report.ledger)
-    (HasRun g.D.Driver.has_seen g.D.Driver.has_ended ended opened.pipeline.intake tasks finished))
+    (HasReported seen done (ended tasks.control.driver) opened finished))
     (λ finished. GoesFrom (may_be opened.pipeline.start) (may_be finished.report.ledger)
-    (said (ended c.args.control) opened.pipeline.intake opened.submitters.items opened.control finished))
+    (HasReported seen done (ended c.args.control) opened finished))
     (λ finished run start began. (
       (run start began).0,
       (run start began).1,
-      subst (λ before. said (ended c.args.control) opened.pipeline.intake before opened.control finished start
-          (run start began).0) c.in_ok-tasks.ensures.submitters
-          (subst (λ (control : ControlTaskState _). said (ended control.driver) opened.pipeline.intake
-          (map task_submitter tasks.submitters) control.control finished start (run start began).0)
-          c.in_ok-tasks.ensures.control (run start began).2),
-    )) c.scoped.ensures.1.0
+      subst (λ (task : ControlTaskState _). HasReported seen done (ended task.driver) opened finished start
+          (run start began).0) control (run start began).2,
+    ))
+    (c.scoped.ensures.1.0 opened
+    (refl, sym c.in_ok-tasks.ensures.submitters, ap (λ (task : ControlTaskState _). task.control) (sym control)))
 
 pub returns-clause-shares : goal.returns-clause-shares
 returns-clause-shares g c =

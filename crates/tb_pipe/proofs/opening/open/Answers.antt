@@ -1,9 +1,5 @@
 use Rattle.std.proofs.Common.{◌≡◌, ◌∙◌, ap, arith, refl, subst, sym}
-use Rattle.tb_core.specs.Journal.{LedgerState}
-use Rattle.tb_core.specs.Front.{FrontState}
-use Rattle.tb_rings.specs.Ends.{given, taken}
-use Rattle.tb_submit.specs.Ends.{IntakeState, seat_at}
-use Rattle.tb_pipe.specs.Carried.{IsBatched, IsCommitted}
+use Rattle.tb_pipe.proofs.Words.{LedgerState, FrontState, given, taken, IntakeState, seat_at, IsBatched, IsCommitted}
 use Rattle.tb_pipe.proofs.Fresh.{fresh_batched, fresh_committed, fresh_replies}
 use Rattle.tb_pipe.proofs.Origins.{length-origins, seat-origins}
 use Rattle.tb_pipe.proofs.opening.open.Goals as goal

@@ -1,5 +1,5 @@
 use Rattle.std.proofs.Common.{length}
-use Rattle.tb_pipe.specs.Outlets.{SameOutlets, AllLeft}
+use Rattle.tb_pipe.proofs.Words.{SameOutlets, AllLeft}
 use Rattle.tb_pipe.proofs.routing.route_all.Given as goal
 
 abbrev pub invariant-loop-reply : goal.invariant-loop-reply

@@ -1,7 +1,5 @@
 use Rattle.std.proofs.Common.{refl, subst}
-use Rattle.tb_core.specs.Journal.{LedgerState}
-use Rattle.tb_pipe.specs.Reported.{IsReport}
-use Rattle.tb_pipe.specs.SettledRun.{run_of}
+use Rattle.tb_pipe.proofs.Words.{LedgerState, IsReport, run_of}
 use Rattle.tb_pipe.proofs.settling.settle.Goals as goal
 
 -- a `Ledger` is only itself
@@ -15,7 +13,7 @@ reported c =
     c.args.control.queued) said.1 said.2
 
 pub returns-clause-report : goal.returns-clause-report
-returns-clause-report c = (reported c).report
+returns-clause-report c = (reported c).lawful
 
 pub returns-clause-headline : goal.returns-clause-headline
 returns-clause-headline c = (reported c).headline

@@ -148,7 +148,7 @@ impl Driver for Busy {
         packet_of(alloc, CREATE_ACCOUNTS, 0).map_or(Action::End, Action::Submit)
     }
 
-    fn submitted(&mut self, _told: Result<u64, Refusal>) {}
+    fn submitted(&mut self, _response: Result<u64, Refusal>) {}
 
     fn receive(&mut self, _reply: Reply) {}
 }
@@ -163,7 +163,7 @@ impl ControlDriver for Busy {
         }
     }
 
-    fn pulsed(&mut self, _told: Result<(), Refusal>) {}
+    fn pulsed(&mut self, _response: Result<(), Refusal>) {}
 }
 
 /// Runs drivers in threads of their own while another gives the run up. Returns why the run gives nothing.

@@ -1,8 +1,8 @@
 //! Clients: their calls in a run that is served, and once it is given up.
 
 ghost use Rattle.std.specs.Prelude.{◌≡◌, ◌∷◌, []};
-ghost use Rattle.tb_submit.specs.Ends.{control_seat, origin_of};
-ghost use Rattle.tb_pipe_tests.specs.Together.{AreTogether};
+ghost use Rattle.tb_submit.specs.clauses.Ends.{control_seat, origin_of};
+ghost use Rattle.tb_pipe_tests.specs.inside.Together.{AreTogether};
 
 use super::{
     Lone, Told, assert_run, end_control, lone_of, opened, packet_of, put, room_for_ends, told_by,
@@ -147,11 +147,13 @@ fn client_of_a_run_that_is_given_up(rt: HostRuntime) {
     } = lone;
     let mut client = Client::new(submitter, &stop);
     check!(&rt; submit(&rt, rt.alloc(), &mut client, 1) == Ok(0));
-    check!(&rt; !stop.is_asked());
-    stop.ask();
-    check!(&rt; stop.is_asked());
+    check!(&rt; !stop.is_given_up());
+    stop.give_up();
+    check!(&rt; stop.is_given_up());
     check!(&rt; submit(&rt, rt.alloc(), &mut client, 2) == Err(Refusal::Full));
+    check!(&rt; client.queued() == 1);
     check!(&rt; receive(&rt, &mut client).is_none());
+    check!(&rt; client.in_flight() == 1);
     check!(&rt; client.end(&rt).is_none());
     drop(pipeline);
     drop(control);
@@ -168,7 +170,7 @@ fn exchange_in_a_run_that_is_given_up(rt: HostRuntime) {
         control,
     } = lone;
     let mut client = Client::new(submitter, &stop);
-    stop.ask();
+    stop.give_up();
     check!(&rt; exchange(&rt, rt.alloc(), &mut client, 1) == Ok(None));
     drop(client);
     drop(pipeline);

@@ -1,8 +1,8 @@
 //! The control in a thread of its own: its calls in a run that is served, and once it is given up.
 
 ghost use Rattle.std.specs.Prelude.{◌≡◌, ◌∷◌, [], IfSome, map};
-ghost use Rattle.tb_submit.specs.Ends.{control_seat, end_origin};
-ghost use Rattle.tb_pipe_tests.specs.Together.{AreTogether};
+ghost use Rattle.tb_submit.specs.clauses.Ends.{control_seat, end_origin};
+ghost use Rattle.tb_pipe_tests.specs.inside.Together.{AreTogether};
 
 use super::clients::open_narrow;
 use super::{
@@ -154,8 +154,9 @@ fn assert_given_up<R: Wait + Abort>(rt: &R, alloc: Global, shuts: bool) {
     } = lone;
     let mut control = ControlClient::new(control, &stop);
     pulse(rt, &mut control, 1);
-    stop.ask();
+    stop.give_up();
     check!(rt; control.pulse(rt, 2) == Err(Refusal::Full));
+    check!(rt; control.queued() == 1);
     let end = if shuts {
         control.shut(rt)
     } else {

@@ -1,7 +1,7 @@
 //! Runs over one ledger: what a run leaves goes on in the next one.
 
 ghost use Rattle.std.specs.Prelude.{◌≡◌, ◌∷◌, []};
-ghost use Rattle.tb_pipe_tests.specs.Together.{AreTogether};
+ghost use Rattle.tb_pipe_tests.specs.inside.Together.{AreTogether};
 
 use super::{Lone, finish_lone, open_lone, queue_accounts};
 use std::alloc::Global;
@@ -148,8 +148,8 @@ impl Driver for Clerk {
         packet.map_or(Action::End, Action::Submit)
     }
 
-    fn submitted(&mut self, told: Result<u64, Refusal>) {
-        if told.is_ok() {
+    fn submitted(&mut self, response: Result<u64, Refusal>) {
+        if response.is_ok() {
             self.unread = self.unread.saturating_add(1);
         }
     }

@@ -1,8 +1,8 @@
 //! Senders in a thread of their own, while the pipeline is served.
 
 ghost use Rattle.std.specs.Prelude.{◌≡◌, ◌++◌, ◌∷◌, [], map, IfOk};
-ghost use Rattle.tb_submit.specs.Ends.{origin_of, end_origin, control_seat};
-ghost use Rattle.tb_pipe_tests.specs.Together.{AreTogether, IsRun};
+ghost use Rattle.tb_submit.specs.clauses.Ends.{origin_of, end_origin, control_seat};
+ghost use Rattle.tb_pipe_tests.specs.inside.Together.{AreTogether, IsRun};
 
 use super::gates::Counted;
 use super::{
@@ -65,7 +65,7 @@ struct ComesBack {
 
 impl Promise<Driven> for ComesBack {
     ghost use Rattle.std.specs.Prelude.{◌≡◌};
-    ghost use Rattle.tb_submit.specs.Ends.{origin_of, end_origin};
+    ghost use Rattle.tb_submit.specs.clauses.Ends.{origin_of, end_origin};
 
     ghost kept_by = { λ p r. (end_origin r.ended ≡ origin_of p.submitter.value)
         × (r.control.seat ≡ p.control.value.seat) };

@@ -69,8 +69,8 @@ impl Driver for Sender {
         accounts_packet(alloc, &[account(1, 0), account(2, 0)]).map_or(Action::End, Action::Submit)
     }
 
-    fn submitted(&mut self, told: Result<u64, Refusal>) {
-        if told.is_ok() {
+    fn submitted(&mut self, response: Result<u64, Refusal>) {
+        if response.is_ok() {
             self.unread = self.unread.saturating_add(1);
         }
     }

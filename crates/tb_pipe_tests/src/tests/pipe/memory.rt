@@ -3,8 +3,8 @@
 //! replies, and ask again for what they need themselves.
 
 ghost use Rattle.std.specs.Prelude.{◌≡◌, ◌++◌, ◌∷◌, [], IfOk, map};
-ghost use Rattle.tb_submit.specs.Ends.{control_seat, end_origin, origin_of};
-ghost use Rattle.tb_pipe_tests.specs.Together.{AreTogether};
+ghost use Rattle.tb_submit.specs.clauses.Ends.{control_seat, end_origin, origin_of};
+ghost use Rattle.tb_pipe_tests.specs.inside.Together.{AreTogether};
 
 use super::driven::{Course, Driving, Saw, drive_lone, run};
 use super::gates::Counted;

@@ -1,7 +1,7 @@
 //! Sixteen clients and the control, far past a handful of packets, in a queue of one slot.
 
 ghost use Rattle.std.specs.Prelude.{◌≡◌};
-ghost use Rattle.tb_submit.specs.Ends.{origin_of};
+ghost use Rattle.tb_submit.specs.clauses.Ends.{origin_of};
 
 use super::clients::{exchange, open_narrow, receive, submit};
 use super::controls::pulse;
@@ -49,7 +49,7 @@ fn trade<R: Wait + Abort>(rt: &R, alloc: Global, client: &mut Client<'_>, packet
 {
     for number in 0..packets {
         let is_committed = trade_one(rt, alloc, client, number);
-        if stop.is_asked() {
+        if stop.is_given_up() {
             return;
         }
         check!(rt; is_committed);

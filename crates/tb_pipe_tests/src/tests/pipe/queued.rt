@@ -1,9 +1,9 @@
 //! Runs with everything queued before they are served.
 
 ghost use Rattle.std.specs.Prelude.{◌≡◌, map};
-ghost use Rattle.tb_submit.specs.Ends.{end_origin, origin_of};
-ghost use Rattle.tb_core.specs.Ledger.{new_ledger};
-ghost use Rattle.tb_pipe_tests.specs.Together.{AreTogether, IsRun};
+ghost use Rattle.tb_submit.specs.clauses.Ends.{end_origin, origin_of};
+ghost use Rattle.tb_core.specs.claim.Ledger.{new_ledger};
+ghost use Rattle.tb_pipe_tests.specs.inside.Together.{AreTogether, IsRun};
 
 use super::{
     Ends, Told, answer_to, assert_entries, assert_report, assert_run, end_all, end_control,

@@ -1,12 +1,12 @@
 //! From opening to the content of a reply.
 
 ghost use Rattle.std.specs.Prelude.{◌≡◌, ◌∷◌, []};
-ghost use Rattle.tb_submit.specs.Ends.{end_origin, ended_with, new_control, sender_with, with_item};
-ghost use Rattle.tb_work.specs.Job.{numbered_packet};
+ghost use Rattle.tb_submit.specs.clauses.Ends.{end_origin, ended_with, new_control, sender_with, with_item};
+ghost use Rattle.tb_work.specs.claim.Job.{numbered_packet};
 ghost use Rattle.tb_work.specs.declared.item.Item.TheVariants as item;
 ghost use Rattle.tb_work.specs.declared.packet.Packet.{Packet as PacketValue};
-ghost use Rattle.tb_core.specs.Ledger.{new_ledger};
-ghost use Rattle.tb_pipe_tests.specs.OnePacket.{IsReplyToOne, IsRunOfOne, one_and_end};
+ghost use Rattle.tb_core.specs.claim.Ledger.{new_ledger};
+ghost use Rattle.tb_pipe_tests.specs.inside.OnePacket.{IsReplyToOne, IsRunOfOne, one_and_end};
 
 use super::{lone_of, look_of, put, room_for_ends};
 use std::alloc::Global;

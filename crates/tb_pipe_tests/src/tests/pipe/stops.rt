@@ -1,7 +1,7 @@
 //! Giving a run up: whom it wakes, and that `serve` returns if it runs.
 
 ghost use Rattle.std.specs.Prelude.{◌≡◌};
-ghost use Rattle.tb_submit.specs.Ends.{origin_of};
+ghost use Rattle.tb_submit.specs.clauses.Ends.{origin_of};
 
 use super::clients::{open_narrow, receive, submit};
 use super::{Lone, Told, end_control, opened, packet_of};
@@ -125,7 +125,7 @@ impl<'s> Gate for Late<'s> {
 
     fn may_commit(&self, _batch: u64) -> bool {
         let left = self.left.load(SeqCst);
-        if left > 0 && self.stop.is_asked() {
+        if left > 0 && self.stop.is_given_up() {
             self.left.store(left - 1, SeqCst);
         }
         left == 0
@@ -142,7 +142,7 @@ pub(super) fn give_way(turns: u32) {
 /// Gives a run up after some turns.
 pub(super) fn ask_later(stop: &Stop, turns: u32) {
     give_way(turns);
-    stop.ask();
+    stop.give_up();
 }
 
 /// Serves a client that is busy, while another thread gives the run up. Returns whether it was served, and whether the client

@@ -1,5 +1,5 @@
 use Rattle.std.proofs.Common.{◌≡◌, map, take}
-use Rattle.tb_program.specs.Operations.{operation_in}
+use Rattle.tb_program.proofs.Words.{operation_in}
 use Rattle.tb_program.proofs.list.operations_of.Given as goal
 
 abbrev pub invariant-loop-item : goal.invariant-loop-item

@@ -1,7 +1,5 @@
 use Rattle.std.proofs.Common.{◌≡◌, take}
-use Rattle.std.specs.List.{flat_map}
-use Rattle.tb_program.specs.Drivers.{lists_of}
-use Rattle.tb_program.specs.Operations.{operations_of}
+use Rattle.tb_program.proofs.Words.{flat_map, lists_of, operations_of}
 use Rattle.tb_program.proofs.operations.operations_shared.Given as goal
 
 abbrev pub invariant-loop-packets : goal.invariant-loop-packets

@@ -1,5 +1,5 @@
 use Rattle.std.proofs.Common.{◌≡◌, ◌++◌, take}
-use Rattle.tb_program.specs.Operations.{operations_of}
+use Rattle.tb_program.proofs.Words.{operations_of}
 use Rattle.tb_program.proofs.operations.put_operations.Given as goal
 
 abbrev pub invariant-loop-packet : goal.invariant-loop-packet

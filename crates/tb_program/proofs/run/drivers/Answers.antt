@@ -1,8 +1,5 @@
 use Rattle.std.proofs.Common.{rules, ◌≡◌, ◌++◌, ◌∷◌, [], Vec, sym, subst}
-use Rattle.std.proofs.lemmas.List.{map-append}
-use Rattle.std.specs.declared.alloc.Global.{Global}
-use Rattle.tb_work.specs.declared.packet.Packet.{Packet}
-use Rattle.tb_program.specs.Drivers.{AreNew, share_of}
+use Rattle.tb_program.proofs.Words.{map-append, Global, Packet, AreNew, share_of}
 use Rattle.tb_program.proofs.Noting.{one_more_new}
 use Rattle.tb_program.proofs.run.drivers.Goals as goal
 

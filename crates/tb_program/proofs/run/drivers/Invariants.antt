@@ -1,5 +1,5 @@
 use Rattle.std.proofs.Common.{◌≡◌, map}
-use Rattle.tb_program.specs.Drivers.{AreNew, lists_of, share_of}
+use Rattle.tb_program.proofs.Words.{AreNew, lists_of, share_of}
 use Rattle.tb_program.proofs.run.drivers.Given as goal
 
 abbrev pub invariant-loop-packets : goal.invariant-loop-packets

@@ -1,7 +1,5 @@
 use Rattle.std.proofs.Common.{rules, ◌≡◌, ℕ, ◌≤◌, le-ltb, None, refl}
-use Rattle.tb_layout.specs.inside.Limits.{batch_max, capacity_max, submitters_max}
-use Rattle.tb_submit.specs.Refusals.{queue_refusal}
-use Rattle.tb_program_text.specs.Script.{limit_of, capacity_of, credit_of, submitters_of}
+use Rattle.tb_program.proofs.Words.{batch_max, capacity_max, submitters_max, queue_refusal, limit_of, capacity_of, credit_of, submitters_of}
 use Rattle.tb_program.proofs.Noting.{are_fresh, have_credit}
 use Rattle.tb_program.proofs.run.open_for.Goals as goal
 

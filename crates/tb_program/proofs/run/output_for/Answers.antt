@@ -1,10 +1,6 @@
 use Rattle.std.proofs.Common.{rules, ◌≡◌, ◌∙◌, length, ap}
-use Rattle.std.specs.List.{flat_map}
+use Rattle.tb_program.proofs.Words.{flat_map, clock_of, items_of, limit_of, submitters_of, lists_of, operations_of, AreDealt, moments_asked, shares_of, shuts_in}
 use Rattle.tb_program_text.specs.declared.item.Settings.{Settings}
-use Rattle.tb_program_text.specs.Script.{clock_of, items_of, limit_of, submitters_of}
-use Rattle.tb_program.specs.Drivers.{lists_of}
-use Rattle.tb_program.specs.Operations.{operations_of}
-use Rattle.tb_program.specs.Sharing.{AreDealt, moments_asked, shares_of, shuts_in}
 use Rattle.tb_program.proofs.Sharing.{dealt_lists}
 use Rattle.tb_program.proofs.run.output_for.Goals as goal
 

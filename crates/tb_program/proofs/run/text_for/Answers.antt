@@ -1,10 +1,5 @@
 use Rattle.std.proofs.Common.{◌∙◌, Vec, length, ap, sym, arith}
-use Rattle.std.proofs.lemmas.List.{length-map}
-use Rattle.std.specs.declared.alloc.Global.{Global}
-use Rattle.tb_core.specs.Journal.{LedgerState}
-use Rattle.tb_core.specs.Ledger.{new_ledger}
-use Rattle.tb_work.specs.declared.packet.Packet.{Packet}
-use Rattle.tb_program.specs.Drivers.{share_of}
+use Rattle.tb_program.proofs.Words.{length-map, Global, LedgerState, new_ledger, Packet, share_of}
 use Rattle.tb_program.proofs.run.text_for.Goals as goal
 
 pub run_opened-requires-clause-number : goal.run_opened-requires-clause-number

@@ -1,9 +1,5 @@
 use Rattle.std.proofs.Common.{◌≡◌, ◌∙◌, ◌+◌, ◌++◌, ◌∷◌, [], Some, ap, sym, take, string_bytes}
-use Rattle.std.specs.List.{flat_map, slice_get}
-use Rattle.std.proofs.lemmas.List.{take_more, flat_map_more}
-use Rattle.std.proofs.lemmas.Option.{get_or_from_slice_get, slice_get_within}
-use Rattle.tb_machine.specs.inside.Accounts.{balanced_accounts}
-use Rattle.tb_program_text.specs.Output.{account_line}
+use Rattle.tb_program.proofs.Words.{flat_map, slice_get, take_more, flat_map_more, get_or_from_slice_get, slice_get_within, balanced_accounts, account_line}
 use Rattle.tb_program.proofs.state.put_accounts.Goals as goal
 
 pub loop-place-preserved : goal.loop-place-preserved

@@ -1,7 +1,5 @@
 use Rattle.std.proofs.Common.{◌≡◌, ◌++◌, take, string_bytes}
-use Rattle.std.specs.List.{flat_map}
-use Rattle.tb_machine.specs.inside.Accounts.{balanced_accounts}
-use Rattle.tb_program_text.specs.Output.{account_line}
+use Rattle.tb_program.proofs.Words.{flat_map, balanced_accounts, account_line}
 use Rattle.tb_program.proofs.state.put_accounts.Given as goal
 
 abbrev pub invariant-loop-place : goal.invariant-loop-place

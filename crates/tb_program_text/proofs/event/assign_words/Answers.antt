@@ -1,8 +1,7 @@
 use Rattle.std.proofs.Common.{◌≡◌, ◌<◌, ◌∙◌, length, sym, ap, arith, rules}
-use Rattle.std.proofs.lemmas.Grind.{common_steps}
-use Rattle.std.proofs.lemmas.List.{length-drop}
-use Rattle.tb_program_text.specs.Event.{after_words}
-use Rattle.tb_program_text.specs.Text.{first_line, words_of}
+use Rattle.tb_program_text.proofs.Words.{common_steps, length-drop, first_line}
+use Rattle.tb_program_text.specs.clauses.Event.{after_words}
+use Rattle.tb_program_text.specs.clauses.Text.{words_of}
 use Rattle.tb_program_text.proofs.FirstLines.{ends_at_once, trimmed_text}
 use Rattle.tb_program_text.proofs.Named.{after_first, faulty_first, after_none, rows_from}
 use Rattle.tb_program_text.proofs.Texts.{some_word, word_end}

@@ -1,8 +1,6 @@
 use Rattle.std.proofs.Common.{◌≡◌, ◌==◌, ℕ, Bool, true, not, All, Bor, List, rules}
-use Rattle.std.specs.List.{list_all}
-use Rattle.std.proofs.lemmas.List.Sums.{AllPass-from_list_all}
-use Rattle.tb_program_text.specs.Event.{IsBare, field_and_number}
-use Rattle.tb_program_text.specs.declared.event.Field.{Field}
+use Rattle.tb_program_text.proofs.Words.{list_all, AllPass-from_list_all, IsBare, Field}
+use Rattle.tb_program_text.specs.clauses.Event.{field_and_number}
 use Rattle.tb_program_text.proofs.event.field_and_number.Goals as goal
 
 abbrev lacks : ℕ → Bor (List ℕ) × Field → Bool

@@ -1,6 +1,5 @@
 use Rattle.std.proofs.Common.{sym, ap, ◌∙◌, rules}
-use Rattle.tb_program_text.specs.Event.{named}
-use Rattle.tb_program_text.specs.Text.{first_line, first_word}
+use Rattle.tb_program_text.proofs.Words.{named, first_line, first_word}
 use Rattle.tb_program_text.proofs.FirstLines.{named_line, no_name_first}
 use Rattle.tb_program_text.proofs.Named.{first_row, found_here, found_later, named_first, not_first}
 use Rattle.tb_program_text.proofs.event.named.Goals as goal

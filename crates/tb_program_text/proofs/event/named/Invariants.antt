@@ -1,6 +1,5 @@
 use Rattle.std.proofs.Common.{◌≡◌, ◌≤◌, length, map, All}
-use Rattle.tb_program_text.specs.Event.{IsBare, named}
-use Rattle.tb_program_text.specs.Text.{first_line, first_word}
+use Rattle.tb_program_text.proofs.Words.{IsBare, named, first_line, first_word}
 use Rattle.tb_program_text.proofs.event.named.Given as goal
 
 abbrev pub invariant-loop-rows : goal.invariant-loop-rows

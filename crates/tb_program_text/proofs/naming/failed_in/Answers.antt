@@ -1,9 +1,5 @@
 use Rattle.std.proofs.Common.{rules, tests, ◌∙◌}
-use Rattle.std.specs.Prelude.{◌==◌, ◌||◌, is_some}
-use Rattle.std.proofs.lemmas.Iterator.Consumers.{YieldsList-at, YieldsList-from_filter, count_from_yields_List}
-use Rattle.std.proofs.lemmas.Iterator.Splits.{YieldsList-from_slice_split}
-use Rattle.std.proofs.lemmas.List.Sums.{length-filter}
-use Rattle.tb_program_text.specs.Naming.{all_words, code_in}
+use Rattle.tb_program_text.proofs.Words.{◌==◌, ◌||◌, is_some, YieldsList-at, YieldsList-from_filter, count_from_yields_List, YieldsList-from_slice_split, length-filter, all_words, code_in}
 use Rattle.tb_program_text.proofs.naming.failed_in.Goals as goal
 
 pub returns : goal.returns

@@ -1,6 +1,7 @@
 use Rattle.std.proofs.Common.{◌≡◌, ◌++◌, length}
-use Rattle.tb_program_text.specs.Text.{lines_of}
-use Rattle.tb_program_text.specs.Naming.{named_lines, named_text}
+use Rattle.tb_program_text.specs.clauses.Text.{lines_of}
+use Rattle.tb_program_text.proofs.Words.{named_text}
+use Rattle.tb_program_text.specs.clauses.Naming.{named_lines}
 use Rattle.tb_program_text.proofs.naming.named_text.Given as goal
 
 abbrev pub invariant-loop-operations : goal.invariant-loop-operations

@@ -1,6 +1,6 @@
 use Rattle.std.proofs.Common.{◌≡◌, ◌++◌, length}
-use Rattle.tb_program_text.specs.Text.{words_of}
-use Rattle.tb_program_text.specs.Naming.{named_words}
+use Rattle.tb_program_text.specs.clauses.Text.{words_of}
+use Rattle.tb_program_text.proofs.Words.{named_words}
 use Rattle.tb_program_text.proofs.naming.put_words.Given as goal
 
 abbrev pub invariant-loop-first : goal.invariant-loop-first

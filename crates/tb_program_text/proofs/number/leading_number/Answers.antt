@@ -1,7 +1,5 @@
 use Rattle.std.proofs.Common.{◌≡◌, ◌-◌, ◌∙◌, ap, sym, true, take, drop, length, length-take-le, arith, rules}
-use Rattle.std.specs.Prelude.{◌==◌}
-use Rattle.std.proofs.lemmas.Grind.{common_steps}
-use Rattle.tb_program_text.specs.Text.{after_first_line, first_line, first_word}
+use Rattle.tb_program_text.proofs.Words.{◌==◌, common_steps, after_first_line, first_line, first_word}
 use Rattle.tb_program_text.proofs.FirstLines.{digits_first}
 use Rattle.tb_program_text.proofs.Numbers.{one_more, all_digits}
 use Rattle.tb_program_text.proofs.number.leading_number.Goals as goal

@@ -1,7 +1,5 @@
 use Rattle.std.proofs.Common.{◌≡◌, ◌≤◌, ◌-◌, true, take}
-use Rattle.std.specs.List.{list_all}
-use Rattle.std.specs.Char.{is_ascii_digit}
-use Rattle.std.specs.Str.Parse.{digits_value}
+use Rattle.tb_program_text.proofs.Words.{list_all, is_ascii_digit, digits_value}
 use Rattle.tb_program_text.proofs.number.leading_number.Given as goal
 
 abbrev pub invariant-loop-digits : goal.invariant-loop-digits

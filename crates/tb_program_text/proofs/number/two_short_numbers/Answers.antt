@@ -1,5 +1,5 @@
 use Rattle.std.proofs.Common.{◌≡◌, rules, sym, refl, ◌∙◌, length}
-use Rattle.tb_program_text.specs.Text.{first_line}
+use Rattle.tb_program_text.proofs.Words.{first_line}
 use Rattle.tb_program_text.proofs.Numbers.{number_first}
 use Rattle.tb_program_text.proofs.FirstLines.{trimmed_text, ends_at_once}
 use Rattle.tb_program_text.proofs.Texts.{empty_words}

@@ -1,6 +1,5 @@
 use Rattle.std.proofs.Common.{◌≡◌, ◌++◌, take, string_bytes}
-use Rattle.std.specs.List.{flat_map}
-use Rattle.tb_program_text.specs.Output.{found_text}
+use Rattle.tb_program_text.proofs.Words.{flat_map, found_text}
 use Rattle.tb_program_text.proofs.output.put_all_found.Given as goal
 
 abbrev pub invariant-loop-account : goal.invariant-loop-account

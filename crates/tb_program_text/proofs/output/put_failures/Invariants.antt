@@ -1,6 +1,5 @@
 use Rattle.std.proofs.Common.{◌≡◌, ◌++◌, take, string_bytes}
-use Rattle.std.specs.List.{flat_map}
-use Rattle.tb_program_text.specs.Output.{failure_text}
+use Rattle.tb_program_text.proofs.Words.{flat_map, failure_text}
 use Rattle.tb_program_text.proofs.output.put_failures.Given as goal
 
 abbrev pub invariant-loop-failure : goal.invariant-loop-failure

@@ -1,6 +1,7 @@
 use Rattle.std.proofs.Common.{◌≡◌, ◌+◌, ◌≤◌, length}
-use Rattle.tb_program_text.specs.Text.{lines_of}
-use Rattle.tb_program_text.specs.Script.{after_lines, script_of}
+use Rattle.tb_program_text.specs.clauses.Text.{lines_of}
+use Rattle.tb_program_text.proofs.Words.{script_of}
+use Rattle.tb_program_text.specs.clauses.Script.{after_lines}
 use Rattle.tb_program_text.proofs.parsing.parse.Given as goal
 
 abbrev pub invariant-loop-rest : goal.invariant-loop-rest

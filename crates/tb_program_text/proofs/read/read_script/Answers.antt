@@ -1,6 +1,6 @@
 use Rattle.std.proofs.Common.{arith, subst, sym}
 use Rattle.std.proofs.KnownBytes.{Consumes-trans}
-use Rattle.std.specs.Io.KnownBytes.{Consumes}
+use Rattle.tb_program_text.proofs.Words.{Consumes}
 use Rattle.tb_program_text.proofs.read.read_script.Goals as goal
 
 pub loop-reads-preserved : goal.loop-reads-preserved

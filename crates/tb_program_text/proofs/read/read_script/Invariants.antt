@@ -1,5 +1,5 @@
 use Rattle.std.proofs.Common.{◌≤◌, length}
-use Rattle.std.specs.Io.KnownBytes.{Consumes}
+use Rattle.tb_program_text.proofs.Words.{Consumes}
 use Rattle.tb_program_text.proofs.read.read_script.Given as goal
 
 abbrev pub invariant-loop-reads : goal.invariant-loop-reads

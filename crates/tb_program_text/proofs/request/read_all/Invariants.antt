@@ -1,6 +1,6 @@
 use Rattle.std.proofs.Common.{◌≡◌, map, string_bytes}
 use Rattle.std.specs.Vec.Iter.{into_iter_items}
-use Rattle.tb_program_text.specs.Request.{after_words, nothing_read}
+use Rattle.tb_program_text.specs.clauses.Request.{after_words, nothing_read}
 use Rattle.tb_program_text.proofs.request.read_all.Given as goal
 
 abbrev pub invariant-loop-word : goal.invariant-loop-word

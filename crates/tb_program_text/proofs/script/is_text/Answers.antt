@@ -1,6 +1,5 @@
 use Rattle.std.proofs.Common.{rules, ◌≡◌, refl, subst}
-use Rattle.std.specs.Prelude.{◌&&◌, nat_le}
-use Rattle.std.specs.List.{list_all}
+use Rattle.tb_program_text.proofs.Words.{◌&&◌, nat_le, list_all}
 use Rattle.std.proofs.lemmas.Fn.{fold_over, slice_gives, fronts}
 use Rattle.tb_program_text.proofs.Texts.{all_and_next}
 use Rattle.tb_program_text.proofs.script.is_text.Goals as goal

@@ -1,5 +1,5 @@
 use Rattle.std.proofs.Common.{arith}
-use Rattle.std.proofs.lemmas.Grind.{common_steps}
+use Rattle.tb_program_text.proofs.Words.{common_steps}
 use Rattle.tb_program_text.proofs.table.look_up.Goals as goal
 
 pub loop-table-preserved : goal.loop-table-preserved

@@ -1,5 +1,5 @@
 use Rattle.std.proofs.Common.{◌≡◌, length, map}
-use Rattle.tb_program_text.specs.Steps.{look_up}
+use Rattle.tb_program_text.proofs.Words.{look_up}
 use Rattle.tb_program_text.proofs.table.look_up.Given as goal
 
 abbrev pub invariant-loop-table : goal.invariant-loop-table

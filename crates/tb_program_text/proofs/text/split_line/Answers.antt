@@ -1,6 +1,5 @@
 use Rattle.std.proofs.Common.{◌≡◌, ◌+◌, ◌-◌, ◌∙◌, ap, sym, take, drop, length, arith}
-use Rattle.std.proofs.lemmas.Grind.{common_steps}
-use Rattle.std.proofs.lemmas.List.{drop-drop}
+use Rattle.tb_program_text.proofs.Words.{common_steps, drop-drop}
 use Rattle.tb_program_text.proofs.text.split_line.Goals as goal
 
 pub returns-then-end-text-clause-others : goal.returns-then-end-text-clause-others

@@ -1,5 +1,5 @@
 use Rattle.std.proofs.Common.{rules}
-use Rattle.std.proofs.lemmas.Slice.Eq.{bytes_eq-Decides}
+use Rattle.tb_program_text.proofs.Words.{bytes_eq-Decides}
 use Rattle.tb_program_text.proofs.Named.{begins_with, after_sign}
 use Rattle.tb_program_text.proofs.text.strip_word.Goals as goal
 use Rattle.tb_program_text.proofs.text.strip_word.Goals.{else-length-text-via-then-length-text+then-text-length+else-eq, else-length-text-via-then-length-text+else-text-length, else-length-text-via-else-length-text}

@@ -1,5 +1,5 @@
 use Rattle.std.proofs.Common.{rules, ap, ◌∙◌, map}
-use Rattle.tb_submit.specs.Ends.{origin_of}
+use Rattle.tb_submit.proofs.Words.{origin_of}
 use Rattle.tb_submit.proofs.OpenedSubmitters.{origins_back}
 use Rattle.tb_submit.proofs.ends.open_ends.Goals as goal
 

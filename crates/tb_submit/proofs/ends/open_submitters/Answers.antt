@@ -1,10 +1,5 @@
 use Rattle.std.proofs.Common.{◌≡◌, ◌+◌, ◌∷◌, [], map, ap, sym, ◌∙◌, arith, length, length-append, Some}
-use Rattle.std.proofs.lemmas.List.Elements.{All-push}
-use Rattle.tb_work.specs.Packet.{ReplyValue}
-use Rattle.tb_rings.specs.Ends.{given, slots}
-use Rattle.tb_rings.specs.declared.Outlet.{Outlet}
-use Rattle.tb_submit.specs.Ends.{SenderState, new_submitter, new_intake, origins_from, seat_at}
-use Rattle.tb_submit.specs.Inside.{ReaderState}
+use Rattle.tb_submit.proofs.Words.{All-push, ReplyValue, given, slots, Outlet, SenderState, new_submitter, new_intake, origins_from, seat_at, ReaderState}
 use Rattle.tb_submit.proofs.OpenedSubmitters.{opened_more, reader_counted}
 use Rattle.tb_submit.proofs.ends.open_submitters.Goals as goal
 

@@ -1,8 +1,5 @@
 use Rattle.std.proofs.Common.{◌≡◌, [], map, length, All}
-use Rattle.tb_work.specs.Packet.{ReplyValue}
-use Rattle.tb_rings.specs.Ends.{given, slots}
-use Rattle.tb_rings.specs.declared.Outlet.{Outlet}
-use Rattle.tb_submit.specs.Ends.{new_submitter, new_intake, origins}
+use Rattle.tb_submit.proofs.Words.{ReplyValue, given, slots, Outlet, new_submitter, new_intake, origins}
 use Rattle.tb_submit.proofs.ends.open_submitters.Given as goal
 
 abbrev pub invariant-loop-number : goal.invariant-loop-number

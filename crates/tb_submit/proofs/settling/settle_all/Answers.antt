@@ -1,12 +1,5 @@
 use Rattle.std.proofs.Common.{rules, ◌≡◌, ◌≢◌, ◌<◌, ◌+◌, ⊎_elim, ℕ, zero, suc, List, [], ◌∷◌, ◌++◌, map, take, length, get_or, set, Some, true, sym, refl, ap, ◌∙◌, subst, arith, append_assoc, length-set, get_or-set_other}
-use Rattle.std.proofs.lemmas.List.{map-append, take_more, get_or-set_same}
-use Rattle.std.proofs.lemmas.Bool.{cases_eq}
-use Rattle.tb_work.specs.Packet.{ReplyValue}
-use Rattle.tb_rings.specs.Ends.{given, outlet_ring}
-use Rattle.tb_rings.specs.declared.Outlet.{Outlet}
-use Rattle.tb_submit.specs.Ends.{EndedState, IntakeState, Origin, end_origin, origins, seat_at}
-use Rattle.tb_submit.specs.Inside.{ReaderState, entry_of}
-use Rattle.tb_submit.specs.Lists.{IsCompleteQueue}
+use Rattle.tb_submit.proofs.Words.{map-append, take_more, get_or-set_same, cases_eq, ReplyValue, given, outlet_ring, Outlet, EndedState, IntakeState, Origin, end_origin, origins, seat_at, ReaderState, entry_of, IsCompleteQueue}
 use Rattle.tb_submit.proofs.OpenedSubmitters.{ends_long, origin_at}
 use Rattle.tb_submit.proofs.settling.settle_all.Goals as goal
 

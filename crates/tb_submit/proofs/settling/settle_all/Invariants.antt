@@ -1,10 +1,5 @@
 use Rattle.std.proofs.Common.{◌≡◌, ◌≤◌, ◌<◌, ◌++◌, ℕ, map, take, length, slice_index_or, true}
-use Rattle.tb_work.specs.Packet.{ReplyValue}
-use Rattle.tb_rings.specs.Ends.{given}
-use Rattle.tb_rings.specs.declared.Outlet.{Outlet}
-use Rattle.tb_submit.specs.Ends.{EndedState}
-use Rattle.tb_submit.specs.Inside.{entry_of}
-use Rattle.tb_submit.specs.Lists.{IsCompleteQueue}
+use Rattle.tb_submit.proofs.Words.{ReplyValue, given, Outlet, EndedState, entry_of, IsCompleteQueue}
 use Rattle.tb_submit.proofs.settling.settle_all.Given as goal
 
 abbrev pub invariant-loop-k : goal.invariant-loop-k

@@ -1,13 +1,5 @@
 use Rattle.std.proofs.Common.{◌≡◌, ◌<◌, ◌+◌, ℕ, zero, suc, List, [], ◌∷◌, ◌++◌, map, length, get_or, ap, ◌∙◌, subst, arith, true, All}
-use Rattle.tb_work.specs.Packet.{ReplyValue}
-use Rattle.std.proofs.lemmas.List.Elements.{All-nil, All-from_get_or}
-use Rattle.tb_work.specs.declared.item.Ticket.{Ticket}
-use Rattle.tb_rings.specs.Ends.{given}
-use Rattle.tb_submit.specs.declared.rule.PassEntry.{PassEntry}
-use Rattle.tb_submit.specs.Ends.{EndedState, IntakeState, SenderState, replies_of, seat_at}
-use Rattle.tb_submit.specs.Inside.{AreUnended, ReaderState, entry_of}
-use Rattle.tb_submit.specs.Lists.{IsCompleteQueue}
-use Rattle.tb_submit.specs.Rule.{IsWhole, entry}
+use Rattle.tb_submit.proofs.Words.{ReplyValue, All-nil, All-from_get_or, Ticket, given, PassEntry, EndedState, IntakeState, SenderState, replies_of, seat_at, AreUnended, ReaderState, entry_of, IsCompleteQueue, IsWhole, entry}
 use Rattle.tb_submit.proofs.DrainedQueue.{AreSettled, settled_ahead, settled_queue, settled_within}
 use Rattle.tb_submit.proofs.OpenedSubmitters.{ends_long, seat_of_one}
 use Rattle.tb_submit.proofs.settling.settle_queue.Goals as goal

@@ -1,5 +1,5 @@
 use Rattle.std.proofs.Common.{◌∙◌, arith}
-use Rattle.std.proofs.lemmas.Grind.{common_steps}
+use Rattle.tb_tables.proofs.Words.{common_steps}
 use Rattle.tb_tables.proofs.Pairs.{without_pair}
 use Rattle.tb_tables.proofs.expiries.remove_pair.Goals as goal
 

@@ -1,5 +1,5 @@
 use Rattle.std.proofs.Common.{rules}
-use Rattle.tb_tables.specs.Hashing.{folded}
+use Rattle.tb_tables.specs.inside.Hashing.{folded}
 use Rattle.tb_tables.proofs.hashing.folded_product.Goals as goal
 
 pub returns : goal.returns

@@ -1,6 +1,5 @@
 use Rattle.std.proofs.Common.{◌∙◌, ap, sym, refl, not, ◌&&◌}
-use Rattle.std.proofs.lemmas.Bool.{eq-eqb}
-use Rattle.tb_tables.proofs.Words.{is_in_expiries, names_index, is_spent}
+use Rattle.tb_tables.proofs.Words.{eq-eqb, is_in_expiries, names_index, is_spent}
 use Rattle.tb_tables.proofs.storing.remove_expiry_of.Goals as goal
 
 pub remove_expiry_at-requires : goal.remove_expiry_at-requires

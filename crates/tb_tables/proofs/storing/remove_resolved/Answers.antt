@@ -1,9 +1,6 @@
 use Rattle.std.proofs.Common.{◌∙◌, ap, not, ◌&&◌, arith}
-use Rattle.std.proofs.lemmas.List.{take_all}
-use Rattle.std.proofs.lemmas.Grind.{common_steps}
-use Rattle.tb_tables.proofs.Words.{is_in_expiries, is_resolved_at, is_spent}
+use Rattle.tb_tables.proofs.Words.{take_all, common_steps, is_in_expiries, is_resolved_at, is_spent, All-from_recursion}
 use Rattle.tb_tables.specs.declared.change.Change.TheVariants.{Account}
-use Rattle.std.proofs.lemmas.List.Elements.{All-from_recursion}
 use Rattle.tb_tables.proofs.RemovedPairs.{forgotten-more}
 use Rattle.tb_tables.proofs.storing.remove_resolved.Goals as goal
 

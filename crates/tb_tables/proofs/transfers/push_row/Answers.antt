@@ -1,6 +1,5 @@
 use Rattle.std.proofs.Common.{◌≡◌, ◌∙◌, Some, None, sym, rules, nat_eq}
-use Rattle.indexmap.specs.IndexMap.{get}
-use Rattle.indexmap.proofs.CallerLemmas.{insert_entry-new}
+use Rattle.tb_tables.proofs.Words.{get, insert_entry-new}
 use Rattle.tb_tables.proofs.MapRows.{kept-entry}
 use Rattle.tb_tables.proofs.transfers.push_row.Goals as goal
 

@@ -1,5 +1,5 @@
 use Rattle.std.proofs.Common.{ap, sym, ◌∙◌}
-use Rattle.tb_layout.specs.Account.{account_of}
+use Rattle.tb_work.proofs.Words.{account_of}
 use Rattle.tb_work.proofs.packet.add_account.Goals as goal
 
 pub returns-in_err-extend_from_slice-clause-read_back : goal.returns-in_err-extend_from_slice-clause-read_back

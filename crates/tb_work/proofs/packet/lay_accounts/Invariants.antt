@@ -1,7 +1,5 @@
 use Rattle.std.proofs.Common.{◌≡◌, ◌*◌, length, take}
-use Rattle.std.specs.List.{flat_map}
-use Rattle.tb_layout.specs.inside.Records.{account_bytes}
-use Rattle.tb_layout.specs.Events.{accounts_of}
+use Rattle.tb_work.proofs.Words.{flat_map, account_bytes, accounts_of}
 use Rattle.tb_work.proofs.packet.lay_accounts.Given as goal
 
 abbrev pub invariant-loop-account : goal.invariant-loop-account

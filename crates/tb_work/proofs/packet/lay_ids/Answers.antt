@@ -1,8 +1,6 @@
 use Rattle.std.proofs.Common.{ap, ◌∙◌, arith}
-use Rattle.std.specs.List.{flat_map}
-use Rattle.std.proofs.lemmas.List.{take_all, take_more}
-use Rattle.tb_layout.specs.inside.Bytes.{bytes_of}
-use Rattle.tb_layout.specs.Bytes.{little_endian}
+use Rattle.tb_work.proofs.Words.{flat_map, take_all, take_more, bytes_of}
+use Rattle.tb_layout.specs.claim.Bytes.{little_endian}
 use Rattle.tb_work.proofs.Laid.{laid-bytes, laid-length, laid-events}
 use Rattle.tb_work.proofs.packet.lay_ids.Goals as goal
 

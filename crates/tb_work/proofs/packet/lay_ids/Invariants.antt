@@ -1,7 +1,5 @@
 use Rattle.std.proofs.Common.{◌≡◌, ◌*◌, length, take}
-use Rattle.std.specs.List.{flat_map}
-use Rattle.tb_layout.specs.inside.Bytes.{bytes_of}
-use Rattle.tb_layout.specs.Events.{ids_of}
+use Rattle.tb_work.proofs.Words.{flat_map, bytes_of, ids_of}
 use Rattle.tb_work.proofs.packet.lay_ids.Given as goal
 
 abbrev pub invariant-loop-id : goal.invariant-loop-id

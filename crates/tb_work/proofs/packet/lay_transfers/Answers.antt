@@ -1,8 +1,5 @@
 use Rattle.std.proofs.Common.{ap, ◌∙◌, arith}
-use Rattle.std.specs.List.{flat_map}
-use Rattle.std.proofs.lemmas.List.{take_all, take_more}
-use Rattle.tb_layout.specs.inside.Records.{transfer_bytes}
-use Rattle.tb_layout.specs.Transfer.{transfer_of}
+use Rattle.tb_work.proofs.Words.{flat_map, take_all, take_more, transfer_bytes, transfer_of}
 use Rattle.tb_work.proofs.Laid.{laid-bytes, laid-length, laid-events}
 use Rattle.tb_work.proofs.packet.lay_transfers.Goals as goal
 

@@ -1,5 +1,5 @@
 use Rattle.std.proofs.Common.{arith, ◌+◌}
-use Rattle.tb_layout.proofs.Rising.{rise_at}
+use Rattle.tb_work.proofs.Words.{rise_at}
 use Rattle.tb_work.proofs.reply.rebase_into.Goals as goal
 
 pub overflow_sub-index : goal.overflow_sub-index

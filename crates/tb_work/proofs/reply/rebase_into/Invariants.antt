@@ -1,5 +1,5 @@
 use Rattle.std.proofs.Common.{◌≡◌, length, map, take}
-use Rattle.tb_layout.specs.Failures.{from_offset}
+use Rattle.tb_layout.specs.claim.Failures.{from_offset}
 use Rattle.tb_work.proofs.reply.rebase_into.Given as goal
 
 abbrev pub invariant-loop-failure : goal.invariant-loop-failure

@@ -1,12 +1,6 @@
 use Rattle.std.proofs.Common.{ℕ, ◌≤◌, List, [], length, arith}
-use Rattle.std.proofs.lemmas.List.{length-map}
-use Rattle.tb_work.specs.Ahead.{items_in}
-use Rattle.tb_work.specs.declared.item.Ticket.{Ticket}
-use Rattle.tb_core.specs.Ledger.{new_ledger}
-use Rattle.tb_layout.specs.inside.Limits.{places_max}
-use Rattle.tb_world.specs.declared.event.Event.{Event}
-use Rattle.tb_world.specs.World.{new_world}
-use Rattle.tb_world.specs.EveryOrder.{history, HasPlaces}
+use Rattle.tb_world.proofs.Words.{length-map, items_in, Ticket, new_ledger, Event, new_world, history, HasPlaces}
+use Rattle.tb_layout.specs.claim.Bounds.{places_max}
 use Rattle.tb_world.proofs.orders.Runs.{length-ahead, length-history}
 use Rattle.tb_world.proofs.run.run_world.Goals as goal
 

@@ -1,5 +1,5 @@
 use Rattle.std.proofs.Common.{◌≡◌, replicate}
-use Rattle.tb_world.specs.Pushing.{newcomer}
+use Rattle.tb_world.proofs.Words.{newcomer}
 use Rattle.tb_world.proofs.world.newcomers.Given as goal
 
 abbrev pub invariant-loop : goal.invariant-loop

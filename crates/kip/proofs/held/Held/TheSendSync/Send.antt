@@ -2,19 +2,15 @@
 -- heap, which no thread owns.
 use base.Shift.{Keyless}
 use mir.Raw.{raw}
-use denote.Memory.{lone}
-use denote.RawPtr.{Ptr}
-use denote.Struct.Struct.{exits_of}
-use denote.Struct.Owning.{shape, fields, to}
+use Rattle.kip.proofs.Words.{lone, Ptr, exits_of, shape, fields, to, Option, Some, None}
 use denote.Param.Send.{IsSend, AllSend, owning_send, struct_send, sendable}
-use Rattle.std.specs.Prelude.{Option, Some, None}
 use Rattle.std.specs.Global.{Global}
 use Rattle.std.proofs.Crossing as crossing
 use Rattle.std_alloc.proofs.SendSync.{quiet, lies}
 use Rattle.std_heap.proofs.Global.TheSendSync as allocator
 use Rattle.tb_embed.specs.contracts.engine.Engine as Engine
 use Rattle.tb_embed.proofs.engine.Engine.TheSendSync.{the_send as engine_send}
-use Rattle.kip.specs.Held.{held_owns}
+use Rattle.kip.specs.clauses.Held.{held_owns}
 use Rattle.kip.specs.contracts.held.Held.{the_row, the_type}
 
 -- what is owned at the pointer needs no key of a thread

@@ -1,43 +1,14 @@
 -- `as_mut` follows the pointer, and the handle becomes what is written there.
-use mathlib.Core.Path.{◌≡◌, refl, sym, subst}
-use mathlib.Core.List.{List, [], ◌∷◌}
+use Rattle.kip.proofs.Words.{◌≡◌, refl, sym, subst, List, [], ◌∷◌, Ura, named, Val, vptr, bare, SProp, ent, sep, id⊢, Lft, GName, Share, Fml, ftrue, flft, fsep, Memory, Routine, Env, WpFn, Tables, Logic, sem, Fun, fact, tables, WpFn-mono, ‵, ◌⊛◌, some, at_ret, ◌$◌, ◌∵◌, !, qed, by, move, keep, use1, drop, split, join, pick, rewrite, fsplit, fsplit3, fjoin, suffices, frame, done, raw, later, await, group, fpack, whole, sub, look_in, stop, fld, load, of_opd, first, blocks, exec, returns, enter, addr, alloc_all, pass_all, free_all, look_at, get, through, sets, env, sets_last, no, part_at, mem, cell_at, RattleType, owns, block_ptr, plain, mut_ref_to, nothing, heard, opens, triple_of, entered, says, Stays, stay_dropped, walk_of, ends_at, walked, walk_Meets, Goes-spent_ref, is_some, true, Some, token, D, B, τ, word, handle, box_out, box_in}
 use Prim.Native.Nat.{ℕ}
-use seplogic.Ra.Ura.{Ura}
 use base.Fraction.{full_share}
-use mir.Syntax.{named}
-use mir.Val.{Val, vptr}
-use mir.Raw.{raw as bare}
-use base.Logic.{SProp, ent, sep, id⊢}
-use base.Fml.{Lft, GName, Share, Fml, ftrue, flft, fsep}
-use prog.Memory.{Memory}
-use prog.Routine.{Routine}
-use prog.Wp.{Env, WpFn, Tables}
-use types.Logic.{Logic, sem}
-use contract.Monad.{Fun, fact}
-use contract.Running.{tables, tables_of}
-use sound.WpLaws.{WpFn-mono}
-use types.Kit.{‵, ◌⊛◌, some, at_ret, ◌$◌, ◌∵◌, !, qed, by, move, keep, use1, drop, split, join, pick, rewrite, fsplit, fsplit3, fjoin, suffices, frame, done, raw, later, await, group, fpack}
-use types.Part.{whole, sub, look_in}
-use types.Run.{stop, fld, load, of_opd, first, blocks, exec, returns, enter, addr}
-use types.ByLocal.{alloc_all, pass_all, free_all, look_at, get, through, sets, env, sets_last}
-use denote.Exit.{no}
+use contract.Running.{tables_of}
 use denote.Follow.{follows, Part, lends_Part}
-use denote.Memory.{part_at, mem, cell_at, part_of}
-use denote.RattleType.{RattleType, owns}
-use denote.RawPtr.{block_ptr}
+use denote.Memory.{part_of}
 use denote.Ref.{MutRef, mut_vals, mut_Tells}
-use denote.Signature.{plain, mut_ref_to}
-use denote.Steps.{nothing, heard, opens}
-use denote.Triple.Spec.{triple_of}
-use denote.Triple.Table.{entered}
-use denote.Triple.Walked.{says, Stays, stay_dropped, walk_of, ends_at, walked, walk_Meets, Goes-spent_ref}
-use Rattle.std.specs.Prelude.{is_some, true, Some}
-use Rattle.core.proofs.alloc.Calls.{token}
 use Rattle.std_alloc.proofs.VecSteps.Shapes.{after}
-use Rattle.std_alloc.proofs.BoxSteps.Form.{D, B, τ, word, handle}
-use Rattle.std_alloc.proofs.BoxSteps.Steps.{box_out, box_in}
 use Rattle.tb_embed.specs.contracts.engine.Engine as Engine
-use Rattle.kip.specs.Lent.{with_engine}
+use Rattle.kip.specs.inside.Lent.{with_engine}
 use Rattle.kip.proofs.AsBox.{E, some_of}
 use Rattle.kip.specs.contracts.held.Held as Held
 use Rattle.kip.specs.contracts.held.Held.as_mut as F

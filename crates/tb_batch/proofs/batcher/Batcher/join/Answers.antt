@@ -1,6 +1,5 @@
 use Rattle.std.proofs.Common.{ap, sym, ◌∙◌, subst}
-use Rattle.tb_batch.specs.BatcherState.{IsBatcherState, BatcherState, jobs_of}
-use Rattle.tb_batch.specs.Grouping.{is_taken}
+use Rattle.tb_batch.proofs.Words.{IsBatcherState, BatcherState, jobs_of, is_taken}
 use Rattle.tb_batch.proofs.Groups.{still_held}
 use Rattle.tb_batch.proofs.batcher.Batcher.join.Goals as goal
 

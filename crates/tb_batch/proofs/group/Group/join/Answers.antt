@@ -1,13 +1,9 @@
 use Rattle.std.proofs.Common.{◌≡◌, arith, ap, sym, ◌∙◌, ◌∷◌, [], ◌++◌, ◌+◌}
-use Rattle.std.specs.Prelude.{Vec, vec_capacity}
+use Rattle.tb_batch.proofs.Words.{Vec, vec_capacity, stub_of, count_of, HasRoom, is_taken}
 use Rattle.std.specs.declared.alloc.Global.{Global}
 use Rattle.tb_layout.specs.declared.account.Account.{Account}
 use Rattle.tb_layout.specs.declared.failure.Failure.{Failure}
 use Rattle.tb_work.specs.declared.stub.Stub.{Stub}
-use Rattle.tb_work.specs.Job.{stub_of}
-use Rattle.tb_work.specs.Admission.{count_of}
-use Rattle.tb_batch.specs.Batch.{HasRoom}
-use Rattle.tb_batch.specs.Grouping.{is_taken}
 use Rattle.tb_batch.proofs.Groups.{batch_more, given}
 use Rattle.tb_batch.proofs.group.Group.join.Goals as goal
 

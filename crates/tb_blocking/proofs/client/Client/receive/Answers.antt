@@ -15,8 +15,8 @@ returns-in-Some-reply-clause-known g c = search rules
 pub returns-in-Some-reply-clause-some : goal.returns-in-Some-reply-clause-some
 returns-in-Some-reply-clause-some g c = search rules
 
-pub returns-then-is_asked-clause-known : goal.returns-then-is_asked-clause-known
-returns-then-is_asked-clause-known g c = search rules
+pub returns-then-is_given_up-clause-known : goal.returns-then-is_given_up-clause-known
+returns-then-is_given_up-clause-known g c = search rules
 
-pub returns-then-is_asked-clause-none : goal.returns-then-is_asked-clause-none
-returns-then-is_asked-clause-none g c = grind (arith, common_steps)
+pub returns-then-is_given_up-clause-none : goal.returns-then-is_given_up-clause-none
+returns-then-is_given_up-clause-none g c = grind (arith, common_steps)

@@ -1,5 +1,5 @@
 use Rattle.std.proofs.Common.{refl, subst, sym}
-use Rattle.tb_core.specs.AnyLedger.{IsApplied}
+use Rattle.tb_core.proofs.Words.{IsApplied}
 use Rattle.tb_core.proofs.any_ledger.LedgerAnyLedger.apply.Goals as goal
 
 pub returns : goal.returns
@@ -7,11 +7,6 @@ returns c = record {
   applied = λ old was. (
     c.apply.new.self,
     refl,
-    subst (λ ledger. IsApplied ledger c.args.parcel c.apply.result c.apply.new.self) (sym was) (record {
-      refused = c.apply.ensures.applied.0;
-      step = c.apply.ensures.applied.1;
-      commits = c.apply.ensures.commits;
-      joined = c.apply.ensures.joined;
-    }),
+    subst (λ ledger. IsApplied ledger c.args.parcel c.apply.result c.apply.new.self) (sym was) c.apply.ensures,
   );
 }

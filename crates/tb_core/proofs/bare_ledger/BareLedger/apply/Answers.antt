@@ -1,5 +1,5 @@
 use Rattle.std.proofs.Common.{true, false, None, subst}
-use Rattle.tb_core.specs.BareLedger.{IsBatch}
+use Rattle.tb_core.proofs.Words.{IsBatch}
 use Rattle.tb_core.proofs.JournalGroups.{bare_applied, sent_more}
 use Rattle.tb_core.proofs.bare_ledger.BareLedger.apply.Goals as goal
 

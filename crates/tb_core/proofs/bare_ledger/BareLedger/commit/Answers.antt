@@ -1,6 +1,5 @@
 use Rattle.std.proofs.Common.{◌∙◌, ap, sym, subst, ◌+◌, length}
-use Rattle.tb_core.specs.BareLedger.{BareLedgerState, halts}
-use Rattle.tb_core.specs.inside.BatchAnswer.{AreAnswered}
+use Rattle.tb_core.proofs.Words.{BareLedgerState, halts, AreAnswered}
 use Rattle.tb_core.proofs.Batches.{JoinInvisibly}
 use Rattle.tb_core.proofs.LedgerSteps.{batch_applied}
 use Rattle.tb_core.proofs.OneMoreEntry.{given, batch_state, batch_entered}

@@ -1,6 +1,6 @@
 -- Found by the prover itself, but late; on file since a check then costs less.
 use Rattle.std.proofs.Common.{arith}
-use Rattle.std.proofs.lemmas.Grind.{common_steps}
+use Rattle.tb_core.proofs.Words.{common_steps}
 use Rattle.tb_core.proofs.bare_ledger.BareLedger.pulse.Goals as goal
 
 pub returns-clause-ok : goal.returns-clause-ok

@@ -1,8 +1,5 @@
 use Rattle.std.proofs.Common.{sym, subst, ◌++◌, map, append-nil}
-use Rattle.std.proofs.lemmas.Result.{on_ok_weaker}
-use Rattle.tb_batch.specs.Grouping.{IsGroup}
-use Rattle.tb_core.specs.inside.Decision.{Admitted}
-use Rattle.tb_core.specs.Run.{HasNotStopped}
+use Rattle.tb_core.proofs.Words.{on_ok_weaker, IsGroup, Admitted, HasNotStopped}
 use Rattle.tb_core.proofs.ItemList.{through}
 use Rattle.tb_core.proofs.list.Listing.finish.Goals as goal
 

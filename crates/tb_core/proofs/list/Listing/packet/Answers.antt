@@ -1,10 +1,6 @@
 use Rattle.std.proofs.Common.{refl, false, subst, ◌∙◌, ◌++◌, arith}
-use Rattle.std.specs.Prelude.{option_to_list}
-use Rattle.std.proofs.lemmas.Result.{on_ok_weaker}
+use Rattle.tb_core.proofs.Words.{option_to_list, on_ok_weaker, Ticket, take_result, all_decisions_in, AreJoinedParcels}
 use Rattle.tb_work.specs.declared.item.Item.TheVariants.{Packet}
-use Rattle.tb_work.specs.declared.item.Ticket.{Ticket}
-use Rattle.tb_core.specs.Front.{take_result, all_decisions_in}
-use Rattle.tb_core.specs.Grouping.{AreJoinedParcels}
 use Rattle.tb_core.proofs.TicketDecisions.{has_taken}
 use Rattle.tb_core.proofs.list.Listing.packet.Goals as goal
 

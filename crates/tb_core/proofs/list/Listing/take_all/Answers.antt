@@ -1,5 +1,5 @@
 use Rattle.std.proofs.Common.{◌≡◌, sym, ap, ◌∙◌, [], ◌∷◌, ◌++◌, append-nil, append_assoc}
-use Rattle.std.proofs.lemmas.List.{nil_from_length}
+use Rattle.tb_core.proofs.Words.{nil_from_length}
 use Rattle.tb_core.proofs.list.Listing.take_all.Goals as goal
 
 pub loop-item-init : goal.loop-item-init

@@ -1,6 +1,5 @@
 use Rattle.std.proofs.Common.{◌≡◌, ℕ, []}
-use Rattle.tb_core.specs.Journal.{LedgerState}
-use Rattle.tb_core.specs.Run.{IsRunning}
+use Rattle.tb_core.proofs.Words.{LedgerState, IsRunning}
 use Rattle.tb_core.proofs.ItemList.{IsUnderWay}
 use Rattle.tb_core.proofs.list.Listing.take_all.Given as goal
 

@@ -1,7 +1,7 @@
 use Rattle.std.proofs.Common.{◌≡◌, ap, sym, ◌∙◌, ◌∷◌, subst}
 use Rattle.std.specs.Vec.Iter.{into_iter_items}
 use Rattle.tb_demux.specs.declared.source.ReplySource.{ReplySource}
-use Rattle.tb_demux.specs.Remaining.{IsSourceOf, replies_remaining}
+use Rattle.tb_demux.specs.clauses.Remaining.{IsSourceOf, replies_remaining}
 use Rattle.tb_demux.proofs.Cuts.{next_remaining, next_replies, none_left, none_remaining}
 use Rattle.tb_demux.proofs.cutter.Cutter.next.Goals as goal
 use Rattle.tb_demux.proofs.cutter.Cutter.next.Goals.{in-Failures, in-Lookup, in-Shutdown, in-Stopped}

@@ -1,13 +1,13 @@
 use Rattle.std.proofs.Common.{◌≡◌, arith, ap, sym, ◌∙◌, refl, ◌+◌, map, take, drop, rules}
 use Rattle.std.proofs.lemmas.Grind.{common_steps}
-use Rattle.tb_layout.specs.Failures.{from_offset}
-use Rattle.tb_work.specs.Admission.{count_of}
-use Rattle.tb_work.specs.Answer.{reply_with}
+use Rattle.tb_layout.specs.claim.Failures.{from_offset}
+use Rattle.tb_work.specs.claim.Admission.{count_of}
+use Rattle.tb_work.specs.claim.Answer.{reply_with}
 use Rattle.tb_work.specs.declared.stub.Stub.{Stub}
 use Rattle.tb_layout.specs.declared.answer.Answer.TheVariants.{Failures}
 use Rattle.tb_work.specs.declared.outcome.Outcome.TheVariants.{Committed}
-use Rattle.tb_demux.specs.Leading.{count_below}
-use Rattle.tb_demux.specs.Remaining.{failures_remaining}
+use Rattle.tb_demux.specs.inside.Leading.{count_below}
+use Rattle.tb_demux.specs.clauses.Remaining.{failures_remaining}
 use Rattle.tb_demux.proofs.Cuts.{rise_own, rise_after, cut_leading}
 use Rattle.tb_demux.proofs.remaining_failures.RemainingFailures.reply.Goals as goal
 

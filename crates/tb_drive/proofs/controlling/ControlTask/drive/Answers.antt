@@ -1,7 +1,5 @@
 use Rattle.std.proofs.Common.{[], ◌∷◌, subst}
-use Rattle.tb_drive.specs.Plan.{last_item}
-use Rattle.tb_drive.specs.Tasks.{ControlTaskState}
-use Rattle.tb_drive.specs.Threads.{HasQueued}
+use Rattle.tb_drive.proofs.Words.{last_item, ControlTaskState, HasQueued}
 use Rattle.tb_drive.proofs.Pulsed.{has_queued_more}
 use Rattle.tb_drive.proofs.controlling.ControlTask.drive.Goals as goal
 

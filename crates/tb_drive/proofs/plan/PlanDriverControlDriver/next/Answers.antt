@@ -1,6 +1,5 @@
 use Rattle.std.proofs.Common.{rules, ◌≤◌, ◌∙◌, ap, length, refl, sym, arith}
-use Rattle.std.proofs.lemmas.Option.{slice_get_read}
-use Rattle.tb_drive.specs.Plan.{last_item}
+use Rattle.tb_drive.proofs.Words.{slice_get_read, last_item}
 use Rattle.tb_drive.proofs.Pulsed.{all_queued}
 use Rattle.tb_drive.proofs.plan.PlanDriverControlDriver.next.Goals as goal
 

@@ -1,5 +1,5 @@
 use Rattle.std.proofs.Common.{◌≡◌, ◌∙◌, subst}
-use Rattle.tb_drive.specs.Tasks.{IsEnd, SubmitterTaskState}
+use Rattle.tb_drive.proofs.Words.{IsEnd, SubmitterTaskState}
 use Rattle.tb_drive.proofs.Seen.{end_before}
 use Rattle.tb_drive.proofs.submitting.SubmitterTask.drive.Goals as goal
 use Rattle.tb_drive.proofs.submitting.SubmitterTask.drive.Goals.{in-Err, in-Ok}

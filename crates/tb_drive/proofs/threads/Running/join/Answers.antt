@@ -1,6 +1,5 @@
 use Rattle.std.proofs.Common.{map, ap, subst}
-use Rattle.tb_drive.specs.Tasks.{AreResultsOf, TasksState}
-use Rattle.tb_drive.specs.Threads.{IsControlResultOf}
+use Rattle.tb_drive.proofs.Words.{AreResultsOf, TasksState, IsControlResultOf}
 use Rattle.tb_drive.proofs.threads.Running.join.Goals as goal
 
 pub returns : goal.returns

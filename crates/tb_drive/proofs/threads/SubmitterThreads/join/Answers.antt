@@ -1,8 +1,5 @@
 use Rattle.std.proofs.Common.{rules, ◌≡◌, ◌∙◌, ◌∷◌, [], map, map-id, subst, sym}
-use Rattle.std.proofs.lemmas.List.{map-append}
-use Rattle.std.proofs.lemmas.Iterator.Adapters.{YieldsList-from_vec}
-use Rattle.std.proofs.lemmas.Iterator.Consumers.{YieldsList-end}
-use Rattle.tb_drive.specs.Threads.{HaveJoined, started_from}
+use Rattle.tb_drive.proofs.Words.{map-append, YieldsList-from_vec, YieldsList-end, HaveJoined, started_from}
 use Rattle.tb_drive.proofs.threads.SubmitterThreads.join.Goals as goal
 
 pub loop-handle-preserved : goal.loop-handle-preserved

@@ -1,5 +1,5 @@
 use Rattle.std.proofs.Common.{map}
-use Rattle.tb_drive.specs.Threads.{HaveJoined, started_from}
+use Rattle.tb_drive.proofs.Words.{HaveJoined, started_from}
 use Rattle.tb_drive.proofs.threads.SubmitterThreads.join.Given as goal
 
 abbrev pub invariant-loop-handle : goal.invariant-loop-handle

@@ -1,5 +1,5 @@
 use Rattle.std.proofs.Common.{◌≡◌, drop}
-use Rattle.tb_durable.specs.Counts.{counted_all}
+use Rattle.tb_durable.specs.clauses.Counts.{counted_all}
 use Rattle.tb_durable.proofs.counts.PacketCounts.count_all.Given as goal
 
 -- the packets that are left, counted from what is counted so far, give what all packets give

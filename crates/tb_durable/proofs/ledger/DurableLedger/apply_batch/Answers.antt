@@ -1,8 +1,6 @@
 use Rattle.std.proofs.Common.{◌≡◌, ◌⊎◌, arith, rules, refl, sym, ap, subst, ◌∙◌, ◌++◌, [], ◌∷◌}
-use Rattle.sqlite_trees.specs.View.{IsClean, doubt}
-use Rattle.tb_durable.specs.Rows.{jobs_row}
-use Rattle.tb_durable.specs.Counts.{counted_all}
-use Rattle.tb_durable.specs.Durable.{IsJournal, IsSettled}
+use Rattle.tb_durable.proofs.Words.{IsClean, doubt, jobs_row, IsJournal, IsSettled}
+use Rattle.tb_durable.specs.clauses.Counts.{counted_all}
 use Rattle.tb_durable.proofs.FileLemmas.{batch_entry, crash_opens, stored_file}
 use Rattle.tb_durable.proofs.Journals.{added_last, batch_stored, leaves_with_row}
 use Rattle.tb_durable.proofs.ledger.DurableLedger.apply_batch.Goals as goal

@@ -1,9 +1,5 @@
 use Rattle.std.proofs.Common.{◌≡◌, ◌⊎◌, arith, sym, ap, subst, ◌∙◌, ◌++◌, pos, [], ◌∷◌}
-use Rattle.sqlite_value.specs.declared.value.Value.TheVariants.{Int}
-use Rattle.sqlite_trees.specs.View.{IsClean, doubt}
-use Rattle.tb_durable.specs.Rows.{pulse_row}
-use Rattle.tb_durable.specs.Durable.{IsJournal, IsSettled}
-use Rattle.tb_durable.specs.Entries.{IsEntryRow}
+use Rattle.tb_durable.proofs.Words.{Int, IsClean, doubt, pulse_row, IsJournal, IsSettled, IsEntryRow}
 use Rattle.tb_durable.proofs.Applied.{adds_pulse}
 use Rattle.tb_durable.proofs.FileLemmas.{crash_opens, pulse_entry, stored_file}
 use Rattle.tb_durable.proofs.Journals.{added_last, leaves_with_row, stored_more}

@@ -1,6 +1,5 @@
 use Rattle.std.proofs.Common.{subst, sym}
-use Rattle.sqlite_trees.specs.Tree.{Trees}
-use Rattle.tb_durable.specs.Entries.{IsLedgerFile}
+use Rattle.tb_durable.proofs.Words.{Trees, IsLedgerFile}
 use Rattle.tb_durable.proofs.ledger.DurableLedger.can_be_opened.Goals as goal
 
 pub returns : goal.returns

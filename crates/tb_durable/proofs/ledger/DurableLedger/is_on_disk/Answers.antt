@@ -1,6 +1,5 @@
 use Rattle.std.proofs.Common.{sym, ap, subst}
-use Rattle.sqlite_trees.specs.Tree.{Trees}
-use Rattle.tb_durable.specs.Durable.{IsJournal}
+use Rattle.tb_durable.proofs.Words.{Trees, IsJournal}
 use Rattle.tb_durable.proofs.ledger.DurableLedger.is_on_disk.Goals as goal
 
 pub returns-clause-journal : goal.returns-clause-journal

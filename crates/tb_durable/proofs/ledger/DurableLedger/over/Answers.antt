@@ -1,7 +1,23 @@
+use Rattle.std.proofs.Common.{subst, sym}
+use Rattle.tb_durable.proofs.Words.{Trees, IsLedgerFile}
 use Rattle.tb_durable.proofs.RunLemmas.{some_kept}
 use Rattle.tb_durable.proofs.ledger.DurableLedger.over.Goals as goal
 
 pub returns-in-Ok-clause-kept : goal.returns-in-Ok-clause-kept
 returns-in-Ok-clause-kept g c =
-    rw c.into_ledger.ensures (some_kept (g.S.Store.view c.read_ledger-read.new.table.store) c.in-Ok.read.replaying.ledger
-    c.in-Ok.ensures.stored c.in-Ok.ensures.committed c.in-Ok.ensures.goes_on)
+    let read = c.in-Ok.read.replaying in
+    let store = c.read_ledger-read.new.table.store in
+    let known = c.in-Ok.ensures in
+    let some = some_kept (g.S.Store.view store) read.ledger known.stored known.committed known.goes_on in
+    rw c.into_ledger.ensures (
+      some.0,
+      record {
+        kept = some.1;
+        entries = λ clean goes_on. known.file clean;
+        openable = λ clean db left. (
+          read.counts,
+          subst (λ (t : Trees). IsLedgerFile (t 0) read.counts)
+              (sym (g.met.S.Store.settled store db (known.stored clean known.goes_on).0.is_open left)) (known.file clean),
+        );
+      },
+    )

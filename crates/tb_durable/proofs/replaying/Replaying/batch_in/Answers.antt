@@ -1,14 +1,6 @@
 use Rattle.std.proofs.Common.{◌≡◌, ◌%◌, ◌∙◌, ◌+◌, ◌∷◌, [], ◌++◌, rules, sym, ap, subst, map, drop, length, true, false, append_assoc}
-use Rattle.std.specs.Prelude.{◌==◌, IsSome}
-use Rattle.std.proofs.lemmas.List.{drop_all, map-append, nil_from_length}
-use Rattle.std.proofs.lemmas.Bool.{eqb-true}
-use Rattle.tb_work.specs.Packet.{input_of}
-use Rattle.tb_batch.specs.Grouping.{is_taken}
-use Rattle.tb_core.specs.Ledger.{batch_packets}
-use Rattle.tb_durable.specs.declared.fault.OpenFault.TheVariants.{NoMemory}
-use Rattle.tb_durable.specs.Counts.{counted_all}
-use Rattle.tb_durable.specs.Entries.{AreColumnsOf}
-use Rattle.tb_durable.specs.Rows.{stub_at}
+use Rattle.tb_durable.proofs.Words.{◌==◌, IsSome, drop_all, map-append, nil_from_length, eqb-true, input_of, is_taken, batch_packets, NoMemory, AreColumnsOf, stub_at}
+use Rattle.tb_durable.specs.clauses.Counts.{counted_all}
 use Rattle.tb_durable.proofs.BatchLemmas.{AreRead, begins, columns_read, next_part, next_taken, none_left, read_more, some_held}
 use Rattle.tb_durable.proofs.StubLemmas.{counted_follows, counted_none, counted_step, stubs_left}
 use Rattle.tb_durable.proofs.replaying.Replaying.batch_in.Goals as goal

@@ -1,9 +1,6 @@
 use Rattle.std.proofs.Common.{◌≡◌, ◌++◌, List, map, drop}
-use Rattle.tb_work.specs.Packet.{Numbered, input_of}
-use Rattle.tb_core.specs.Ledger.{batch_packets}
-use Rattle.tb_durable.specs.Counts.{counted_all}
-use Rattle.tb_durable.specs.Entries.{AreColumnsOf}
-use Rattle.tb_durable.specs.Rows.{stub_at}
+use Rattle.tb_durable.proofs.Words.{Numbered, input_of, batch_packets, AreColumnsOf, stub_at}
+use Rattle.tb_durable.specs.clauses.Counts.{counted_all}
 use Rattle.tb_durable.proofs.BatchLemmas.{AreRead, IsPartRead}
 use Rattle.tb_durable.proofs.replaying.Replaying.batch_in.Given as goal
 

@@ -1,7 +1,5 @@
 use Rattle.std.proofs.Common.{◌≡◌, ◌∙◌, ◌*◌, ◌++◌, sym, ap, subst, length, take, drop}
-use Rattle.std.specs.Option.{is_some}
-use Rattle.std.proofs.lemmas.List.{take-append-drop}
-use Rattle.tb_durable.specs.Entries.{BeginsWith}
+use Rattle.tb_durable.proofs.Words.{is_some, take-append-drop, BeginsWith}
 use Rattle.tb_durable.proofs.BatchLemmas.{cut_off, first_read, known_size, rest_bytes}
 use Rattle.tb_durable.proofs.replaying.Replaying.first_job.Goals as goal
 

@@ -1,8 +1,6 @@
 use Rattle.std.proofs.Common.{◌≡◌, ◌∙◌, arith, pos, rules, inl, inr, subst, sym}
 use Rattle.std.proofs.lemmas.Result.{on_ok_weaker}
-use Rattle.sqlite_value.specs.declared.value.Value.TheVariants.{Int}
-use Rattle.sqlite_trees.specs.Tree.{rowid}
-use Rattle.tb_durable.specs.Entries.{AreColumnsOf}
+use Rattle.tb_durable.proofs.Words.{Int, rowid, AreColumnsOf}
 use Rattle.tb_durable.proofs.EntryLemmas.{batch_accepted, batch_columns, both_ok, counts_are, follows_on, is_no_batch, is_no_pulse, low_moment, pulse_accepted, small_operation}
 use Rattle.tb_durable.proofs.replaying.Replaying.row.Goals as goal
 

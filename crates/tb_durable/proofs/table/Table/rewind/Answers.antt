@@ -1,6 +1,5 @@
 use Rattle.std.proofs.Common.{◌≡◌, arith, rules, sym, ◌∙◌}
-use Rattle.sqlite_trees.specs.declared.store.Shape.TheVariants.{Table}
-use Rattle.sqlite_trees.specs.View.{IsClean}
+use Rattle.tb_durable.proofs.Words.{Table, IsClean}
 use Rattle.tb_durable.proofs.StoreLemmas.{reads_none, same_committed, settled_again}
 use Rattle.tb_durable.proofs.table.Table.rewind.Goals as goal
 

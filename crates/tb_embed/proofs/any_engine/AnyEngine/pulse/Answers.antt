@@ -1,8 +1,6 @@
 use Rattle.std.proofs.Common.{refl, sym, subst, ap, ◌∙◌}
 use Rattle.tb_work.specs.declared.item.Item.TheVariants as item
-use Rattle.tb_embed.specs.AnyEngine.{AnyEngineState, QueuesBy}
-use Rattle.tb_embed.specs.Engine.{Steps}
-use Rattle.tb_embed.specs.Queued.{ticket_of}
+use Rattle.tb_embed.proofs.Words.{AnyEngineState, QueuesBy, Steps, ticket_of}
 use Rattle.tb_embed.proofs.AnyRun.{TakesBy, control_by}
 use Rattle.tb_embed.proofs.any_engine.AnyEngine.pulse.Goals as goal
 

@@ -1,10 +1,6 @@
 use Rattle.std.proofs.Common.{sym, subst, ap, arith, ◌+◌, ◌≤◌, get_or, length}
-use Rattle.std.specs.Prelude.{slice_set}
-use Rattle.tb_work.specs.Packet.{Numbered}
+use Rattle.tb_embed.proofs.Words.{slice_set, Numbered, AnyEngineState, QueuesBy, Steps, packet_ticket, ticket_of}
 use Rattle.tb_work.specs.declared.item.Item.TheVariants as item
-use Rattle.tb_embed.specs.AnyEngine.{AnyEngineState, QueuesBy}
-use Rattle.tb_embed.specs.Engine.{Steps}
-use Rattle.tb_embed.specs.Queued.{packet_ticket, ticket_of}
 use Rattle.tb_embed.proofs.AnyRun.{TakesBy, packet_by}
 use Rattle.tb_embed.proofs.any_engine.AnyEngine.submit.Goals as goal
 

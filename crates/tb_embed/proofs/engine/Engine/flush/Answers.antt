@@ -1,7 +1,5 @@
 use Rattle.std.proofs.Common.{ap, refl, sym, subst, ◌∙◌, ◌++◌, length}
-use Rattle.tb_core.specs.BareLedger.{halts}
-use Rattle.tb_core.specs.Front.{with_group}
-use Rattle.tb_embed.specs.Engine.{HasTaken}
+use Rattle.tb_embed.proofs.Words.{halts, with_group, HasTaken}
 use Rattle.tb_embed.specs.contracts.engine.Engine.{the_view}
 use Rattle.tb_embed.proofs.EngineRun.{group_serves}
 use Rattle.tb_embed.proofs.Parcels.{halts_at_none, none_of}

@@ -1,5 +1,5 @@
 use Rattle.std.proofs.Common.{refl, ap}
-use Rattle.tb_core.specs.Front.{FrontState}
+use Rattle.tb_embed.proofs.Words.{FrontState}
 use Rattle.tb_embed.proofs.Opened.{opened_over}
 use Rattle.tb_embed.proofs.engine.Engine.over.Goals as goal
 

@@ -1,7 +1,6 @@
 use Rattle.std.proofs.Common.{refl, sym, subst, ap, ◌∙◌}
 use Rattle.tb_work.specs.declared.item.Item.TheVariants as item
-use Rattle.tb_embed.specs.Engine.{EngineState, Queues, Steps}
-use Rattle.tb_embed.specs.Queued.{ticket_of}
+use Rattle.tb_embed.proofs.Words.{EngineState, Queues, Steps, ticket_of}
 use Rattle.tb_embed.proofs.EngineRun.{Stops, Takes, control_serves}
 use Rattle.tb_embed.proofs.engine.Engine.pulse.Goals as goal
 

@@ -1,7 +1,6 @@
 use Rattle.std.proofs.Common.{refl, sym, subst, ap, ◌∙◌, true}
 use Rattle.tb_work.specs.declared.item.Item.TheVariants as item
-use Rattle.tb_embed.specs.Engine.{EngineState, Queues}
-use Rattle.tb_embed.specs.Queued.{ticket_of}
+use Rattle.tb_embed.proofs.Words.{EngineState, Queues, ticket_of}
 use Rattle.tb_embed.proofs.EngineRun.{control_serves}
 use Rattle.tb_embed.proofs.engine.Engine.shut.Goals as goal
 

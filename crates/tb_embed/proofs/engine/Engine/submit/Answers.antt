@@ -1,9 +1,6 @@
 use Rattle.std.proofs.Common.{sym, subst, ap, ◌∙◌, arith, ◌+◌, ◌≤◌, get_or, length}
-use Rattle.std.specs.Prelude.{slice_set}
-use Rattle.tb_work.specs.Packet.{Numbered}
+use Rattle.tb_embed.proofs.Words.{slice_set, Numbered, EngineState, Queues, Steps, packet_ticket, ticket_of}
 use Rattle.tb_work.specs.declared.item.Item.TheVariants as item
-use Rattle.tb_embed.specs.Engine.{EngineState, Queues, Steps}
-use Rattle.tb_embed.specs.Queued.{packet_ticket, ticket_of}
 use Rattle.tb_embed.proofs.EngineRun.{Stops, Takes, packet_serves, is_among}
 use Rattle.tb_embed.proofs.engine.Engine.submit.Goals as goal
 

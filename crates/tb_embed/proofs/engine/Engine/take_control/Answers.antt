@@ -1,8 +1,5 @@
 use Rattle.std.proofs.Common.{ap, sym, ◌∙◌, length, false}
-use Rattle.tb_core.specs.BareLedger.{halts}
-use Rattle.tb_core.specs.Front.{FrontState, take_step}
-use Rattle.tb_embed.specs.Engine.{places_of}
-use Rattle.tb_embed.specs.Queued.{ticket_of}
+use Rattle.tb_embed.proofs.Words.{halts, FrontState, take_step, places_of, ticket_of}
 use Rattle.tb_embed.proofs.Parcels.{steps_after, places_after_group, halts_after}
 use Rattle.tb_embed.proofs.engine.Engine.take_control.Goals as goal
 

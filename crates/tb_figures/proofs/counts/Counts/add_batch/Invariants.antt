@@ -1,6 +1,6 @@
 -- So far the events and the packets of each submitter are counted.
 use Rattle.std.proofs.Common.{◌≡◌, length, take}
-use Rattle.tb_figures.specs.Tally.{IsSplit}
+use Rattle.tb_figures.proofs.Words.{IsSplit}
 use Rattle.tb_figures.proofs.counts.Counts.add_batch.Given as goal
 
 abbrev pub invariant-loop-stub : goal.invariant-loop-stub

@@ -1,9 +1,5 @@
 use Rattle.std.proofs.Common.{refl, subst, sym, ◌++◌, List}
-use Rattle.tb_layout.specs.Events.{Input}
-use Rattle.tb_core.specs.declared.parcel.Parcel.{Parcel}
-use Rattle.tb_figures.specs.Counts.{AreCounts, HasPlaces, groups_of, inputs_of}
-use Rattle.tb_figures.specs.Tally.{IsTally}
-use Rattle.tb_figures.specs.declared.counts.Counts.{Counts}
+use Rattle.tb_figures.proofs.Words.{Input, Parcel, AreCounts, HasPlaces, groups_of, inputs_of, IsTally, Counts}
 use Rattle.tb_figures.proofs.CountLemmas.{counts_batch, counts_pulse}
 use Rattle.tb_figures.proofs.counts.Counts.with_parcel.Goals as goal
 

@@ -1,6 +1,5 @@
 use Rattle.std.proofs.Common.{◌≡◌, ◌∙◌, ap, arith, subst, sym}
-use Rattle.std.specs.Prelude.{OnOk}
-use Rattle.tb_figures.specs.Retries.{AreOrdered, IsIndexFor, RetriesState, inserted, waiting_one}
+use Rattle.tb_figures.proofs.Words.{OnOk, AreOrdered, IsIndexFor, RetriesState, inserted, waiting_one}
 use Rattle.tb_figures.proofs.RetryLemmas.{insert_is, ordered_more}
 use Rattle.tb_figures.proofs.retries.Retries.add.Goals as goal
 use Rattle.tb_figures.proofs.retries.Retries.add.Goals.{in-Ok, in-Err}

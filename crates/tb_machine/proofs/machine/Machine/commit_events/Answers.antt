@@ -1,7 +1,6 @@
 -- Found by the prover itself; on file since the check of an edit then costs less.
 use Rattle.std.proofs.Common.{rules, arith, map}
-use Rattle.std.proofs.lemmas.Grind.{common_steps}
-use Rattle.tb_layout.specs.Events.{chunks}
+use Rattle.tb_machine.proofs.Words.{common_steps, chunks}
 use Rattle.tb_machine.proofs.Joined.{length-events_results}
 use Rattle.tb_machine.proofs.machine.Machine.commit_events.Goals as goal
 

@@ -1,6 +1,5 @@
 use Rattle.std.proofs.Common.{◌∙◌, ap, append-nil, refl, sym, ◌++◌}
-use Rattle.tb_rings.specs.Ends.{given}
-use Rattle.tb_pipe.specs.Carried.{number_after}
+use Rattle.tb_pipe.proofs.Words.{given, number_after}
 use Rattle.tb_pipe.proofs.Cleared.{none_in_empty, one_counted, one_given}
 use Rattle.tb_pipe.proofs.batching.BatchRing.give_all.Goals as goal
 

@@ -1,6 +1,5 @@
 use Rattle.std.proofs.Common.{◌≡◌, ◌++◌}
-use Rattle.tb_rings.specs.Ends.{given, SameOutlet}
-use Rattle.tb_pipe.specs.Carried.{number_after}
+use Rattle.tb_pipe.proofs.Words.{given, SameOutlet, number_after}
 use Rattle.tb_pipe.proofs.batching.BatchRing.give_all.Given as goal
 
 abbrev pub invariant-loop-parcel : goal.invariant-loop-parcel

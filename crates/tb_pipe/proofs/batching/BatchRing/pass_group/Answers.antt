@@ -1,4 +1,4 @@
-use Rattle.tb_rings.specs.Ends.{given}
+use Rattle.tb_pipe.proofs.Words.{given}
 use Rattle.tb_pipe.proofs.Batches.{group_more}
 use Rattle.tb_pipe.proofs.batching.BatchRing.pass_group.Goals as goal
 

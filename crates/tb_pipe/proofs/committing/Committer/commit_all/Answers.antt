@@ -1,6 +1,5 @@
 use Rattle.std.proofs.Common.{refl, sym, ◌∙◌, subst, Bool, ◌++◌, ◌∷◌, []}
-use Rattle.tb_rings.specs.Ends.{given, taken}
-use Rattle.tb_pipe.specs.Carried.{AreCleared, CommittedTo, IsCommitted}
+use Rattle.tb_pipe.proofs.Words.{given, taken, AreCleared, CommittedTo, IsCommitted}
 use Rattle.tb_pipe.proofs.Cleared.{none_cleared, one_cleared}
 use Rattle.tb_pipe.proofs.committing.Committer.commit_all.Goals as goal
 

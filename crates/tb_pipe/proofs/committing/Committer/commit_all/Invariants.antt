@@ -1,6 +1,4 @@
-use Rattle.tb_rings.specs.Ends.{given, taken, SameInlet, SameOutlet}
-use Rattle.tb_core.specs.Journal.{LedgerState}
-use Rattle.tb_pipe.specs.Carried.{AreCleared, IsCommitted}
+use Rattle.tb_pipe.proofs.Words.{given, taken, SameInlet, SameOutlet, LedgerState, AreCleared, IsCommitted}
 use Rattle.tb_pipe.proofs.committing.Committer.commit_all.Given as goal
 
 abbrev pub invariant-loop : goal.invariant-loop

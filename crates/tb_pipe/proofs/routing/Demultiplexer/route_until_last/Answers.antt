@@ -1,6 +1,6 @@
 -- Found by the prover itself; on file since the check then costs less.
 use Rattle.std.proofs.Common.{arith}
-use Rattle.std.proofs.lemmas.Grind.{common_steps}
+use Rattle.tb_pipe.proofs.Words.{common_steps}
 use Rattle.tb_pipe.proofs.routing.Demultiplexer.route_until_last.Goals as goal
 
 pub loop-preserved : goal.loop-preserved

@@ -1,6 +1,4 @@
-use Rattle.tb_rings.specs.Ends.{taken, SameInlet}
-use Rattle.tb_pipe.specs.Carried.{answers_in}
-use Rattle.tb_pipe.specs.Outlets.{SameOutlets, AllGiven}
+use Rattle.tb_pipe.proofs.Words.{taken, SameInlet, answers_in, SameOutlets, AllGiven}
 use Rattle.tb_pipe.proofs.routing.Demultiplexer.route_until_last.Given as goal
 
 abbrev pub invariant-loop : goal.invariant-loop

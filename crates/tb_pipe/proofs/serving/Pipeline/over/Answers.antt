@@ -1,5 +1,5 @@
 use Rattle.std.proofs.Common.{◌∙◌, subst, sym}
-use Rattle.tb_rings.specs.Ends.{given, taken}
+use Rattle.tb_pipe.proofs.Words.{given, taken}
 use Rattle.tb_pipe.proofs.Fresh.{fresh_committed}
 use Rattle.tb_pipe.proofs.serving.Pipeline.over.Goals as goal
 

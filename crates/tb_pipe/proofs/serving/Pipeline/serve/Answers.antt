@@ -1,5 +1,5 @@
 use Rattle.std.proofs.Common.{◌∙◌, ap}
-use Rattle.tb_pipe.specs.Run.{PipelineState}
+use Rattle.tb_pipe.proofs.Words.{PipelineState}
 use Rattle.tb_pipe.proofs.Origins.{served_is}
 use Rattle.tb_pipe.proofs.serving.Pipeline.serve.Goals as goal
 

@@ -1,6 +1,5 @@
 use Rattle.std.proofs.Common.{◌≡◌, ◌∙◌, refl, subst, sym}
-use Rattle.tb_rings.specs.Ends.{given, taken}
-use Rattle.tb_pipe.specs.Carried.{IsCommitted}
+use Rattle.tb_pipe.proofs.Words.{given, taken, IsCommitted}
 use Rattle.tb_pipe.proofs.Fresh.{fresh_committed}
 use Rattle.tb_pipe.proofs.serving.Pipeline.with_ledger.Goals as goal
 

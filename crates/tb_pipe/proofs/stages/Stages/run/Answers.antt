@@ -1,5 +1,5 @@
 use Rattle.std.proofs.Common.{ap, refl, rules, ◌∙◌}
-use Rattle.tb_rings.specs.Ends.{outlet_ring}
+use Rattle.tb_pipe.proofs.Words.{outlet_ring}
 use Rattle.tb_pipe.proofs.stages.Stages.run.Goals as goal
 
 pub returns-in_default-start_demultiplexer-clause-refused : goal.returns-in_default-start_demultiplexer-clause-refused

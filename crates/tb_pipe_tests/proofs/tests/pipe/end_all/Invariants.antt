@@ -1,5 +1,5 @@
 use Rattle.std.proofs.Common.{◌≡◌, map}
-use Rattle.tb_submit.specs.Ends.{origin_of, end_origin}
+use Rattle.tb_submit.specs.clauses.Ends.{origin_of, end_origin}
 use Rattle.tb_pipe_tests.proofs.tests.pipe.end_all.Given as goal
 
 abbrev pub invariant-loop-submitter : goal.invariant-loop-submitter

@@ -1,6 +1,6 @@
 use Rattle.std.proofs.Common.{◌≡◌, ◌≤◌, ◌++◌, drop, Some, string_bytes}
-use Rattle.std.specs.Prelude.{IfSome}
-use Rattle.tb_program.specs.Printing.{text_from}
+use Rattle.tb_program.proofs.Words.{IfSome}
+use Rattle.tb_program.specs.inside.Printing.{text_from}
 use Rattle.tb_program.proofs.list.listing.put_lines.Given as goal
 
 abbrev pub invariant-loop-line : goal.invariant-loop-line

@@ -1,7 +1,5 @@
 use Rattle.std.proofs.Common.{◌≡◌, ◌++◌, map, []}
-use Rattle.tb_program.specs.SplitPlan.{line_of}
-use Rattle.std.specs.Vec.Iter.{drain_items}
-use Rattle.tb_program.specs.Plan.{queue_of, plan_after}
+use Rattle.tb_program.proofs.Words.{line_of, drain_items, queue_of, plan_after}
 use Rattle.tb_program.proofs.list.planning.plan_all.Given as goal
 
 abbrev pub invariant-loop-item : goal.invariant-loop-item

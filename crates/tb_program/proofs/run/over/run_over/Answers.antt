@@ -1,13 +1,5 @@
 use Rattle.std.proofs.Common.{◌≡◌, ◌∙◌, Vec, length, ap, sym, arith, subst}
-use Rattle.std.proofs.lemmas.List.{length-map}
-use Rattle.std.specs.List.{flat_map}
-use Rattle.std.specs.declared.alloc.Global.{Global}
-use Rattle.tb_work.specs.declared.packet.Packet.{Packet}
-use Rattle.tb_program_text.specs.Script.{limit_of, submitters_of}
-use Rattle.tb_program.specs.Drivers.{lists_of, share_of}
-use Rattle.tb_program.specs.Noting.{AreFresh}
-use Rattle.tb_program.specs.Operations.{operations_of}
-use Rattle.tb_program.specs.Sharing.{moments_asked, shares_of, shuts_in}
+use Rattle.tb_program.proofs.Words.{length-map, flat_map, Global, Packet, limit_of, submitters_of, lists_of, share_of, AreFresh, operations_of, moments_asked, shares_of, shuts_in}
 use Rattle.tb_program.proofs.Sharing.{dealt_lists}
 use Rattle.tb_program.proofs.run.over.run_over.Goals as goal
 

@@ -1,6 +1,5 @@
 use Rattle.std.proofs.Common.{rules, ◌≡◌, ◌∙◌, ◌∷◌, suc, slice_get, length, ap, sym, subst, arith}
-use Rattle.std.specs.Vec.Iter.{into_iter_items}
-use Rattle.tb_program.specs.Answering.{AreAllDone}
+use Rattle.tb_program.proofs.Words.{into_iter_items, AreAllDone}
 use Rattle.tb_program.proofs.Packets.{first_done, first_text}
 use Rattle.tb_program.proofs.run.report.put_all_packets.Goals as goal
 

@@ -1,10 +1,6 @@
 use Rattle.std.proofs.Common.{◌≡◌, ◌+◌, ◌≤◌, ◌++◌, length, map, string_bytes}
-use Rattle.std.specs.Vec.Iter.{into_iter_items}
-use Rattle.tb_layout.specs.inside.Limits.{submitters_max}
-use Rattle.tb_submit.specs.Ends.{replies_of}
-use Rattle.tb_program.specs.Answering.{AreAllAnswered, AreAllDone}
-use Rattle.tb_program.specs.Drivers.{told_of}
-use Rattle.tb_program.specs.RunText.{packets_text}
+use Rattle.tb_program.proofs.Words.{into_iter_items, submitters_max, replies_of, AreAllAnswered, AreAllDone, results_of}
+use Rattle.tb_program.specs.clauses.RunText.{packets_text}
 use Rattle.tb_program.proofs.run.report.put_all_packets.Given as goal
 
 abbrev pub invariant-loop-driver : goal.invariant-loop-driver
@@ -16,6 +12,6 @@ invariant-loop-driver l =
       number : length ends ≡ length drivers;
       answered : AreAllAnswered drivers ends;
       done : AreAllDone drivers → AreAllDone l.fn.drivers.items;
-      text : string_bytes l.out ++ packets_text l.submitter (map told_of drivers) (replies_of ends)
-          ≡ string_bytes l.fn.out ++ packets_text 0 (map told_of l.fn.drivers.items) (replies_of l.fn.ends.items);
+      text : string_bytes l.out ++ packets_text l.submitter (map results_of drivers) (replies_of ends)
+          ≡ string_bytes l.fn.out ++ packets_text 0 (map results_of l.fn.drivers.items) (replies_of l.fn.ends.items);
     }

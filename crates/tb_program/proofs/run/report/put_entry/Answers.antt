@@ -1,8 +1,5 @@
 use Rattle.std.proofs.Common.{rules, ◌≡◌, ◌∙◌, ◌+◌, ◌++◌, length, ap, sym, string_bytes, arith}
-use Rattle.std.proofs.lemmas.List.{append-nil}
-use Rattle.tb_core.specs.Ledger.{group_of}
-use Rattle.tb_core.specs.declared.journal.Entry.{Entry}
-use Rattle.tb_program.specs.RunText.{pulses_text}
+use Rattle.tb_program.proofs.Words.{append-nil, group_of, Entry, pulses_text}
 use Rattle.tb_program.proofs.Pulses.{as_many_packets, none_in_batch}
 use Rattle.tb_program.proofs.run.report.put_entry.Goals as goal
 

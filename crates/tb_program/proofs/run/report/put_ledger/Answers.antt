@@ -1,8 +1,5 @@
 use Rattle.std.proofs.Common.{◌<◌, ◌∙◌, ◌^◌, ◌++◌, append_assoc, length, ap, subst, string_bytes, sym}
-use Rattle.tb_core.specs.Journal.{inputs}
-use Rattle.tb_machine.specs.Replay.{State}
-use Rattle.tb_program.specs.Listing.{state_text}
-use Rattle.tb_program.specs.RunText.{pulses_text, refused_pulses_text}
+use Rattle.tb_program.proofs.Words.{inputs, State, state_text, pulses_text, refused_pulses_text}
 use Rattle.tb_program.proofs.Pulses.{of_entries}
 use Rattle.tb_program.proofs.run.report.put_ledger.Goals as goal
 

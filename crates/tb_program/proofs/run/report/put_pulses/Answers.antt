@@ -1,8 +1,5 @@
 use Rattle.std.proofs.Common.{rules, ◌≡◌, ◌<◌, ◌∙◌, ◌+◌, ◌∷◌, List, drop, length, get_or, ap, arith}
-use Rattle.std.specs.List.{flat_map}
-use Rattle.std.proofs.lemmas.List.{drop_more, length-append}
-use Rattle.tb_core.specs.Ledger.{group_of}
-use Rattle.tb_core.specs.declared.journal.Entry.{Entry}
+use Rattle.tb_program.proofs.Words.{flat_map, drop_more, length-append, group_of, Entry}
 use Rattle.tb_program.proofs.Pulses.{first_pulses}
 use Rattle.tb_program.proofs.run.report.put_pulses.Goals as goal
 

@@ -1,7 +1,5 @@
 use Rattle.std.proofs.Common.{◌≡◌, ◌+◌, ◌++◌, drop, length, string_bytes}
-use Rattle.std.specs.List.{flat_map}
-use Rattle.tb_core.specs.Ledger.{group_of}
-use Rattle.tb_program.specs.RunText.{pulses_text}
+use Rattle.tb_program.proofs.Words.{flat_map, group_of, pulses_text}
 use Rattle.tb_program.proofs.run.report.put_pulses.Given as goal
 
 abbrev pub invariant-loop-entry : goal.invariant-loop-entry

@@ -1,5 +1,5 @@
 use Rattle.std.proofs.Common.{◌≡◌, ◌++◌, string_bytes}
-use Rattle.tb_program.specs.RunText.{refused_pulses_text}
+use Rattle.tb_program.proofs.Words.{refused_pulses_text}
 use Rattle.tb_program.proofs.run.report.put_refused_pulses.Given as goal
 
 abbrev pub invariant-loop : goal.invariant-loop

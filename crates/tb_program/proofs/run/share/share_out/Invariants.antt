@@ -1,5 +1,5 @@
 use Rattle.std.proofs.Common.{◌≡◌, length}
-use Rattle.tb_program.specs.Sharing.{AreDealt, moments_asked, shuts_in}
+use Rattle.tb_program.proofs.Words.{AreDealt, moments_asked, shuts_in}
 use Rattle.tb_program.proofs.run.share.share_out.Given as goal
 
 abbrev pub invariant-loop-item : goal.invariant-loop-item

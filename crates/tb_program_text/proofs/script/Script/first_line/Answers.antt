@@ -1,6 +1,5 @@
 use Rattle.std.proofs.Common.{◌≡◌, ◌<◌, ap, sym, ◌∙◌, arith, rules, length, length-append}
-use Rattle.tb_program_text.specs.Script.{line_max}
-use Rattle.tb_program_text.specs.Text.{after_first_line, first_line}
+use Rattle.tb_program_text.proofs.Words.{line_max, after_first_line, first_line}
 use Rattle.tb_program_text.proofs.FirstLines.{whole_text}
 use Rattle.tb_program_text.proofs.UsualLines.{too_long}
 use Rattle.tb_program_text.proofs.script.Script.first_line.Goals as goal

@@ -1,5 +1,5 @@
 use Rattle.std.proofs.Common.{arith, refl}
-use Rattle.std.specs.Prelude.{codes}
+use Rattle.tb_program_text.proofs.Words.{codes}
 use Rattle.tb_program_text.proofs.UsualLines.{keyword_first, says_more, usual_account, usual_packet, usual_transfer}
 use Rattle.tb_program_text.proofs.script.Script.take_usual.Goals as goal
 

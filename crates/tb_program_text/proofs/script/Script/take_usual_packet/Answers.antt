@@ -1,6 +1,7 @@
 use Rattle.std.proofs.Common.{◌-◌, ◌∷◌, [], rules}
-use Rattle.tb_program_text.specs.Script.{submitters_of, with_line}
-use Rattle.tb_program_text.specs.Text.{first_line, words_of}
+use Rattle.tb_program_text.proofs.Words.{submitters_of, first_line}
+use Rattle.tb_program_text.specs.clauses.Script.{with_line}
+use Rattle.tb_program_text.specs.clauses.Text.{words_of}
 use Rattle.tb_program_text.proofs.UsualLines.{line_is_text, numbers_are_text, two_numbers}
 use Rattle.tb_program_text.proofs.script.Script.take_usual_packet.Goals as goal
 

@@ -1,7 +1,5 @@
 use Rattle.std.proofs.Common.{rules, ◌∷◌, [], ◌∙◌, ap, sym, subst, arith, length, length-append}
-use Rattle.tb_work.specs.declared.item.Item.TheVariants.{Pulse}
-use Rattle.tb_submit.specs.Ends.{SenderState}
-use Rattle.tb_submit.specs.Lists.{ArePulses}
+use Rattle.tb_submit.proofs.Words.{Pulse, SenderState, ArePulses}
 use Rattle.tb_submit.proofs.QueuedItems.{pulses_more}
 use Rattle.tb_submit.proofs.control.Control.pulse.Goals as goal
 

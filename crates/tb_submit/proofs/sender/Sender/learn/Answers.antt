@@ -1,12 +1,7 @@
 use Rattle.std.proofs.Common.{rules, List, ap, ◌∙◌, sym, subst}
 use Rattle.std.specs.Arc.{arc_value}
 use Rattle.crossbeam_queue.specs.Passes.{IsPassOf}
-use Rattle.tb_submit.specs.Ends.{SenderState}
-use Rattle.tb_submit.specs.Inside.{view_of}
-use Rattle.tb_submit.specs.Rule.{TellsOwn}
-use Rattle.tb_work.specs.Queue.{IsUnended}
-use Rattle.tb_work.specs.declared.item.Ticket.{Ticket}
-use Rattle.tb_submit.specs.declared.rule.View.{View}
+use Rattle.tb_submit.proofs.Words.{SenderState, view_of, TellsOwn, IsUnended, Ticket, View}
 use Rattle.tb_submit.proofs.RuleSteps.{learns_of, learns_own}
 use Rattle.tb_submit.proofs.Learning.{still_open}
 use Rattle.tb_submit.proofs.sender.Sender.learn.Goals as goal

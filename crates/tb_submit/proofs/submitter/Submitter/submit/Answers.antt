@@ -1,13 +1,7 @@
 use Rattle.std.proofs.Common.{◌≡◌, ◌<◌, ◌-◌, ◌+◌, ap, arith, inr, length, refl, subst, sym, ◌∙◌}
-use Rattle.tb_work.specs.Admission.{admission_of}
-use Rattle.tb_work.specs.Packet.{Numbered}
-use Rattle.tb_rings.specs.Ends.{taken}
-use Rattle.std.specs.Prelude.{IsOk}
-use Rattle.tb_submit.specs.Ends.{SenderState, SubmitterState}
-use Rattle.tb_submit.specs.Inside.{IsSubmitter}
-use Rattle.tb_submit.specs.Refusals.{in_flight}
+use Rattle.tb_submit.proofs.Words.{admission_of, Numbered, taken, IsOk, SenderState, SubmitterState, IsSubmitter, in_flight}
 use Rattle.tb_submit.proofs.SubmitterCounts.{counts_packet}
-use Rattle.tb_submit.proofs.SubmitRefusals.{is_due, is_other, none_is_due, told_is_due}
+use Rattle.tb_submit.proofs.SubmitRefusals.{is_due, is_other, none_is_due, refusal_is_due}
 use Rattle.tb_submit.proofs.submitter.Submitter.submit.Goals as goal
 
 pub invariant_of-self : goal.invariant_of-self
@@ -21,7 +15,7 @@ invariant_of-self g c =
     let left : length before.sender.queued - length (taken before.inlet) < before.credit = omega
     (arith, flying, c.if-in_flight-self.false, c.self.invariant.credited) in
     subst (λ (s : SenderState). IsSubmitter s.seat s.queued
-    (before.queued + 1) before.credit before.read before.told (taken before.inlet)) (sym c.in-Ok.ensures.ok)
+    (before.queued + 1) before.credit before.read before.first_refusal (taken before.inlet)) (sym c.in-Ok.ensures.ok)
     (counts_packet _ _ _ _ _ _ _ job c.self.invariant (ap (λ (j : Numbered). j.submitter) made ∙ c.number.ensures)
     (ap (λ (j : Numbered). j.number) made)
     (subst (λ (j : Numbered). IsOk (admission_of before.sender.seat.limit j.packet)) (sym made)
@@ -31,16 +25,16 @@ invariant_of-self g c =
 
 pub returns-in-Some-clause-refusal : goal.returns-in-Some-clause-refusal
 returns-in-Some-clause-refusal g c =
-    is_due _ c.in-Some.refusal _ (told_is_due _ _ c.args.packet _ _ c.self.view_is c.self.invariant.told c.in-Some.is)
+    is_due _ c.in-Some.refusal _ (refusal_is_due _ _ c.args.packet _ _ c.self.view_is c.self.invariant.first_refusal c.in-Some.is)
 
 pub returns-in-Ok-clause-admitted : goal.returns-in-Ok-clause-admitted
 returns-in-Ok-clause-admitted g c =
-    none_is_due _ _ c.args.packet _ _ _ c.self.view_is c.self.invariant.told c.in_default.is
+    none_is_due _ _ c.args.packet _ _ _ c.self.view_is c.self.invariant.first_refusal c.in_default.is
     c.in_ok-admitted.ensures.admitted (c.limit.ensures ∙ ap (λ (s : SubmitterState). s.origin.seat.limit) c.self.view_is)
     c.in_flight.ensures.value c.if-in_flight-self.false
 
 pub returns-in-Err-Packet-clause-refusal : goal.returns-in-Err-Packet-clause-refusal
 returns-in-Err-Packet-clause-refusal g c =
-    is_other _ _ _ (none_is_due _ _ c.args.packet _ _ _ c.self.view_is c.self.invariant.told c.in_default.is
+    is_other _ _ _ (none_is_due _ _ c.args.packet _ _ _ c.self.view_is c.self.invariant.first_refusal c.in_default.is
     c.in_ok-admitted.ensures.admitted (c.limit.ensures ∙ ap (λ (s : SubmitterState). s.origin.seat.limit) c.self.view_is)
     c.in_flight.ensures.value c.if-in_flight-self.false) (inr refl)

@@ -1,5 +1,5 @@
 use Rattle.std.proofs.Common.{◌≡◌}
-use Rattle.tb_submit_tests.specs.Queue.{AreOf}
+use Rattle.tb_submit_tests.specs.inside.Queue.{AreOf}
 use Rattle.tb_submit_tests.proofs.tests.ahead.learn_all.Given as goal
 
 abbrev pub invariant-loop : goal.invariant-loop

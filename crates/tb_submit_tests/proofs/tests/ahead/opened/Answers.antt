@@ -1,5 +1,5 @@
 use Rattle.std.proofs.Common.{ap, sym}
-use Rattle.tb_submit.specs.Ends.{SenderState}
+use Rattle.tb_submit.specs.clauses.Ends.{SenderState}
 use Rattle.tb_submit_tests.proofs.Submitters.{all_of_queue}
 use Rattle.tb_submit_tests.proofs.tests.ahead.opened.Goals as goal
 

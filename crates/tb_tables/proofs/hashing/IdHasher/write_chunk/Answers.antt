@@ -1,7 +1,5 @@
 use Rattle.std.proofs.Common.{◌∙◌, ap, arith}
-use Rattle.std.proofs.lemmas.List.{take_all}
-use Rattle.tb_layout.specs.Bytes.{little_endian}
-use Rattle.tb_tables.specs.Hashing.{with_id}
+use Rattle.tb_tables.proofs.Words.{take_all, little_endian, with_id}
 use Rattle.tb_tables.proofs.hashing.IdHasher.write_chunk.Goals as goal
 
 pub returns : goal.returns

@@ -1,6 +1,5 @@
 use Rattle.std.proofs.Common.{◌≡◌, drop, fold, map}
-use Rattle.tb_layout.specs.Bytes.{little_endian}
-use Rattle.tb_tables.specs.Hashing.{with_id}
+use Rattle.tb_tables.proofs.Words.{little_endian, with_id}
 use Rattle.tb_tables.proofs.hashing.IdHasherHasher.write.Given as goal
 
 abbrev pub invariant-loop-chunk : goal.invariant-loop-chunk

@@ -1,7 +1,5 @@
 use Rattle.std.proofs.Common.{◌∙◌, sym, ap, not, ◌&&◌, arith}
-use Rattle.std.proofs.lemmas.Grind.{common_steps}
-use Rattle.tb_tables.proofs.Words.{facts_of, its_pair, contents_in, transfer_with}
-use Rattle.tb_tables.specs.Conditions.{stamped}
+use Rattle.tb_tables.proofs.Words.{common_steps, facts_of, its_pair, contents_in, transfer_with, stamped}
 use Rattle.tb_tables.proofs.LookUps.{is-done, isn't-done, none-there, told-new, transfers-length}
 use Rattle.tb_tables.proofs.StoredTransfers as stepping
 use Rattle.tb_tables.proofs.maps.Maps.store.Goals as goal

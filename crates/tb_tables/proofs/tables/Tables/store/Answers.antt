@@ -1,7 +1,5 @@
 use Rattle.std.proofs.Common.{length, arith, ap, sym, ◌∙◌, ◌≡◌, None, Ok}
-use Rattle.std.proofs.lemmas.Grind.{common_steps}
-use Rattle.tb_tables.proofs.Words.{has_pair, history_in, transfer_with, with_change}
-use Rattle.tb_tables.specs.Conditions.{stamped}
+use Rattle.tb_tables.proofs.Words.{common_steps, has_pair, history_in, transfer_with, with_change, stamped}
 use Rattle.tb_tables.proofs.LookUps.{none-there}
 use Rattle.tb_tables.proofs.UndoList.{undoable-indexed, transfer-made}
 use Rattle.tb_tables.proofs.tables.Tables.store.Goals as goal

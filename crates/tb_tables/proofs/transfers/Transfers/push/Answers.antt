@@ -1,6 +1,5 @@
 use Rattle.std.proofs.Common.{◌∙◌, ap, ap₂, sym, not, Ok, ◌++◌, ◌∷◌, []}
-use Rattle.tb_tables.proofs.Words.{entries_of}
-use Rattle.tb_tables.specs.Conditions.{stamped}
+use Rattle.tb_tables.proofs.Words.{entries_of, stamped}
 use Rattle.tb_tables.proofs.Columns.{pushed-entry, told-found}
 use Rattle.tb_tables.proofs.transfers.Transfers.push.Goals as goal
 

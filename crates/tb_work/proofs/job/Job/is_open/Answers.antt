@@ -1,6 +1,5 @@
 use Rattle.std.proofs.Common.{◌∙◌, ap}
-use Rattle.tb_layout.specs.Events.{chunks}
-use Rattle.tb_work.specs.Job.{is_open}
+use Rattle.tb_work.proofs.Words.{chunks, is_open}
 use Rattle.tb_work.proofs.Jobs.{is_open-chunk}
 use Rattle.tb_work.proofs.job.Job.is_open.Goals as goal
 

@@ -1,5 +1,4 @@
-use Rattle.tb_layout.proofs.Rising.{rise_from_0}
-use Rattle.tb_work.specs.Admission.{count_of}
+use Rattle.tb_work.proofs.Words.{rise_from_0, count_of}
 use Rattle.tb_work.proofs.reply.Reply.committed.Goals as goal
 
 pub invariant_of-result : goal.invariant_of-result

@@ -1,5 +1,5 @@
 use Rattle.std.proofs.Common.{◌≡◌, replicate}
-use Rattle.tb_world.specs.Mailbox.{empty_mailbox}
+use Rattle.tb_world.proofs.Words.{empty_mailbox}
 use Rattle.tb_world.proofs.mailbox.Mailboxes.new.Given as goal
 
 abbrev pub invariant-loop : goal.invariant-loop

@@ -1,6 +1,5 @@
 use Rattle.std.proofs.Common.{rules, sym, subst, ◌<◌}
-use Rattle.tb_world.specs.World.{WorldState}
-use Rattle.tb_world.specs.Progress.{left}
+use Rattle.tb_world.proofs.Words.{WorldState, left}
 use Rattle.tb_world.proofs.progress.Finish.{SoFar, moving_falls, one_more, has_finished, has_rested}
 use Rattle.tb_world.proofs.world.World.finish.Goals as goal
 

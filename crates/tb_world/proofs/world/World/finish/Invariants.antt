@@ -1,4 +1,4 @@
-use Rattle.tb_world.specs.Progress.{left}
+use Rattle.tb_world.proofs.Words.{left}
 use Rattle.tb_world.proofs.progress.Finish.{SoFar}
 use Rattle.tb_world.proofs.world.World.finish.Given as goal
 

@@ -1,9 +1,5 @@
 use Rattle.std.proofs.Common.{◌≡◌, ◌∙◌, refl, sym, ap, subst, append_assoc, true, [], ◌∷◌, ◌++◌, List}
-use Rattle.std.specs.Prelude.{Result, Ok, Err, OnErr, is_some}
-use Rattle.tb_world.specs.declared.event.Event.{Event}
-use Rattle.tb_world.specs.World.{WorldState, after_event, moved, run, takes_memory}
-use Rattle.tb_world.specs.EveryOrder.{HasRun}
-use Rattle.std.proofs.lemmas.List.{nil_from_length}
+use Rattle.tb_world.proofs.Words.{Result, Ok, Err, OnErr, is_some, Event, WorldState, after_event, moved, run, takes_memory, HasRun, nil_from_length}
 use Rattle.tb_world.proofs.orders.Told.{run_more, runs_go_on}
 use Rattle.tb_world.proofs.world.World.go_through.Goals as goal
 

@@ -1,5 +1,5 @@
 use Rattle.std.proofs.Common.{◌≡◌, ◌++◌}
-use Rattle.tb_world.specs.World.{run}
+use Rattle.tb_world.proofs.Words.{run}
 use Rattle.tb_world.proofs.world.World.go_through.Given as goal
 
 abbrev pub invariant-loop-event : goal.invariant-loop-event

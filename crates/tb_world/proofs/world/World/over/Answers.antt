@@ -1,5 +1,5 @@
 use Rattle.std.proofs.Common.{refl, [], arith}
-use Rattle.std.proofs.lemmas.Grind.{common_steps}
+use Rattle.tb_world.proofs.Words.{common_steps}
 use Rattle.tb_world.proofs.orders.Told.{has_run}
 use Rattle.tb_world.proofs.world.World.over.Goals as goal
 

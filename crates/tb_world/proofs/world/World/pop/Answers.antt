@@ -1,12 +1,5 @@
 use Rattle.std.proofs.Common.{◌≡◌, ◌≤◌, ◌∙◌, ℕ, List, ◌∷◌, Bool, true, false, ap, subst, All, arith, rules}
-use Rattle.std.proofs.lemmas.Grind.{common_steps}
-use Rattle.std.proofs.lemmas.List.Elements.{All-tail}
-use Rattle.tb_work.specs.declared.item.Ticket.{Ticket}
-use Rattle.tb_core.specs.declared.parcel.Parcel.{Parcel}
-use Rattle.tb_core.specs.Front.{FrontState, Taken, IsFront, take_result, take_step}
-use Rattle.tb_world.specs.declared.sender.WorldSender.{WorldSender}
-use Rattle.tb_world.specs.World.{IsWorld}
-use Rattle.tb_core.proofs.TicketDecisions.{is_step}
+use Rattle.tb_world.proofs.Words.{common_steps, All-tail, Ticket, Parcel, FrontState, Taken, IsFront, take_result, take_step, WorldSender, IsWorld, is_step}
 use Rattle.tb_world.proofs.world.World.pop.Goals as goal
 
 -- a ticket was taken off the queue

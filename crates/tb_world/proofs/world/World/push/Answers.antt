@@ -1,8 +1,5 @@
 use Rattle.std.proofs.Common.{◌≤◌, ◌∙◌, sym, subst, All, List, ap, length, length-set, arith, rules}
-use Rattle.std.proofs.lemmas.Grind.{common_steps}
-use Rattle.std.proofs.lemmas.List.Elements.{All-push}
-use Rattle.tb_work.specs.declared.item.Ticket.{Ticket}
-use Rattle.tb_world.specs.declared.sender.WorldSender.{WorldSender}
+use Rattle.tb_world.proofs.Words.{common_steps, All-push, Ticket, WorldSender}
 use Rattle.tb_world.proofs.world.World.push.Goals as goal
 
 pub invariant_of-self : goal.invariant_of-self

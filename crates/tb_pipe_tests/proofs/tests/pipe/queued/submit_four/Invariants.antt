@@ -1,5 +1,5 @@
 use Rattle.std.proofs.Common.{◌≡◌}
-use Rattle.tb_submit.specs.Ends.{origin_of}
+use Rattle.tb_submit.specs.clauses.Ends.{origin_of}
 use Rattle.tb_pipe_tests.proofs.tests.pipe.queued.submit_four.Given as goal
 
 abbrev pub invariant-loop-in_flight : goal.invariant-loop-in_flight

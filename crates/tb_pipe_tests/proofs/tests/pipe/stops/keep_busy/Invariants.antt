@@ -1,5 +1,5 @@
 use Rattle.std.proofs.Common.{◌≡◌}
-use Rattle.tb_submit.specs.Ends.{origin_of}
+use Rattle.tb_submit.specs.clauses.Ends.{origin_of}
 use Rattle.tb_pipe_tests.proofs.tests.pipe.stops.keep_busy.Given as goal
 
 abbrev pub invariant-loop : goal.invariant-loop

@@ -1,7 +1,6 @@
 use Rattle.std.proofs.Common.{◌≡◌, ◌∙◌, ap, sym, rules}
-use Rattle.tb_work.specs.Job.{numbered_packet}
-use Rattle.tb_program.specs.SplitPlan.{with_planned}
-use Rattle.tb_program.specs.Plan.{Packet, number_in}
+use Rattle.tb_program.proofs.Words.{numbered_packet, with_planned, number_in}
+use Rattle.tb_program.specs.clauses.Plan.{Packet}
 use Rattle.tb_program.proofs.Printing.{on_ok, admitted_is_queued}
 use Rattle.tb_program.proofs.list.planning.Plan.add_packet.Goals as goal
 

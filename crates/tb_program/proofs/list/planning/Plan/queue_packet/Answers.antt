@@ -1,5 +1,5 @@
 use Rattle.std.proofs.Common.{arith}
-use Rattle.std.proofs.lemmas.Grind.{common_steps}
+use Rattle.tb_program.proofs.Words.{common_steps}
 use Rattle.tb_program.proofs.list.planning.Plan.queue_packet.Goals as goal
 
 pub invariant_of-self-2 : goal.invariant_of-self-2

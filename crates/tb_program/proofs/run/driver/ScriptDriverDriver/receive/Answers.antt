@@ -1,9 +1,5 @@
 use Rattle.std.proofs.Common.{◌∙◌, ◌∷◌, ◌++◌, [], Vec, ap, sym, subst}
-use Rattle.std.specs.declared.alloc.Global.{Global}
-use Rattle.std.specs.Vec.Iter.{into_iter_items}
-use Rattle.tb_program.specs.Drivers.{share_of, told_of}
-use Rattle.tb_program.specs.Noting.{IsHandedIn}
-use Rattle.tb_program.specs.declared.run.notes.Told.{Told}
+use Rattle.tb_program.proofs.Words.{Global, into_iter_items, share_of, results_of, IsHandedIn, PacketResult}
 use Rattle.tb_program.proofs.HandedPackets.{handed_longer}
 use Rattle.tb_program.proofs.run.driver.ScriptDriverDriver.receive.Goals as goal
 
@@ -13,10 +9,10 @@ returns-clause-seen c = λ limit queued read fewer seen complete.
     let kept = c.keep.ensures.replies complete in
     let before = seen kept.0 in
     let more = c.args.reply ∷ [] in (
-      subst (λ (told : Vec Told Global). IsHandedIn limit (read ++ more) (share_of driver)
-          (into_iter_items driver.packets) told.items queued) (sym c.keep.ensures.told)
+      subst (λ (results : Vec PacketResult Global). IsHandedIn limit (read ++ more) (share_of driver)
+          (into_iter_items driver.packets) results.items queued) (sym c.keep.ensures.results)
           (handed_longer limit read more (share_of driver) (into_iter_items driver.packets)
-          (told_of driver) queued before.0),
+          (results_of driver) queued before.0),
       kept.1 ∙ ap (λ replies. replies ++ more) before.1,
     )
 
@@ -27,8 +23,8 @@ returns-clause-asked c = λ packet limit queued read fewer asked complete.
     let before = asked kept.0 in
     let more = c.args.reply ∷ [] in
     let rest = packet ∷ into_iter_items driver.packets in (
-      subst (λ (told : Vec Told Global). IsHandedIn limit (read ++ more) (share_of driver) rest told.items queued)
-          (sym c.keep.ensures.told)
-          (handed_longer limit read more (share_of driver) rest (told_of driver) queued before.0),
+      subst (λ (results : Vec PacketResult Global). IsHandedIn limit (read ++ more) (share_of driver) rest results.items queued)
+          (sym c.keep.ensures.results)
+          (handed_longer limit read more (share_of driver) rest (results_of driver) queued before.0),
       kept.1 ∙ ap (λ replies. replies ++ more) before.1,
     )

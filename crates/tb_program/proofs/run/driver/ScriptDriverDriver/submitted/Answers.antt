@@ -1,10 +1,5 @@
 use Rattle.std.proofs.Common.{◌≡◌, ◌∙◌, ◌∷◌, ◌++◌, [], Vec, refl, ap, sym, subst}
-use Rattle.std.specs.declared.alloc.Global.{Global}
-use Rattle.std.specs.Vec.Iter.{into_iter_items}
-use Rattle.tb_work.specs.Packet.{ReplyValue}
-use Rattle.tb_drive.specs.Refusing.{IsFinalRefusal}
-use Rattle.tb_program.specs.Drivers.{share_of, told_of}
-use Rattle.tb_program.specs.Noting.{IsHandedIn}
+use Rattle.tb_program.proofs.Words.{Global, into_iter_items, ReplyValue, IsFinalRefusal, share_of, results_of, IsHandedIn}
 use Rattle.tb_program.proofs.HandedPackets.{one_queued, one_refused}
 use Rattle.tb_program.proofs.run.driver.ScriptDriverDriver.submitted.Goals as goal
 
@@ -13,11 +8,11 @@ returns-in-Ok-clause-queued c = λ job limit queued read asked is none complete.
     let driver = c.args.self.now in
     let share = share_of driver in
     let rest = into_iter_items driver.packets in
-    let told = c.tell.ensures.told complete in
-    let before = asked told.0 in (
-      subst (λ all. IsHandedIn limit read share rest all (queued ++ job ∷ [])) (sym told.1)
-          (one_queued limit read share rest job.packet (told_of driver) queued job refl none before.0),
-      ap (λ (replies : Vec ReplyValue Global). replies.items) c.tell.ensures.replies ∙ before.1,
+    let results = c.push.ensures.results complete in
+    let before = asked results.0 in (
+      subst (λ all. IsHandedIn limit read share rest all (queued ++ job ∷ [])) (sym results.1)
+          (one_queued limit read share rest job.packet (results_of driver) queued job refl none before.0),
+      ap (λ (replies : Vec ReplyValue Global). replies.items) c.push.ensures.replies ∙ before.1,
     )
 
 pub returns-in-Err-clause-refused : goal.returns-in-Err-clause-refused
@@ -25,11 +20,11 @@ returns-in-Err-clause-refused c = λ packet refusal limit queued read asked is r
     let driver = c.args.self.now in
     let share = share_of driver in
     let rest = into_iter_items driver.packets in
-    let told = c.tell-in-Err.ensures.told complete in
-    let before = asked told.0 in
+    let results = c.push-in-Err.ensures.results complete in
+    let before = asked results.0 in
     let same : refusal ≡ c.in-Err.refusal = cc in (
-      subst (λ all. IsHandedIn limit read share rest all queued) (sym told.1)
-          (one_refused limit read share rest packet (told_of driver) c.in-Err.refusal queued
+      subst (λ all. IsHandedIn limit read share rest all queued) (sym results.1)
+          (one_refused limit read share rest packet (results_of driver) c.in-Err.refusal queued
           (subst (IsFinalRefusal limit read packet) same right) before.0),
-      ap (λ (replies : Vec ReplyValue Global). replies.items) c.tell-in-Err.ensures.replies ∙ before.1,
+      ap (λ (replies : Vec ReplyValue Global). replies.items) c.push-in-Err.ensures.replies ∙ before.1,
     )

@@ -1,5 +1,5 @@
 use Rattle.std.proofs.Common.{ap}
-use Rattle.tb_program.specs.Sharing.{packet_by}
+use Rattle.tb_program.proofs.Words.{packet_by}
 use Rattle.tb_program.proofs.Sharing.{dealt_past}
 use Rattle.tb_program.proofs.run.share.Shares.add.Goals as goal
 

@@ -1,5 +1,5 @@
 use Rattle.std.proofs.Common.{rules, ◌≡◌, ◌∷◌, ◌++◌, [], sym, subst}
-use Rattle.tb_program.specs.Sharing.{AreDealt}
+use Rattle.tb_program.proofs.Words.{AreDealt}
 use Rattle.tb_program.proofs.Sharing.{one_more_submitter}
 use Rattle.tb_program.proofs.run.share.Shares.new.Goals as goal
 

@@ -1,5 +1,5 @@
 use Rattle.std.proofs.Common.{◌≡◌, [], length}
-use Rattle.tb_program.specs.Sharing.{AreDealt}
+use Rattle.tb_program.proofs.Words.{AreDealt}
 use Rattle.tb_program.proofs.run.share.Shares.new.Given as goal
 
 abbrev pub invariant-loop : goal.invariant-loop

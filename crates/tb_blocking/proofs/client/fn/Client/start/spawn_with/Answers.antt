@@ -1,5 +1,5 @@
 use Rattle.std.proofs.Common.{rules, ◌≡◌, refl}
-use Rattle.tb_submit.specs.Ends.{origin_of}
+use Rattle.tb_submit.specs.clauses.Ends.{origin_of}
 use Rattle.tb_blocking.proofs.client.fn.Client.start.spawn_with.Goals as goal
 
 pub returns : goal.returns

@@ -1,4 +1,4 @@
-use Rattle.tb_submit.specs.Ends.{queued_by}
+use Rattle.tb_submit.specs.clauses.Ends.{queued_by}
 use Rattle.tb_pipe_tests.proofs.Together.{is_run}
 use Rattle.tb_pipe_tests.proofs.tests.pipe.driven.fn.run.scope.Goals as goal
 

@@ -1,0 +1,2 @@
+-- What clauses of public functions cite besides the claim.
+pub mod Desk

@@ -1,0 +1,3 @@
+-- What clauses of public functions cite besides the claim.
+pub mod BatcherState
+pub mod Offering

@@ -1,9 +1,0 @@
-pub mod Codes
-pub mod AccountCodes
-pub mod TransferCodes
-pub mod Bytes
-pub mod Events
-pub mod FailureRoom
-pub mod Limits
-pub mod Records
-pub mod Operations

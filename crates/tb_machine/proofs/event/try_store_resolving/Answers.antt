@@ -1,0 +1,9 @@
+use Rattle.std.proofs.Common.{sym, subst}
+use Rattle.tb_machine.proofs.Words.{MayResolve}
+use Rattle.tb_machine.proofs.StoredEvents.{may_resolve}
+use Rattle.tb_machine.proofs.event.try_store_resolving.Goals as goal
+
+pub store_resolved-requires-clause-may : goal.store_resolved-requires-clause-may
+store_resolved-requires-clause-may c =
+    subst (MayResolve c.args.tables.now.now) (sym c.in-Ok.ensures.stored)
+    (may_resolve c.args.tables.now.now c.args.timestamp c.args.event.now c.in-Ok.ensures.ok c.requires.0)

@@ -1,0 +1,2 @@
+-- What the headline, the report, the run and the recovery mean.
+pub mod SettledRun

@@ -1,0 +1,4 @@
+-- What the headline, the report, the run and the recovery mean.
+pub mod Facts
+pub mod Status
+pub mod Balances
