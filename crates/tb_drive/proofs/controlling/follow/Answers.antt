@@ -11,8 +11,8 @@ loop-preserved g c = λ started.
     let before = c.loop.invariant started in
     (before.0, before.1, c.in-Wait.ensures c.args.driver.now before.0 before.2)
 
-pub loop-preserved-in-Continue-1 : goal.loop-preserved-in-Continue-1
-loop-preserved-in-Continue-1 g c = λ started.
+pub loop-preserved-in-Pulse : goal.loop-preserved-in-Pulse
+loop-preserved-in-Pulse g c = λ started.
     has_queued_more _ _ _ (pulse_of c.in-Pulse.moment) _ _ (c.loop.invariant started) (search rules)
     (λ items had. c.in_ok-pulse-in-Pulse.ensures.response c.args.driver.now items
     (c.in-Pulse.ensures c.args.driver.now items had))

@@ -27,8 +27,8 @@ returns-in-End g c = record {
   share = c.next-in-loop.ensures.share ∙ c.loop.invariant.share;
 }
 
-pub loop-preserved-in-Continue-1 : goal.loop-preserved-in-Continue-1
-loop-preserved-in-Continue-1 g c = record {
+pub loop-preserved-in-Submit : goal.loop-preserved-in-Submit
+loop-preserved-in-Submit g c = record {
   own = c.submit.ensures.own ∙ c.loop.invariant.own;
   front = front_of_more _ c.loop.invariant.front c.submit.ensures.front;
   seen = λ had. c.in_ok-submit-in-Submit.ensures.seen (c.in-Submit.ensures.seen _ _ _ (c.loop.invariant.seen had));
