@@ -12,14 +12,13 @@ ghost use Rattle.tb_work.specs.declared.item.Item.TheVariants as item;
 ghost use Rattle.tb_work.specs.declared.refusal.Refusal.TheVariants as refusal;
 
 use crate::own_end::{OwnEnd, OwnOpenEnd};
-use crossbeam_utils::Backoff;
 use std::alloc::Global;
 use std::marker::Model;
 use std::sync::Wait;
 use std::thread::{PromisedHandle, Scope};
 use tb_drive::{Stop, end_control};
 use tb_layout::QUEUED_MAX;
-use tb_rings::IdleWait;
+use tb_rings::{IdleWait, PollWait};
 use tb_submit::{Control, ControlEnd, Ended, Seen, Submitter};
 use tb_work::{Packet, Refusal, Reply};
 
@@ -63,7 +62,7 @@ impl<'s> Client<'s> {
         self.submitter.in_flight()
     }
 
-    /// Queues a packet as `Submitter::submit` does, with its cost and its refusals. While the queue is full it yields
+    /// Queues a packet as `Submitter::submit` does, with its cost and its refusals. While the queue is full it waits
     /// and tries again.
     ///
     /// Errors: the packet with its refusal. `Full` means that the run is given up, or that this submitter has queued
@@ -89,13 +88,13 @@ impl<'s> Client<'s> {
             return Err((packet, Refusal::Full));
         }
         let mut packet = packet;
-        let backoff = Backoff::new();
+        let poll = PollWait::new();
         for _ in rt.forever() {
             match self.submitter.submit(rt, alloc, packet) {
                 Err((back, Refusal::Full)) if !self.stop.is_given_up() => packet = back,
                 submitted => return submitted,
             }
-            backoff.snooze();
+            poll.wait(rt);
         }
         unreachable!()
     }
@@ -165,7 +164,7 @@ impl<'s> Client<'s> {
         self.submitter.seen()
     }
 
-    /// Queues the submitter's end. While the queue is full it yields and tries again. Returns `None` if the run is
+    /// Queues the submitter's end. While the queue is full it waits and tries again. Returns `None` if the run is
     /// given up and nobody serves. The end still returns the unread replies. Takes no memory.
     pub fn end<R: Wait>(self, rt: &R) -> Option<Ended>
         ensures { IfSome result (λ ended. ended ≡ ended_with self.entry item.End) }
@@ -174,7 +173,7 @@ impl<'s> Client<'s> {
             mut submitter,
             stop,
         } = self;
-        let backoff = Backoff::new();
+        let poll = PollWait::new();
         for _ in rt.forever() {
             match submitter.end(rt) {
                 Ok(ended) => return Some(ended),
@@ -183,7 +182,7 @@ impl<'s> Client<'s> {
             if stop.is_given_up() && submitter.give_up() {
                 return None;
             }
-            backoff.snooze();
+            poll.wait(rt);
         }
         unreachable!()
     }
@@ -255,7 +254,7 @@ impl<'s> ControlClient<'s> {
         self.control.queued()
     }
 
-    /// Queues a pulse with this moment in nanoseconds, at most 2^62. While the queue is full it yields and tries again.
+    /// Queues a pulse with this moment in nanoseconds, at most 2^62. While the queue is full it waits and tries again.
     /// Takes no memory.
     ///
     /// Errors: `MomentTooLarge`, or `Full` if the run is given up or the control has queued 2^56 pulses, and `queued` says
@@ -271,13 +270,13 @@ impl<'s> ControlClient<'s> {
         if self.control.queued() >= QUEUED_MAX {
             return Err(Refusal::Full);
         }
-        let backoff = Backoff::new();
+        let poll = PollWait::new();
         for _ in rt.forever() {
             match self.control.pulse(rt, moment) {
                 Err(Refusal::Full) if !self.stop.is_given_up() => {}
                 pulsed => return pulsed,
             }
-            backoff.snooze();
+            poll.wait(rt);
         }
         unreachable!()
     }
@@ -290,7 +289,7 @@ impl<'s> ControlClient<'s> {
         self.control.learn(seen);
     }
 
-    /// Queues the control's end, so that all that is queued is committed. While the queue is full it yields and tries
+    /// Queues the control's end, so that all that is queued is committed. While the queue is full it waits and tries
     /// again. Returns `None` if the run is given up and nobody serves. Takes no memory.
     pub fn end<R: Wait>(self, rt: &R) -> Option<ControlEnd>
         ensures { IfSome result (λ end. end ≡ sender_with self.entry item.End) }
@@ -298,7 +297,7 @@ impl<'s> ControlClient<'s> {
         end_control(rt, self.control, false, self.stop)
     }
 
-    /// Queues the Close, so that packets behind it get `Shutdown`. While the queue is full it yields and tries again.
+    /// Queues the Close, so that packets behind it get `Shutdown`. While the queue is full it waits and tries again.
     /// Returns `None` if the run is given up and nobody serves. Takes no memory.
     pub fn shut<R: Wait>(self, rt: &R) -> Option<ControlEnd>
         ensures { IfSome result (λ end. end ≡ sender_with self.entry item.Close) }

@@ -15,7 +15,7 @@ use tb_work::Refusal;
 pub enum ControlAction {
     /// It queues a pulse with this moment, in nanoseconds. While the queue is full it tries again.
     Pulse(u64),
-    /// It does nothing now: its thread yields, and the driver is asked again.
+    /// It does nothing now: its thread yields, and later sleeps for some 50 microseconds, and then the driver is asked again.
     Wait,
     /// It queues the Close and ends, and its driver isn't asked again. Packets behind the Close are answered Shutdown.
     Close,

@@ -10,12 +10,12 @@ ghost use Rattle.tb_drive.specs.clauses.Threads.{HasQueued, IsControlResultOf};
 
 use crate::control_driver::{ControlAction, ControlDriver};
 use crate::stop::Stop;
-use crossbeam_utils::Backoff;
 use std::marker::Model;
 use std::snapshot::Snapshot;
 use std::sync::Wait;
 use std::thread::Promise;
 use tb_layout::QUEUED_MAX;
+use tb_rings::PollWait;
 use tb_submit::{Control, ControlEnd};
 use tb_work::Refusal;
 
@@ -86,7 +86,7 @@ fn pulse<C: ControlDriver, R: Wait>(
     ensures response { (first : C) (items : List ItemValue) → C.has_asked first driver.old moment items
         → OnSome result (C.has_queued first driver.new (items ++ pulse_of moment)) }
 {
-    let backoff = Backoff::new();
+    let poll = PollWait::new();
     for _ in rt.forever() {
         match pulse_once(rt, control, moment) {
             Ok(()) => return Some(driver.pulsed(Ok(()))),
@@ -96,7 +96,7 @@ fn pulse<C: ControlDriver, R: Wait>(
         if stop.is_given_up() {
             return None;
         }
-        backoff.snooze();
+        poll.wait(rt);
     }
     unreachable!()
 }
@@ -112,14 +112,17 @@ fn follow<C: ControlDriver, R: Wait>(
     ensures { C.has_queued driver.old driver.old [] → IfSome result (λ shuts. HasQueued control.old control.new
         (λ items. C.has_ended driver.old driver.new (items ++ last_item shuts ∷ []))) }
 {
-    let backoff = Backoff::new();
+    let poll = PollWait::new();
     for _ in rt.forever() {
         if stop.is_given_up() {
             return None;
         }
         match driver.next(rt) {
-            ControlAction::Pulse(moment) => pulse(rt, control, driver, moment, stop)?,
-            ControlAction::Wait => backoff.snooze(),
+            ControlAction::Pulse(moment) => {
+                pulse(rt, control, driver, moment, stop)?;
+                poll.reset();
+            }
+            ControlAction::Wait => poll.wait(rt),
             ControlAction::Close => return Some(true),
             ControlAction::End => return Some(false),
         }
@@ -127,7 +130,7 @@ fn follow<C: ControlDriver, R: Wait>(
     unreachable!()
 }
 
-/// Queues the Close if `shuts`, else the control's end. While the queue is full it yields and tries again. Returns `None`
+/// Queues the Close if `shuts`, else the control's end. While the queue is full it waits and tries again. Returns `None`
 /// if the run is given up and nobody serves. Takes no memory.
 pub fn end_control<R: Wait>(
     rt: &R,
@@ -138,7 +141,7 @@ pub fn end_control<R: Wait>(
     ensures { IfSome result (λ end. end ≡ sender_with control (last_item shuts)) }
 {
     let mut control = control;
-    let backoff = Backoff::new();
+    let poll = PollWait::new();
     for _ in rt.forever() {
         let ended = if shuts {
             control.shut(rt)
@@ -152,7 +155,7 @@ pub fn end_control<R: Wait>(
         if stop.is_given_up() && control.give_up() {
             return None;
         }
-        backoff.snooze();
+        poll.wait(rt);
     }
     unreachable!()
 }

@@ -17,7 +17,7 @@ pub enum Action {
     /// It queues a packet. While its credit is used up or the queue is full it reads replies and tries again.
     Submit(Packet),
     /// It waits for the next reply, and sleeps until there is one. If it has no packet whose reply is unread, its thread
-    /// only yields, and the driver is asked again.
+    /// yields, and later sleeps for some 50 microseconds, and then the driver is asked again.
     Receive,
     /// It ends, and its driver isn't asked again.
     End,

@@ -14,14 +14,13 @@ ghost use Rattle.tb_drive.specs.clauses.Tasks.{IsEnd, IsResultOf};
 
 use crate::driver::{Action, Driver};
 use crate::stop::Stop;
-use crossbeam_utils::Backoff;
 use std::alloc::Global;
 use std::marker::Model;
 use std::snapshot::Snapshot;
 use std::sync::Wait;
 use std::thread::Promise;
 use tb_layout::QUEUED_MAX;
-use tb_rings::IdleWait;
+use tb_rings::{IdleWait, PollWait};
 use tb_submit::{Ended, Submitter};
 use tb_work::{Packet, Refusal};
 
@@ -131,7 +130,17 @@ fn read<D: Driver>(submitter: &mut Submitter, driver: &mut D) -> bool
     }
 }
 
-/// Submits a packet. While the credit is used up it waits for a reply, while the queue is full it yields. Then it reads
+/// Waits for a slot of the queue. A packet that is in flight leaves the queue before its reply comes, so this waits for the next reply
+/// if there is to be one, and else polls.
+fn wait_for_slot<R: Wait>(rt: &R, submitter: &Submitter, idle: &IdleWait, poll: &PollWait) {
+    if submitter.in_flight() > 0 {
+        submitter.wait(rt, idle);
+    } else {
+        poll.wait(rt);
+    }
+}
+
+/// Submits a packet. While the credit is used up it waits for a reply, while the queue is full for a slot. Then it reads
 /// a reply and tries again, unless the run is given up. The driver receives the result.
 fn submit<D: Driver, R: Wait>(
     rt: &R,
@@ -149,7 +158,7 @@ fn submit<D: Driver, R: Wait>(
 {
     let mut packet = packet;
     let idle = IdleWait::new();
-    let backoff = Backoff::new();
+    let poll = PollWait::new();
     for _ in rt.forever() {
         match submit_once(rt, alloc, submitter, packet) {
             Ok(number) => return Ok(driver.submitted(Ok(number))),
@@ -159,7 +168,7 @@ fn submit<D: Driver, R: Wait>(
             }
             Err((back, Refusal::Full)) => {
                 packet = back;
-                backoff.snooze();
+                wait_for_slot(rt, submitter, &idle, &poll);
             }
             Err((_, refusal)) => return Ok(driver.submitted(Err(refusal))),
         }
@@ -203,14 +212,17 @@ fn follow<D: Driver, R: Wait>(
         → OnOk result (HasSeen D.has_seen driver.new submitter.new × HasSeen D.has_ended driver.new submitter.new) }
     ensures share { D.share driver.new ≡ D.share driver.old }
 {
-    let backoff = Backoff::new();
+    let poll = PollWait::new();
     for _ in rt.forever() {
         if stop.is_given_up() {
             return Err(Stopped);
         }
         match driver.next(rt, alloc) {
-            Action::Submit(packet) => submit(rt, alloc, submitter, driver, packet, stop)?,
-            Action::Receive if submitter.in_flight() == 0 => backoff.snooze(),
+            Action::Submit(packet) => {
+                submit(rt, alloc, submitter, driver, packet, stop)?;
+                poll.reset();
+            }
+            Action::Receive if submitter.in_flight() == 0 => poll.wait(rt),
             Action::Receive => receive(rt, submitter, driver, stop),
             Action::End => return Ok(()),
         }
@@ -234,7 +246,8 @@ fn end<D: Driver, R: Wait>(
     ensures share { D.share driver.new ≡ D.share driver.old }
 {
     let mut submitter = submitter;
-    let backoff = Backoff::new();
+    let idle = IdleWait::new();
+    let poll = PollWait::new();
     for _ in rt.forever() {
         match submitter.end(rt) {
             Ok(ended) => return Some(ended),
@@ -244,7 +257,7 @@ fn end<D: Driver, R: Wait>(
             return None;
         }
         read(&mut submitter, driver);
-        backoff.snooze();
+        wait_for_slot(rt, &submitter, &idle, &poll);
     }
     unreachable!()
 }

@@ -4,10 +4,10 @@ ghost use Rattle.std.specs.Prelude.{◌≡◌, true};
 ghost use Rattle.tb_pipe.specs.clauses.Carried.{is_batch, next_number};
 
 use crate::gate::Gate;
-use crossbeam_utils::Backoff;
 use std::marker::Model;
 use std::sync::Wait;
 use tb_core::Parcel;
+use tb_rings::PollWait;
 
 /// A parcel that may be applied: if it is a batch, the gate has let it through. Only `clear` makes one.
 pub(crate) struct Cleared {
@@ -46,12 +46,12 @@ pub(crate) fn is_batch(parcel: &Parcel) -> bool
 fn wait_for<R: Wait, G: Gate>(rt: &R, gate: &G, batch: u64)
     ensures { G.lets_through gate.now batch }
 {
-    let backoff = Backoff::new();
+    let poll = PollWait::new();
     for _ in rt.forever() {
         if gate.may_commit(batch) {
             return;
         }
-        backoff.snooze();
+        poll.wait(rt);
     }
     unreachable!()
 }

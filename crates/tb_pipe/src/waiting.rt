@@ -1,11 +1,10 @@
-//! Waiting for room in a ring.
+//! Waiting for a slot of a ring.
 
 ghost use Rattle.std.specs.Prelude.{◌≡◌, [], ◌∷◌, ◌++◌};
 ghost use Rattle.tb_rings.specs.clauses.Ends.{given, SameOutlet};
 
-use crossbeam_utils::Backoff;
 use std::sync::Wait;
-use tb_rings::Outlet;
+use tb_rings::{IdleWait, Outlet};
 
 /// Gives a value as soon as there is a free slot.
 #[inline(always)]
@@ -18,7 +17,7 @@ pub(crate) fn give_waiting<T: Drop, R: Wait>(rt: &R, outlet: &mut Outlet<T>, val
     }
 }
 
-/// Gives a value for which no free slot was seen. While there is none it backs off: a few spins, then yields.
+/// Gives a value for which no free slot was seen. While there is none it yields, and then sleeps until the taker takes.
 ///
 /// It is a call of its own because a loop copies the value that it keeps, and a ring is rarely full.
 #[inline(never)]
@@ -27,9 +26,9 @@ fn give_later<T: Drop, R: Wait>(rt: &R, outlet: &mut Outlet<T>, value: T)
     ensures given { given outlet.new ≡ given outlet.old ++ value ∷ [] }
 {
     let mut value = value;
-    let backoff = Backoff::new();
+    let idle = IdleWait::new();
     for _ in rt.forever() {
-        backoff.snooze();
+        outlet.wait(rt, &idle);
         match outlet.give(value) {
             Ok(()) => return,
             Err(back) => value = back,

@@ -1,11 +1,11 @@
 //! A ring from one thread to one other, over `rtrb`.
 //!
-//! `ring` allocates it; no other call allocates, and only `Inlet::wait` waits. What was taken is a prefix of what was given
-//! (`Outlet::give`, `Inlet::take`). With both ends in one thread, `Inlet::lying` counts what is in the ring, and the next takes
-//! return it. A value is returned to its giver only if no slot was seen to be free (`none_free`, `room`).
+//! `ring` allocates it; no other call allocates, and only `Inlet::wait` and `Outlet::wait` wait. What was taken is a prefix of what
+//! was given (`Outlet::give`, `Inlet::take`). With both ends in one thread, `Inlet::lying` counts what is in the ring, and the next
+//! takes return it. A value is returned to its giver only if no slot was seen to be free (`none_free`, `room`).
 //!
-//! A thread that finds nothing to take waits with the ring's `Sleeper`, which each `give` wakes. No clause speaks of waiting:
-//! `no_wake_up_is_lost` and `waking_ends` are laws of a model of it (`specs/clauses/Waking.antt`).
+//! Each end has a `Sleeper`. The taker waits for a value, and each `give` wakes it; the giver waits for a slot, and each `take` wakes
+//! it. Whoever waits for something else polls (`PollWait`). No clause speaks of waiting: `no_wake_up_is_lost` and `waking_ends` are laws of a model of it (`specs/clauses/Waking.antt`).
 //!
 //! `ring_of_two` in tb_pipe_tests is an example that the gate compiles.
 #![tactic(auto)]
@@ -21,20 +21,26 @@ use rtrb::{Consumer, Producer, RingBuffer};
 use std::alloc::Global;
 use std::sync::Wait;
 use tb_layout::NoMemory;
-pub use waiting::{IdleWait, Sleeper, Waker};
+pub use waiting::{IdleWait, PollWait, Sleeper, Waker};
 
 /// The end that gives.
 pub struct Outlet<T> {
     producer: Producer<T>,
     waker: Waker,
+    sleeper: Sleeper,
 }
 
 impl<T: Drop> Drop for Outlet<T> {
     /// Frees everything held in one call, so that no owner's proof repeats it.
     fn drop(self) {
-        let Outlet { producer, waker } = self;
+        let Outlet {
+            producer,
+            waker,
+            sleeper,
+        } = self;
         drop(producer);
         drop(waker);
+        drop(sleeper);
     }
 }
 
@@ -42,14 +48,20 @@ impl<T: Drop> Drop for Outlet<T> {
 pub struct Inlet<T> {
     consumer: Consumer<T>,
     sleeper: Sleeper,
+    waker: Waker,
 }
 
 impl<T: Drop> Drop for Inlet<T> {
     /// Frees everything held in one call, so that no owner's proof repeats it.
     fn drop(self) {
-        let Inlet { consumer, sleeper } = self;
+        let Inlet {
+            consumer,
+            sleeper,
+            waker,
+        } = self;
         drop(consumer);
         drop(sleeper);
+        drop(waker);
     }
 }
 
@@ -61,10 +73,21 @@ pub fn ring<T: Drop>(alloc: Global, capacity: usize) -> Result<(Outlet<T>, Inlet
     ensures free { IfOk result (λ ends. free ends.0 ≡ capacity) }
     ensures empty { IfOk result (λ ends. (given ends.0 ≡ []) × (taken ends.1 ≡ []) × (lies ends.1 ≡ [])) }
 {
-    let sleeper = Sleeper::new(alloc)?;
-    let waker = sleeper.waker()?;
+    let giver = Sleeper::new(alloc)?;
+    let taker = Sleeper::new(alloc)?;
+    let (wakes_giver, wakes_taker) = (giver.waker()?, taker.waker()?);
     let (producer, consumer) = RingBuffer::new(alloc, capacity)?;
-    Ok((Outlet { producer, waker }, Inlet { consumer, sleeper }))
+    let outlet = Outlet {
+        producer,
+        waker: wakes_taker,
+        sleeper: giver,
+    };
+    let inlet = Inlet {
+        consumer,
+        sleeper: taker,
+        waker: wakes_giver,
+    };
+    Ok((outlet, inlet))
 }
 
 impl<T: Drop> Outlet<T> {
@@ -85,10 +108,16 @@ impl<T: Drop> Outlet<T> {
         self.waker.wake();
         Ok(())
     }
+
+    /// Waits for a slot as `Sleeper::wait` does; each value that is taken wakes it.
+    pub fn wait<R: Wait>(&self, rt: &R, idle: &IdleWait) {
+        self.sleeper.wait(rt, idle);
+    }
 }
 
 impl<T: Drop> Inlet<T> {
-    /// Takes the value that was given first; None if none is seen, and so never while some are known to be in the ring.
+    /// Takes the value that was given first, and wakes the thread that waits for a slot; None if none is seen, and so never while some
+    /// are known to be in the ring.
     #[inline(always)]
     pub fn take(&mut self) -> Option<T>
         ensures ring { SameInlet self.old self.new }
@@ -99,7 +128,9 @@ impl<T: Drop> Inlet<T> {
         if !self.has_value() {
             return None;
         }
-        Some(self.consumer.pop_known())
+        let value = self.consumer.pop_known();
+        self.waker.wake();
+        Some(value)
     }
 
     /// Returns whether a value is seen. Looks into the ring only if none is known.
@@ -124,7 +155,8 @@ impl<T: Drop> Inlet<T> {
     {
         self.consumer.slots_beside(&mut outlet.producer)
     }
-    /// Waits as `Sleeper::wait` does; each value that is given wakes it.
+
+    /// Waits for a value as `Sleeper::wait` does; each value that is given wakes it.
     pub fn wait<R: Wait>(&self, rt: &R, idle: &IdleWait) {
         self.sleeper.wait(rt, idle);
     }

@@ -5,11 +5,15 @@ use std::alloc::Global;
 use std::cell::Cell;
 use std::sync::Wait;
 use std::thread;
+use std::time::Duration;
 use tb_layout::NoMemory;
 
 /// How many times a thread yields before it sleeps: together some 30 microseconds, about what it takes to go to sleep and
 /// be woken.
 const YIELDS: u32 = 64;
+
+/// How many microseconds a thread sleeps between two looks at what nobody wakes it for: a look takes some two of processor time.
+const POLL_MICROSECONDS: u64 = 50;
 
 /// How long a thread has had nothing to do. It yields first, and then sleeps. It doesn't idle, since what it waits for is the
 /// work of another thread, which may need this processor.
@@ -40,6 +44,37 @@ impl IdleWait {
         self.yields.set(yields + 1);
         thread::yield_now();
         true
+    }
+}
+
+/// Waits for what no thread wakes it for, as a slot of a queue or another's leave: it yields first, and then sleeps for some 50
+/// microseconds between two looks. The kernel may add as many.
+#[derive(Drop)]
+pub struct PollWait {
+    idle: IdleWait,
+    parker: thread::Parker,
+}
+
+impl PollWait {
+    /// Returns the state after something was done. Takes no memory.
+    pub fn new() -> PollWait {
+        PollWait {
+            idle: IdleWait::new(),
+            parker: thread::Parker::new(),
+        }
+    }
+
+    /// Begins again, since there was something to do.
+    pub fn reset(&self) {
+        self.idle.reset();
+    }
+
+    /// Yields once, or sleeps for a moment once it has yielded long enough.
+    pub fn wait<R: Wait>(&self, rt: &R) {
+        if !self.idle.pause() {
+            self.parker
+                .park_timeout(rt, Duration::from_micros(POLL_MICROSECONDS));
+        }
     }
 }
 

@@ -1,6 +1,7 @@
 -- How a thread sleeps and is woken, as a table of atomic steps. It is a model: that the code takes these steps, each named beside
 -- it, is for a reader to see. Assumed is that all threads see each step at once (the code's atomics are SeqCst), and that the
--- kernel compares the word and sleeps in one step. One thread reads; any number of threads put values or give the run up.
+-- kernel compares the word and sleeps in one step. One thread reads; any number of threads put values or give the run up. A thread
+-- that waits for a slot of a ring reads free slots: `Outlet::give` looks for one, and `Inlet::take` gives one.
 use Rattle.std.specs.Prelude.{◌≡◌, ◌<◌, ◌⊎◌, ℕ, zero, suc, ◌+◌, ◌*◌, Bool, true, false, List, [], ◌∷◌, Option, Some, None, is_some, unwrap_or}
 
 -- the word of the reader's parker (`EMPTY`, `PARKED` and `NOTIFIED` of crossbeam_utils' parker)
@@ -30,11 +31,11 @@ pub record Waking : Type 0 where
 
 -- each with the line that it is
 pub data Step : Type 0 where
-  Give : Step  -- `Outlet::give`: self.producer.push_reserved(value); `Sender::push`, `Sender::end`: self.queue.push_as(..)
+  Give : Step  -- `Outlet::give`: self.producer.push_reserved(value); `Inlet::take`: pop_known(); `Sender::push`, `Sender::end`: self.queue.push_as(..)
   Ask : Step  -- `Stop::give_up`: self.given_up.store(true, ..)
   Notify : Step  -- `Waker::wake`: self.unparker.unpark(), its swap of the word
   Wake : Step  -- the same, its call of the kernel if the word was PARKED
-  Look : Step  -- `Inlet::take`: self.has_value(), and pop_known() if so; `Reader::take`: self.queue.pop_as(..)
+  Look : Step  -- `Inlet::take`: self.has_value(), and pop_known() if so; `Outlet::give`; `Reader::take`: self.queue.pop_as(..)
   See : Step  -- `Client::receive`, `receive` of tb_drive: stop.is_given_up()
   Yield : Step  -- `IdleWait::pause`: thread::yield_now()
   Park : Step  -- `Sleeper::wait`: self.parker.park(rt), its exchange of EMPTY for PARKED

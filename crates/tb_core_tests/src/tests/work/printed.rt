@@ -4,7 +4,7 @@ use crate::tests::packet_of;
 use std::alloc::Global;
 use std::fmt::{Debug, Display};
 use std::process::Abort;
-use tb_layout::Failure;
+use tb_layout::{Account, Accounts, Failure};
 use tb_test_makers::check;
 use tb_work::{Job, Outcome, Packet, Refusal, Reply, SubmitError};
 
@@ -91,4 +91,28 @@ fn a_refused_packet_is_an_error(rt: HostRuntime) {
     let error = refused.map_err(SubmitError::from).err();
     check!(&rt; debugged(&rt, error.expect(&rt, "an error")).as_str()
         == "SubmitError { packet: Packet { operation: LookupAccounts, user: 7, bytes: 8 }, refusal: InvalidDataSize }");
+}
+
+#[test]
+fn looked_up_accounts_print_their_fields(rt: HostRuntime) {
+    let mut found = Vec::new(rt.alloc());
+    let account = Account {
+        id: u128::MAX,
+        debits_pending: 1,
+        debits_posted: 2,
+        credits_pending: 3,
+        credits_posted: 4,
+        user_data_128: 5,
+        user_data_64: 6,
+        user_data_32: 7,
+        reserved: 0,
+        ledger: 8,
+        code: 9,
+        flags: 10,
+        timestamp: 11,
+    };
+    found.push(account).expect(&rt, "memory");
+    let printed = debugged(&rt, Accounts::from_vec(found));
+    check!(&rt; printed.as_str().starts_with("[Account { id: 340282366920938463463374607431768211455, debits_pending: 1, "));
+    check!(&rt; printed.as_str().ends_with(", ledger: 8, code: 9, flags: 10, timestamp: 11 }]"));
 }

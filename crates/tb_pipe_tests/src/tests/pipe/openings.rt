@@ -1,12 +1,14 @@
 //! Openings and submissions that are refused, before anything is served.
 
-use super::{Told, answer_to, assert_run, finish_lone, look_of, open_lone, packet_of, submit};
+use super::{
+    Told, answer_to, assert_run, finish_lone, look_of, open_lone, opened, packet_of, submit,
+};
 use std::alloc::Global;
 use std::process::Abort;
 use std::sync::Wait;
 use tb_core::Ledger;
-use tb_layout::CREATE_ACCOUNTS;
-use tb_pipe::{Open, open};
+use tb_layout::{CLOCK_MAX, CREATE_ACCOUNTS};
+use tb_pipe::{Open, Opened, Options, open, submit_ahead};
 use tb_submit::Submitter;
 use tb_test_makers::check;
 use tb_work::Refusal;
@@ -28,6 +30,65 @@ fn bad_openings(rt: HostRuntime) {
     ] {
         check!(&rt; refusal_of(rt.alloc(), limit, capacity, submitters) == wanted);
     }
+}
+
+/// Each bound that an opening accepts, with the earliest and the latest clock.
+#[test]
+fn widest_openings(rt: HostRuntime) {
+    for (clock, limit, capacity, credit, submitters) in [
+        (0, 1, 1, 1, 1),
+        (CLOCK_MAX, 8190, 65_536, 1, 1),
+        (1, 8190, 64, 65_536, 1),
+        (CLOCK_MAX, 8190, 64, 32, 16),
+    ] {
+        let options = Options {
+            clock,
+            limit,
+            capacity,
+            credit,
+            submitters,
+        };
+        let opened = options.open(rt.alloc()).ok().expect(&rt, "it is opened");
+        check!(&rt; opened.submitters.len() == submitters as usize);
+        drop(opened);
+    }
+}
+
+/// Returns the answer to a packet of one account that the second submitter queues before the run.
+fn ahead<R: Wait + Abort>(
+    rt: &R,
+    alloc: Global,
+    opened: &mut Opened,
+    operation: u8,
+    id: u8,
+) -> Result<u64, Refusal> {
+    if opened.submitters.len() < 2 {
+        rt.panic("there are two submitters");
+    }
+    let packet = packet_of(alloc, operation, id).expect(rt, "memory");
+    match submit_ahead(rt, alloc, opened, 1, packet) {
+        Ok(number) => Ok(number),
+        Err((back, refusal)) => {
+            drop(back);
+            Err(refusal)
+        }
+    }
+}
+
+/// A packet ahead of the run is refused as any other, and what was refused takes no number.
+#[test]
+fn refused_ahead(rt: HostRuntime) {
+    let mut opened = opened(rt.alloc(), 4, 4, 3, 2).expect(&rt, "it is opened");
+    for (operation, id, wanted) in [
+        (200, 1, Err(Refusal::InvalidOperation)),
+        (CREATE_ACCOUNTS, 1, Ok(0)),
+        (CREATE_ACCOUNTS, 2, Ok(1)),
+        (CREATE_ACCOUNTS, 3, Ok(2)),
+        (CREATE_ACCOUNTS, 4, Err(Refusal::InFlight)),
+    ] {
+        check!(&rt; ahead(&rt, rt.alloc(), &mut opened, operation, id) == wanted);
+    }
+    drop(opened);
 }
 
 /// Asserts that a packet of accounts is refused, since there is no slot, and comes back.
