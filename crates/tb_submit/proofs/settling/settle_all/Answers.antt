@@ -20,6 +20,13 @@ one_further F xs k x within here before = λ j d below. ⊎_elim
     (before j d (omega (arith, below, other))))
     (cases_eq j k)
 
+-- what a new end has in common with the one at its index is in common at each index
+kept_at : {A : Type 0} (f : EndedState → A) (ls xs : List EndedState) (k : ℕ) (new old : EndedState)
+    → f new ≡ f (get_or ls k old) → ((j : ℕ) (d : EndedState) → f (get_or ls j d) ≡ f (get_or xs j d))
+    → (j : ℕ) (d : EndedState) → f (get_or (set ls k new) j d) ≡ f (get_or xs j d)
+kept_at f ls xs k new old here before = λ j d. sym (get_or-map f (set ls k new) j d)
+    ∙ ap (λ values. get_or values j (f d)) (map-set_same f ls k new old here) ∙ get_or-map f ls j d ∙ before j d
+
 pub index_mut-requires-in-loop-k : goal.index_mut-requires-in-loop-k
 index_mut-requires-in-loop-k c =
     let long = ends_long (seat_at c.requires.0) 0 c.args.ends.items c.args.outlets.items c.requires.2 in
@@ -74,6 +81,7 @@ loop-k-preserved c =
     let before = c.args.reader.now.entries in
     let learned = c.settle.new.reader.learned in
     let read_of = λ (e : EndedState). e.read in
+    let ring_of = λ (e : EndedState). e.origin.ring in
     record {
       reader = c.settle.ensures.entries
           ∙ ap (λ (r : ReaderState). record r { entries = r.entries ++ entry_of x ∷ []; learned = learned }) inv.reader
@@ -87,9 +95,10 @@ loop-k-preserved c =
           ∙ inv.rest j d (omega (arith, far));
       ungiven = λ j d far. get_or-set_other ms k j c.settle.new.outlet d (λ is. omega (arith, far, is))
           ∙ inv.ungiven j d (omega (arith, far));
-      read = λ j d. sym (get_or-map read_of (set ls k c.settle.new.self) j d) ∙ ap (λ rs. get_or rs j (read_of d))
-          (map-set_same read_of ls k c.settle.new.self x (c.settle.ensures.read ∙ ap read_of c.index_mut.ensures.value))
-          ∙ get_or-map read_of ls j d ∙ inv.read j d;
+      read = kept_at read_of ls xs k c.settle.new.self x (c.settle.ensures.read ∙ ap read_of c.index_mut.ensures.value)
+          inv.read;
+      rings = kept_at ring_of ls xs k c.settle.new.self x (c.settle.ensures.ring ∙ ap ring_of c.index_mut.ensures.value)
+          inv.rings;
       settled = one_further (λ i (e : EndedState). e.settled ≡ true) ls k c.settle.new.self inside
           c.settle.ensures.settled inv.settled;
       filed = subst (λ es. AllBefore (λ i. IsFiled) es (k + 1)) (ap (set xs k) x_same ∙ set-get_or xs k x)

@@ -16,6 +16,8 @@ invariant-loop-k l = record {
   ungiven : (j : ℕ) (d : Outlet ReplyValue) → l.k ≤ j
       → slice_index_or l.outlets.items j d ≡ slice_index_or l.fn.outlets.items j d;
   read : (j : ℕ) (d : EndedState) → (slice_index_or l.ends.items j d).read ≡ (slice_index_or l.fn.ends.items j d).read;
+  rings : (j : ℕ) (d : EndedState) → (slice_index_or l.ends.items j d).origin.ring
+      ≡ (slice_index_or l.fn.ends.items j d).origin.ring;
   settled : (j : ℕ) (d : EndedState) → j < l.k → (slice_index_or l.ends.items j d).settled ≡ true;
   filed : (j : ℕ) (d : EndedState) → j < l.k → IsFiled (slice_index_or l.fn.ends.items j d);
   replies : (j : ℕ) (d : EndedState) (o : Outlet ReplyValue) → j < l.k
