@@ -113,13 +113,15 @@ IsDrained intake left sender items =
     (items_from sender intake.taken ≡ items) × IsCompleteQueue intake.limit intake.submitters sender items
     × (items_from sender left ≡ [])
 
+-- all that it queued is complete, with its end
+abbrev pub IsFiled : EndedState → Type 0
+IsFiled e = IsCompleteQueue e.origin.seat.limit e.origin.seat.submitters e.origin.seat.number e.queued
+
 -- all have ended, and the end of each was taken
 pub record AreSettled (intake : IntakeState) (ends : List EndedState) (control : SenderState) : Type 0 where
   pub long : length ends ≡ intake.submitters
   pub seats : (k : ℕ) (d : EndedState) → k < length ends → (get_or ends k d).origin.seat ≡ seat_at intake k
-  pub filed : (k : ℕ) (d : EndedState) → k < length ends →
-      IsCompleteQueue (get_or ends k d).origin.seat.limit (get_or ends k d).origin.seat.submitters
-      (get_or ends k d).origin.seat.number (get_or ends k d).queued
+  pub filed : (k : ℕ) (d : EndedState) → k < length ends → IsFiled (get_or ends k d)
   pub control_seat_is : control.seat ≡ control_seat intake
   pub control_filed : IsCompleteQueue control.seat.limit control.seat.submitters control.seat.number control.queued
   pub items : List Ticket
@@ -128,11 +130,11 @@ pub record AreSettled (intake : IntakeState) (ends : List EndedState) (control :
   pub unended : AreUnended control.seat.number control.learned
   pub finished : (sender : ℕ) → sender ≤ intake.submitters → list_any is_end (items_from sender intake.taken) ≡ true
 
-drained : (intake : IntakeState) (items : List Ticket) (number : ℕ) (seat : Seat) (queued : List Item)
+drained : (intake : IntakeState) (items : List Ticket) (number : ℕ) {seat : Seat} (queued : List Item)
     → seat ≡ seat_at intake number → IsCompleteQueue seat.limit seat.submitters seat.number queued →
     items_from seat.number (intake.taken ++ items) ≡ queued → list_any is_end (items_from number intake.taken) ≡ true
     → IsDrained intake items number queued
-drained intake items number seat queued seat_is filed is has =
+drained intake items number queued seat_is filed is has =
     let mine : IsCompleteQueue intake.limit intake.submitters number queued = subst
     (λ (s : Seat). IsCompleteQueue s.limit s.submitters s.number queued) seat_is filed in
     let all : items_from number (intake.taken ++ items)
@@ -141,70 +143,9 @@ drained intake items number seat queued seat_is filed is has =
     let whole = whole_part queued (items_from number intake.taken) (items_from number items) mine.ended parts has in
     (whole, mine, nothing_more (items_from number intake.taken) (items_from number items) (parts ∙ sym whole))
 
-all_drained : (intake : IntakeState) (ends : List EndedState) (control : SenderState)
-    → (is : AreSettled intake ends control) → (sender : ℕ) → sender ≤ intake.submitters
-    → IsDrained intake is.items sender (queued_by ends control sender)
-all_drained intake ends control is sender below =
-    let IsPart : PassEntry → Type 0 = λ e. items_from e.number (intake.taken ++ is.items) ≡ e.pushed in
-    let last = entry control.seat.number control.queued in
-    by_number (IsDrained intake is.items) ends control
-    (λ k d within. drained intake is.items k (get_or ends k d).origin.seat (get_or ends k d).queued
-    (is.seats k d within) (is.filed k d within) (entry_at IsPart ends last is.whole.0 k d within)
-    (is.finished k (omega (arith, within, is.long))))
-    (subst (λ n. IsDrained intake is.items n control.queued) (sym is.long)
-    (drained intake is.items intake.submitters control.seat control.queued is.control_seat_is is.control_filed
-    (last_entry IsPart ends last is.whole.0) (is.finished intake.submitters (omega arith))))
-    sender (omega (arith, below, is.long))
-
-none_above : (intake : IntakeState) (ends : List EndedState) (control : SenderState)
-    → AreSettled intake ends control → (sender : ℕ) → intake.submitters < sender → items_from sender intake.taken ≡ []
-none_above intake ends control is sender above =
-    before_nothing (items_from sender intake.taken) (items_from sender is.items)
-    (sym (part_append sender intake.taken is.items) ∙ is.whole.1 sender (omega (arith, above)))
-
--- what holds of all that each sender queued holds of what was taken
-each_part : (P : ℕ → Item → Type 0) (intake : IntakeState) (ends : List EndedState) (control : SenderState)
-    → AreSettled intake ends control →
-    ((sender : ℕ) (items : List Item) → IsCompleteQueue intake.limit intake.submitters sender items
-    → AllByRecursion (P sender) items) → (sender : ℕ) → AllByRecursion (P sender) (items_from sender intake.taken)
-each_part P intake ends control is each sender = ⊎_elim
-    (λ (below : sender ≤ intake.submitters). let own = all_drained intake ends control is sender below in subst
-    (AllByRecursion (P sender)) (sym own.0) (each sender _ own.1))
-    (λ (above : intake.submitters < sender). subst (AllByRecursion (P sender))
-    (sym (none_above intake ends control is sender above)) tt)
-    (within_or_above sender intake.submitters)
-
-pub settled_queue : (intake : IntakeState) (ends : List EndedState) (control : SenderState)
-    → AreSettled intake ends control → IsQueueOf intake.submitters intake.taken (queued_by ends control)
-settled_queue intake ends control is = record {
-  parts = λ sender below. (all_drained intake ends control is sender below).0;
-  no_other_sender = none_above intake ends control is;
-  submitted = all_of_parts (IsSubmitted intake.submitters) intake.taken
-      (each_part (IsSubmitted intake.submitters) intake ends control is (λ sender items filed. filed.submitted));
-  numbered = λ sender below. (all_drained intake ends control is sender below).1.numbered;
-  ended = λ sender below. (all_drained intake ends control is sender below).1.ended;
-}
-
-pub settled_within : (intake : IntakeState) (ends : List EndedState) (control : SenderState)
-    → AreSettled intake ends control → AreWithin intake.limit intake.taken
-settled_within intake ends control is =
-    all_of_parts (λ sender. IsWithin intake.limit) intake.taken
-    (each_part (λ sender. IsWithin intake.limit) intake ends control is (λ sender items filed. filed.within))
-
--- ---- what is ahead of the Close
-
--- nothing is left once all was taken
-none_left : (intake : IntakeState) (ends : List EndedState) (control : SenderState)
-    → (is : AreSettled intake ends control) → is.items ≡ []
-none_left intake ends control is = no_part is.items (λ sender. ⊎_elim
-    (λ (below : sender ≤ intake.submitters). (all_drained intake ends control is sender below).2)
-    (λ (above : intake.submitters < sender). nothing_left (items_from sender intake.taken) (items_from sender is.items)
-    (sym (part_append sender intake.taken is.items) ∙ is.whole.1 sender (omega (arith, above))))
-    (within_or_above sender intake.submitters))
-  where
-    no_part : (items : List Ticket) → ((sender : ℕ) → items_from sender items ≡ []) → items ≡ []
-    no_part [] none = refl
-    no_part (ticket ∷ items) none = absurd (stands_in [] items ticket (none ticket.sender))
+no_part : (items : List Ticket) → ((sender : ℕ) → items_from sender items ≡ []) → items ≡ []
+no_part [] none = refl
+no_part (ticket ∷ items) none = absurd (stands_in [] items ticket (none ticket.sender))
 
 all_front : {A : Type 0} (P : A → Type 0) (xs ys : List A) → AllByRecursion P (xs ++ ys) → AllByRecursion P xs
 all_front P [] ys all = tt
@@ -229,26 +170,74 @@ no_close submitters (ticket ∷ seen) own clear = (
   no_close submitters seen own.1 (unended_after (ticket.sender == submitters) ticket submitters seen clear),
 )
 
-pub settled_ahead : (intake : IntakeState) (ends : List EndedState) (control : SenderState)
-    → AreSettled intake ends control → AllByRecursion (AreAheadOfClose intake.taken) control.learned
-settled_ahead intake ends control is =
-    let queue = settled_queue intake ends control is in
-    let all : intake.taken ++ is.items ≡ intake.taken =
-    ap (λ left. intake.taken ++ left) (none_left intake ends control is) ∙ append-nil intake.taken in
-    both control.learned (subst (λ tickets. AllByRecursion (BeginsWith tickets) control.learned) all is.whole.2)
-    (subst (λ (seat : Seat). AllByRecursion (λ seen. IsUnended (items_from seat.number seen)) control.learned)
-    is.control_seat_is is.unended) queue.submitted
-  where
-    both : (learned : List (List Ticket)) → AllByRecursion (BeginsWith intake.taken) learned
-        → AllByRecursion (λ seen. IsUnended (items_from intake.submitters seen)) learned
-        → AllByRecursion (λ (ticket : Ticket). IsSubmitted intake.submitters ticket.sender ticket.item) intake.taken
-        → AllByRecursion (AreAheadOfClose intake.taken) learned
-    both [] begin unended submitted = tt
-    both (seen ∷ learned) begin unended submitted = (
-      (
-        begin.0,
-        no_close intake.submitters seen (all_front _ seen begin.0.0 (subst (AllByRecursion (λ (ticket : Ticket).
-            IsSubmitted intake.submitters ticket.sender ticket.item)) (sym begin.0.1) submitted)) unended.0,
-      ),
-      both learned begin.1 unended.1 submitted,
-    )
+module _ {intake : IntakeState} {ends : List EndedState} {control : SenderState} (is : AreSettled intake ends control) where
+  all_drained : (sender : ℕ) → sender ≤ intake.submitters
+      → IsDrained intake is.items sender (queued_by ends control sender)
+  all_drained sender below =
+      let IsPart : PassEntry → Type 0 = λ e. items_from e.number (intake.taken ++ is.items) ≡ e.pushed in
+      let last = entry control.seat.number control.queued in
+      by_number (IsDrained intake is.items) ends control
+      (λ k d within. drained intake is.items k (get_or ends k d).queued (is.seats k d within) (is.filed k d within)
+      (entry_at IsPart ends last is.whole.0 k d within) (is.finished k (omega (arith, within, is.long))))
+      (subst (λ n. IsDrained intake is.items n control.queued) (sym is.long)
+      (drained intake is.items intake.submitters control.queued is.control_seat_is is.control_filed
+      (last_entry IsPart ends last is.whole.0) (is.finished intake.submitters (omega arith))))
+      sender (omega (arith, below, is.long))
+
+  none_above : (sender : ℕ) → intake.submitters < sender
+      → items_from sender intake.taken ++ items_from sender is.items ≡ []
+  none_above sender above =
+      sym (part_append sender intake.taken is.items) ∙ is.whole.1 sender (omega (arith, above))
+
+  -- what holds of all that each sender queued holds of what was taken
+  each_part : (P : ℕ → Item → Type 0)
+      → ((sender : ℕ) (items : List Item) → IsCompleteQueue intake.limit intake.submitters sender items
+      → AllByRecursion (P sender) items) → AllByRecursion (λ (ticket : Ticket). P ticket.sender ticket.item) intake.taken
+  each_part P each = all_of_parts P intake.taken (λ sender. ⊎_elim
+      (λ (below : sender ≤ intake.submitters). let own = all_drained sender below in subst
+      (AllByRecursion (P sender)) (sym own.0) (each sender _ own.1))
+      (λ (above : intake.submitters < sender). subst (AllByRecursion (P sender))
+      (sym (before_nothing _ (items_from sender is.items) (none_above sender above))) tt)
+      (within_or_above sender intake.submitters))
+
+  pub settled_queue : IsQueueOf intake.submitters intake.taken (queued_by ends control)
+  settled_queue = record {
+    parts = λ sender below. (all_drained sender below).0;
+    no_other_sender = λ sender above. before_nothing _ (items_from sender is.items) (none_above sender above);
+    submitted = each_part (IsSubmitted intake.submitters) (λ sender items filed. filed.submitted);
+    numbered = λ sender below. (all_drained sender below).1.numbered;
+    ended = λ sender below. (all_drained sender below).1.ended;
+  }
+
+  pub settled_within : AreWithin intake.limit intake.taken
+  settled_within = each_part (λ sender. IsWithin intake.limit) (λ sender items filed. filed.within)
+
+  -- ---- what is ahead of the Close
+
+  -- nothing is left once all was taken
+  none_left : is.items ≡ []
+  none_left = no_part is.items (λ sender. ⊎_elim
+      (λ (below : sender ≤ intake.submitters). (all_drained sender below).2)
+      (λ (above : intake.submitters < sender). nothing_left (items_from sender intake.taken) _ (none_above sender above))
+      (within_or_above sender intake.submitters))
+
+  pub settled_ahead : AllByRecursion (AreAheadOfClose intake.taken) control.learned
+  settled_ahead =
+      let all : intake.taken ++ is.items ≡ intake.taken =
+      ap (λ left. intake.taken ++ left) none_left ∙ append-nil intake.taken in
+      both control.learned (subst (λ tickets. AllByRecursion (BeginsWith tickets) control.learned) all is.whole.2)
+      (subst (λ (seat : Seat). AllByRecursion (λ seen. IsUnended (items_from seat.number seen)) control.learned)
+      is.control_seat_is is.unended)
+    where
+      both : (learned : List (List Ticket)) → AllByRecursion (BeginsWith intake.taken) learned
+          → AllByRecursion (λ seen. IsUnended (items_from intake.submitters seen)) learned
+          → AllByRecursion (AreAheadOfClose intake.taken) learned
+      both [] begin unended = tt
+      both (seen ∷ learned) begin unended = (
+        (
+          begin.0,
+          no_close intake.submitters seen (all_front _ seen begin.0.0 (subst (AllByRecursion (λ (ticket : Ticket).
+              IsSubmitted intake.submitters ticket.sender ticket.item)) (sym begin.0.1) settled_queue.submitted)) unended.0,
+        ),
+        both learned begin.1 unended.1,
+      )

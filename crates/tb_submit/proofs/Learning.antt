@@ -22,11 +22,11 @@ learned_open number old u items is clear first_refusal =
     (subst IsUnended (sym own ∙ ap (items_from number) (sym begins.1) ∙ part_append number seen begins.0) clear))
     first_refusal.2
 
-pub still_open : (number : ℕ) (old u now : View) → IsSenderView number old
+pub still_open : {now : View} (number : ℕ) (old u : View) → IsSenderView number old
     → items_from number old.history ≡ first_pushed old.entries → IsUnended (first_pushed old.entries)
     → now ≡ view_learning old u → (items : List Ticket) × TellsOwn now items
     → IsSenderView number now × (items_from number now.history ≡ first_pushed now.entries) × AreUnended number now.learned
-still_open number old u now is part clear now_is first_refusal =
+still_open number old u is part clear now_is first_refusal =
     subst (λ (v : View). IsSenderView number v × (items_from number v.history ≡ first_pushed v.entries)
     × AreUnended number v.learned) (sym now_is) (
       ap (λ (v : View). view_learning v u) is,

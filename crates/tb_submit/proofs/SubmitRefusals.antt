@@ -16,26 +16,23 @@ none_of_ok : (admission : Result ℕ Refusal) → IsOk admission → refusal_in 
 none_of_ok (Ok count) ok = refl
 none_of_ok (Err refusal) ok = absurd (true≢false (sym ok))
 
--- a reply that was read first_refusal it
-pub refusal_is_due : (before now : SubmitterState) (packet : Packet) (first_refusal : Option Refusal) (refusal : Refusal)
-    → before ≡ now → first_refusal ≡ first_refusal_in before.read → first_refusal ≡ Some refusal → submit_refusal now packet ≡ Some refusal
-refusal_is_due before now packet first_refusal refusal same first_is some =
-    subst (λ s. submit_refusal s packet ≡ Some refusal) same
-    (ap (λ first. or_else first (or_else (refusal_in (admission_of before.origin.seat.limit packet))
-    (if in_flight before == before.credit then Some InFlight else None))) (sym first_is ∙ some))
+module _ {before now : SubmitterState} (same : before ≡ now) {first : Option Refusal}
+    (first_is : first ≡ first_refusal_in before.read) (packet : Packet) where
+  -- a reply that was read implies it
+  pub refusal_is_due : {refusal : Refusal} → first ≡ Some refusal → submit_refusal now packet ≡ Some refusal
+  refusal_is_due {refusal} some =
+      subst (λ s. submit_refusal s packet ≡ Some refusal) same
+      (ap (λ f. or_else f (or_else (refusal_in (admission_of before.origin.seat.limit packet))
+      (if in_flight before == before.credit then Some InFlight else None))) (sym first_is ∙ some))
 
--- no reply first_refusal it, the packet is admitted, and there is credit
-pub none_is_due : (before now : SubmitterState) (packet : Packet) (first_refusal : Option Refusal) (limit flying : ℕ)
-    → before ≡ now → first_refusal ≡ first_refusal_in before.read → first_refusal ≡ None
-    → IsOk (admission_of limit packet) → limit ≡ now.origin.seat.limit
-    → flying ≡ in_flight now → (flying ≡ before.credit → ⊥) → submit_refusal now packet ≡ None
-none_is_due before now packet first_refusal limit flying same first_is untold admitted limit_is flying_is free =
-    let after = λ (first : Option Refusal). or_else first
-    (if in_flight now == now.credit then Some InFlight else None) in
-    ap (λ first. or_else first (after (refusal_in (admission_of now.origin.seat.limit packet))))
-    (sym (ap (λ (s : SubmitterState). first_refusal_in s.read) same) ∙ sym first_is ∙ untold)
-    ∙ ap after (none_of_ok (admission_of now.origin.seat.limit packet)
-    (subst (λ n. IsOk (admission_of n packet)) limit_is admitted))
-    ∙ ap (λ busy. if busy then Some InFlight else None)
-    (ap (λ n. n == now.credit) (sym flying_is) ∙ sym (ap (λ (s : SubmitterState). flying == s.credit) same)
-    ∙ ne_eqb flying before.credit free)
+  -- no reply implies one, the packet is admitted, and there is credit
+  pub none_is_due : {limit flying : ℕ} → first ≡ None → IsOk (admission_of limit packet)
+      → limit ≡ now.origin.seat.limit → flying ≡ in_flight now → (flying ≡ before.credit → ⊥)
+      → submit_refusal now packet ≡ None
+  none_is_due untold admitted limit_is flying_is free =
+      let after = λ (f : Option Refusal). or_else f (if in_flight now == now.credit then Some InFlight else None) in
+      ap (λ f. or_else f (after (refusal_in (admission_of now.origin.seat.limit packet))))
+      (sym (ap (λ (s : SubmitterState). first_refusal_in s.read) same) ∙ sym first_is ∙ untold)
+      ∙ ap after (none_of_ok _ (subst (λ n. IsOk (admission_of n packet)) limit_is admitted))
+      ∙ ap (λ busy. if busy then Some InFlight else None) (ne_eqb (in_flight now) now.credit
+      (λ busy. free (flying_is ∙ busy ∙ sym (ap (λ (s : SubmitterState). s.credit) same))))

@@ -10,7 +10,7 @@ pub use Rattle.tb_rings.specs.declared.Outlet.{Outlet}
 pub use Rattle.tb_submit.specs.clauses.Ends.{EndedState, IntakeState, Seat, SenderState, control_seat, queued_by, seat_at, Origin, SubmitterState, end_origin, new_submitter, origin_of, origins_from, new_intake, origins, replies_of}
 pub use Rattle.tb_submit.specs.clauses.Lists.{AreAheadOfClose, AreWithin, BeginsWith, IsCompleteQueue, IsWithin, ArePackets, ArePulses}
 pub use Rattle.tb_submit.specs.clauses.Refusals.{or_else, refusal_of, first_refusal_in, IsRefusal, in_flight, refusal_in, submit_refusal}
-pub use Rattle.tb_submit.specs.clauses.Rule.{IsWhole, entry, TellsOwn, first_pushed, view_learning, sender, intake, opening, empty_view, witness, next_of, view_counting_on, newcomer, view_seen_empty, both_views, HasPushed, with_taken, Stands, FitsEntry, FitsMark, AllBegin, Fits, InView, QueueInvariant, Tells}
+pub use Rattle.tb_submit.specs.clauses.Rule.{IsWhole, TellsMark, entry, TellsOwn, first_pushed, first_entry_with, with_pushed, view_learning, opening, empty_view, witness, next_of, view_counting_on, newcomer, view_seen_empty, both_views, HasPushed, with_taken, taken_more, one_number_more, empty_more, Stands, FitsEntry, FitsMark, AllBegin, Fits, InView, QueueInvariant, Tells}
 pub use Rattle.tb_submit.specs.clauses.State.{AreUnended, entry_of, IsSenderView, ReaderState, IsSubmitter, view_of}
 pub use Rattle.tb_submit.specs.declared.rule.PassEntry.{PassEntry}
 pub use Rattle.tb_submit.specs.declared.rule.View.{View}

@@ -90,6 +90,7 @@ impl Ended {
             self.old.origin.seat.number self.old.queued }
         ensures replies { self.new.read ++ self.new.lying ≡ given outlet.old }
         ensures read { self.new.read ≡ self.old.read }
+        ensures ring { self.new.origin.ring ≡ self.old.origin.ring }
         ensures settled { self.new.settled ≡ true }
     {
         reader.gather(&mut self.sender);

@@ -36,6 +36,8 @@ fn settle_all(reader: &mut Reader, ends: Vec<Ended>, outlets: Vec<Outlet<Reply>>
         ≡ given (slice_index_or outlets.items k o) }
     ensures read { (k : ℕ) (d : EndedState) → (slice_index_or result.items k d).read
         ≡ (slice_index_or ends.items k d).read }
+    ensures rings { (k : ℕ) (d : EndedState) → (slice_index_or result.items k d).origin.ring
+        ≡ (slice_index_or ends.items k d).origin.ring }
     ensures settled { (k : ℕ) (d : EndedState) → k < length ends.items
         → (slice_index_or result.items k d).settled ≡ true }
 {
@@ -49,7 +51,7 @@ fn settle_all(reader: &mut Reader, ends: Vec<Ended>, outlets: Vec<Outlet<Reply>>
 
 /// Establishes, once all senders have ended and the end of each was taken, that what was taken is the queue as they
 /// filled it. The tickets that the control had learned of are ahead of the Close. Each submitter's end sees all replies
-/// that it was given. Takes no memory, and waits for nobody.
+/// that it was given, and stays at its index. Takes no memory, and waits for nobody.
 pub fn settle_queue(
     intake: Intake,
     ends: Vec<Ended>,
@@ -68,6 +70,8 @@ pub fn settle_queue(
         → replies_of result.items sender ≡ given (slice_index_or outlets.items sender d) }
     ensures read { (k : ℕ) (d : EndedState) → (slice_index_or result.items k d).read
         ≡ (slice_index_or ends.items k d).read }
+    ensures rings { (k : ℕ) (d : EndedState) → (slice_index_or result.items k d).origin.ring
+        ≡ (slice_index_or ends.items k d).origin.ring }
     ensures settled { All (λ ended. ended.settled ≡ true) result.items }
     ensures seats { (k : ℕ) (d : EndedState) → k < length ends.items
         → (slice_index_or ends.items k d).origin.seat ≡ seat_at intake k }

@@ -31,13 +31,16 @@ pub record IsReport (run : Run) (start : LedgerState) (limit : ℕ) (control : L
   pub pulses : IsPrefix (moments_in (committed_in run)) (moments_queued control)
   pub opening : run.ledger.opening ≡ start.opening
 
--- A report has the ledger of the pipeline that was served, and as many ends as there are submitters, settled, each with what the end at
--- its index read before. Each end was in the seat of its number, and what the control had learned of was taken ahead of its Close.
+-- A report has the ledger of the pipeline that was served, and as many ends as there are submitters, settled. Each has the ring of the
+-- end at its index, and what that read before. Each end was in the seat of its number, and what the control had learned of was taken
+-- ahead of its Close.
 pub record IsSettled {L : Type 0} (served : ServedState L) (ends : List EndedState) (control : SenderState) (report : Report L)
     : Type 0 where
   pub ledger : report.ledger ≡ served.ledger
   pub long : length report.ends.items ≡ served.intake.submitters
   pub read : (k : ℕ) (d : EndedState) → (slice_index_or report.ends.items k d).read ≡ (slice_index_or ends k d).read
+  pub rings : (k : ℕ) (d : EndedState) → (slice_index_or report.ends.items k d).origin.ring
+      ≡ (slice_index_or ends k d).origin.ring
   pub settled : All (λ (ended : EndedState). ended.settled ≡ true) report.ends.items
   pub ahead : AllByRecursion (AreAheadOfClose served.intake.taken) control.learned
   pub seats : (k : ℕ) (d : EndedState) → k < length ends → (slice_index_or ends k d).origin.seat ≡ seat_at served.intake k
@@ -80,6 +83,8 @@ module _ {D C : Type 0} (has_seen has_ended : D → ℕ → List Numbered → Li
     pub own : map end_origin finished.unsettled.value.items ≡ map origin_of opened.submitters.items
     pub queued_first : ArePrefixesOf opened.submitters.items finished.unsettled.value.items
     pub settled : All (λ (ended : EndedState). ended.settled ≡ true) finished.report.ends.items
+    pub rings : (k : ℕ) (d : EndedState) → (slice_index_or finished.report.ends.items k d).origin.ring
+        ≡ (slice_index_or finished.unsettled.value.items k d).origin.ring
     pub number : length finished.report.ends.items ≡ run.submitters
     pub controlled : run.queued run.submitters ≡ opened.control.queued ++ items
     pub control_ended : ended_with finished.control items

@@ -83,6 +83,8 @@ returns g c =
               queued_first = subst (ArePrefixesOf opened.submitters.items) copied
                   (subst (λ (all : List SubmitterState). ArePrefixesOf all ends) (sym is.1) results.front);
               settled = settled.settled;
+              rings = subst (λ (all : List EndedState). (k : ℕ) (d : EndedState)
+                  → (slice_index_or last k d).origin.ring ≡ (slice_index_or all k d).origin.ring) copied settled.rings;
               number = settled.long;
               controlled = last_queued ∙ queued;
               control_ended = control.2;

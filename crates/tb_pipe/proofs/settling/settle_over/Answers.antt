@@ -77,6 +77,7 @@ returns-clause-settled g c =
       ledger = refl;
       long = said.long;
       read = said.read;
+      rings = said.rings;
       settled = said.settled;
       ahead = said.ahead;
       seats = said.seats;

@@ -8,8 +8,6 @@ loop-number-preserved c =
     let loop = c.loop-number in
     let before = c.args.reader.now in
     let was = loop.invariant.reader in
-    let queue = c.in_ok-sender.ensures.queue in
-    let same = c.in_ok-sender.ensures.same in
     let outlet = c.in_ok-outlet.outlet in
     let seats = seat_at (new_intake before.queue c.args.submitters c.args.limit before.capacity) in
     let seat : c.in_ok-sender.sender.seat ≡ seats loop.number = ap
@@ -21,14 +19,11 @@ loop-number-preserved c =
       number = loop.number;
     }) was in
     record {
-      reader = reader_counted c.sender.new.self before (loop.number + 1)
-          (queue.0 ∙ ap (λ (r : ReaderState). r.queue) was, queue.1 ∙ ap (λ (r : ReaderState). r.capacity) was)
-          (same.0 ∙ ap (λ (r : ReaderState). r.entries) was) (same.1 ∙ ap (λ (r : ReaderState). r.taken) was)
-          (same.2 ∙ ap (λ (r : ReaderState). r.seen_empty) was) (same.3 ∙ ap (λ (r : ReaderState). r.learned) was)
-          (c.in_ok-sender.ensures.count ∙ ap (λ (r : ReaderState). r.count + 1) was);
+      reader = reader_counted c.sender.new.self loop.reader c.in_ok-sender.ensures.queue c.in_ok-sender.ensures.same
+          c.in_ok-sender.ensures.count ∙ ap (λ (r : ReaderState). record r { count = r.count + 1 }) was;
       opened = c.in_ok-push-2.ensures.items
-          ∙ opened_more c.args.credit loop.number seats loop.outlets.items loop.opened.items outlet c.new.result
-          loop.invariant.long loop.invariant.opened (c.new.ensures
+          ∙ opened_more c.args.credit loop.number seats loop.outlets.items outlet loop.invariant.long
+          loop.invariant.opened (c.new.ensures
           ∙ (λ i. new_submitter c.args.credit (record { seat = seat i; ring = c.in_ok-outlet.ensures.pair i })))
           ∙ ap (λ outlets. map (new_submitter c.args.credit) (origins_from seats 0 outlets))
           (sym c.in_ok-push.ensures.items);

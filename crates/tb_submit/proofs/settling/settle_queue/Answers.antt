@@ -1,24 +1,8 @@
 use Rattle.std.proofs.Common.{◌≡◌, ◌<◌, ◌+◌, ℕ, zero, suc, List, [], ◌∷◌, ◌++◌, map, length, get_or, ap, ◌∙◌, subst, arith, true, All}
-use Rattle.tb_submit.proofs.Words.{ReplyValue, All-nil, All-from_get_or, Ticket, given, PassEntry, EndedState, IntakeState, SenderState, replies_of, seat_at, AreUnended, ReaderState, entry_of, IsCompleteQueue, IsWhole, entry}
+use Rattle.tb_submit.proofs.Words.{ReplyValue, All-nil, All-from_get_or, given, PassEntry, EndedState, IntakeState, SenderState, replies_of, seat_at, AreUnended, ReaderState, entry_of, IsCompleteQueue, IsWhole, entry}
 use Rattle.tb_submit.proofs.DrainedQueue.{AreSettled, settled_ahead, settled_queue, settled_within}
-use Rattle.tb_submit.proofs.OpenedSubmitters.{ends_long, seat_of_one}
+use Rattle.tb_submit.proofs.OpenedSubmitters.{ends_long, origin_at}
 use Rattle.tb_submit.proofs.settling.settle_queue.Goals as goal
-
--- what the reader learned once all had come to it
-gathered_whole : (first more next last : ReaderState) (xs : List EndedState) (e : PassEntry) (count : ℕ)
-    (learned : List (List Ticket)) (items : List Ticket) → first.entries ≡ [] → first.count ≡ count →
-    more ≡ record first { entries = first.entries ++ map entry_of xs; learned = more.learned }
-    → next ≡ record more { entries = more.entries ++ e ∷ []; learned = learned } → last ≡ next →
-    IsWhole last.entries last.taken last.count last.learned items
-    → IsWhole (map entry_of xs ++ e ∷ []) first.taken count learned items
-gathered_whole first more next last xs e count learned items none count_is more_is next_is last_is whole =
-    let same : last ≡ record first { entries = map entry_of xs ++ e ∷ []; learned = learned }
-    =
-    last_is ∙ next_is
-    ∙ ap (λ (r : ReaderState). record r { entries = r.entries ++ e ∷ []; learned = learned }) more_is
-    ∙ ap (λ es. record first { entries = (es ++ map entry_of xs) ++ e ∷ []; learned = learned }) none in
-    subst (λ n. IsWhole (map entry_of xs ++ e ∷ []) first.taken n learned items) count_is
-    (subst (λ (r : ReaderState). IsWhole r.entries r.taken r.count r.learned items) same whole)
 
 replies_all : (F : ℕ → List ReplyValue → Type 0) (ends : List EndedState)
     → ((k : ℕ) (d : EndedState) → k < length ends → F k ((get_or ends k d).read ++ (get_or ends k d).lying)) →
@@ -42,36 +26,44 @@ settled c =
     let os = c.args.outlets.items in
     let before = c.intake.inside in
     let last = c.control.inside.sender in
-    let whole = gathered_whole before.reader c.settle_all-ends.new.reader c.gather.new.self c.learn.new.self xs
-    (entry last.seat.number last.queued) (before.submitters + 1) last.learned c.learn.ensures.whole.0
-    c.intake.invariant.0 c.intake.invariant.1 c.settle_all-ends.ensures.reader c.gather.ensures.entries
-    c.learn.ensures.same c.learn.ensures.whole.1 in
+    let items = c.learn.ensures.whole.0 in
+    let both = λ (es : List PassEntry). es ++ entry last.seat.number last.queued ∷ [] in
+    let same : c.learn.new.self ≡ record before.reader { entries = both (map entry_of xs); learned = last.learned }
+    =
+    c.learn.ensures.same ∙ c.gather.ensures.entries
+    ∙ ap (λ (r : ReaderState). record r { entries = both r.entries; learned = last.learned })
+    c.settle_all-ends.ensures.reader
+    ∙ ap (λ es. record before.reader { entries = both (es ++ map entry_of xs); learned = last.learned })
+    c.intake.invariant.0 in
+    let whole = subst (λ n. IsWhole (both (map entry_of xs)) before.reader.taken n last.learned items)
+    c.intake.invariant.1 (subst (λ (r : ReaderState). IsWhole r.entries r.taken r.count r.learned items) same
+    c.learn.ensures.whole.1) in
     record {
       long = ends_long (seat_at intake) 0 xs os c.requires.ends ∙ c.requires.number;
-      seats = λ k d below. seat_of_one (seat_at intake) 0 k k xs os d c.requires.ends below (omega arith);
+      seats = λ k d below. (origin_at (seat_at intake) xs os c.requires.ends k d below).0;
       filed = c.settle_all-ends.ensures.filed;
       control_seat_is = c.requires.control;
       control_filed = subst (λ (s : SenderState). IsCompleteQueue s.seat.limit s.seat.submitters s.seat.number s.queued)
           c.control.view_is c.gather.ensures.filed;
-      items = c.learn.ensures.whole.0;
+      items = items;
       whole = subst (λ (i : IntakeState). IsWhole (map entry_of xs
           ++ entry c.args.control.seat.number c.args.control.queued ∷ []) i.taken
-          (i.submitters + 1) c.args.control.learned c.learn.ensures.whole.0) c.intake.view_is
+          (i.submitters + 1) c.args.control.learned items) c.intake.view_is
           (subst (λ (s : SenderState). IsWhole (map entry_of xs ++ entry s.seat.number s.queued ∷ [])
-          before.reader.taken (before.submitters + 1) s.learned c.learn.ensures.whole.0) c.control.view_is whole);
+          before.reader.taken (before.submitters + 1) s.learned items) c.control.view_is whole);
       unended = subst (λ (s : SenderState). AreUnended s.seat.number s.learned) c.control.view_is
           c.gather.ensures.unended;
       finished = c.requires.finished;
     }
 
 pub returns-clause-queue : goal.returns-clause-queue
-returns-clause-queue c = settled_queue c.args.intake c.args.ends.items c.args.control (settled c)
+returns-clause-queue c = settled_queue (settled c)
 
 pub returns-clause-within : goal.returns-clause-within
-returns-clause-within c = settled_within c.args.intake c.args.ends.items c.args.control (settled c)
+returns-clause-within c = settled_within (settled c)
 
 pub returns-clause-ahead : goal.returns-clause-ahead
-returns-clause-ahead c = settled_ahead c.args.intake c.args.ends.items c.args.control (settled c)
+returns-clause-ahead c = settled_ahead (settled c)
 
 pub returns-clause-long : goal.returns-clause-long
 returns-clause-long c = c.settle_all-ends.ensures.long ∙ (settled c).long

@@ -1,6 +1,10 @@
-use Rattle.std.proofs.Common.{refl}
-use Rattle.tb_submit.proofs.RuleSteps.{pushes}
+use Rattle.std.proofs.Common.{ap, refl}
+use Rattle.tb_submit.proofs.Words.{View}
+use Rattle.tb_submit.proofs.RuleSteps.{pushed}
 use Rattle.tb_submit.proofs.sender.Sender.push.Goals as goal
 
 pub push_as-requires-clause-rule : goal.push_as-requires-clause-rule
-push_as-requires-clause-rule g c = (pushes _ _ _ _ _ _ _ _ c.self.invariant.1 refl, λ items views h at. tt)
+push_as-requires-clause-rule g c = (
+  (λ items views _ h at. pushed h _ at _ _ (ap (λ (v : View). v.entries) c.self.invariant.1) refl),
+  (λ items views h at. tt),
+)

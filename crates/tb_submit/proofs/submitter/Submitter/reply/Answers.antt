@@ -10,7 +10,7 @@ invariant_of-self-then-is_none c =
     let outcome = ap (λ (r : ReplyValue). refusal_of r.outcome) c.reply.view_is in
     subst (λ read. IsSubmitter before.sender.seat before.sender.queued before.queued before.credit
     c.saturating_add-self-inside.result c.refusal_of-self-inside.result read) (sym c.in_ok-reply.ensures.some)
-    (counts_reply _ _ _ _ _ _ _ _ _ reply c.self.invariant c.saturating_add-self-inside.ensures
+    (counts_reply c.self.invariant reply c.saturating_add-self-inside.ensures
     (c.refusal_of-self-inside.ensures ∙ outcome ∙ else_none before.first_refusal
     (refusal_of reply.outcome) c.if-is_none.ensures))
 
@@ -20,5 +20,5 @@ invariant_of-self-else-is_none c =
     let reply = c.in_ok-reply.reply in
     subst (λ read. IsSubmitter before.sender.seat before.sender.queued before.queued before.credit
     c.saturating_add-self-inside.result before.first_refusal read) (sym c.in_ok-reply.ensures.some)
-    (counts_reply _ _ _ _ _ _ _ _ _ reply c.self.invariant c.saturating_add-self-inside.ensures
+    (counts_reply c.self.invariant reply c.saturating_add-self-inside.ensures
     (else_some before.first_refusal (refusal_of reply.outcome) c.if-is_none.ensures))

@@ -16,7 +16,7 @@ invariant_of-self g c =
     (arith, flying, c.if-in_flight-self.false, c.self.invariant.credited) in
     subst (λ (s : SenderState). IsSubmitter s.seat s.queued
     (before.queued + 1) before.credit before.read before.first_refusal (taken before.inlet)) (sym c.in-Ok.ensures.ok)
-    (counts_packet _ _ _ _ _ _ _ job c.self.invariant (ap (λ (j : Numbered). j.submitter) made ∙ c.number.ensures)
+    (counts_packet c.self.invariant job (ap (λ (j : Numbered). j.submitter) made ∙ c.number.ensures)
     (ap (λ (j : Numbered). j.number) made)
     (subst (λ (j : Numbered). IsOk (admission_of before.sender.seat.limit j.packet)) (sym made)
     (subst (λ p. IsOk (admission_of before.sender.seat.limit p)) (sym packet)
@@ -25,16 +25,17 @@ invariant_of-self g c =
 
 pub returns-in-Some-clause-refusal : goal.returns-in-Some-clause-refusal
 returns-in-Some-clause-refusal g c =
-    is_due _ c.in-Some.refusal _ (refusal_is_due _ _ c.args.packet _ _ c.self.view_is c.self.invariant.first_refusal c.in-Some.is)
+    is_due _ c.in-Some.refusal _
+    (refusal_is_due c.self.view_is c.self.invariant.first_refusal c.args.packet c.in-Some.is)
 
 pub returns-in-Ok-clause-admitted : goal.returns-in-Ok-clause-admitted
 returns-in-Ok-clause-admitted g c =
-    none_is_due _ _ c.args.packet _ _ _ c.self.view_is c.self.invariant.first_refusal c.in_default.is
+    none_is_due c.self.view_is c.self.invariant.first_refusal c.args.packet c.in_default.is
     c.in_ok-admitted.ensures.admitted (c.limit.ensures ∙ ap (λ (s : SubmitterState). s.origin.seat.limit) c.self.view_is)
     c.in_flight.ensures.value c.if-in_flight-self.false
 
 pub returns-in-Err-Packet-clause-refusal : goal.returns-in-Err-Packet-clause-refusal
 returns-in-Err-Packet-clause-refusal g c =
-    is_other _ _ _ (none_is_due _ _ c.args.packet _ _ _ c.self.view_is c.self.invariant.first_refusal c.in_default.is
+    is_other _ _ _ (none_is_due c.self.view_is c.self.invariant.first_refusal c.args.packet c.in_default.is
     c.in_ok-admitted.ensures.admitted (c.limit.ensures ∙ ap (λ (s : SubmitterState). s.origin.seat.limit) c.self.view_is)
     c.in_flight.ensures.value c.if-in_flight-self.false) (inr refl)
