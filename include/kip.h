@@ -401,7 +401,7 @@ static inline const char *kip_status_name(uint32_t status) {
     }
 }
 
-/* Results, by tools/result-names: begin */
+/* Results, by tools/gate/result-names: begin */
 /* Returns the name of a result of create_accounts; "unknown" for any other number. */
 static inline const char *kip_account_result_name(uint32_t result) {
     switch (result) {

@@ -1,4 +1,4 @@
-"""The results of events, written by tools/result-names."""
+"""The results of events, written by tools/gate/result-names."""
 import enum
 
 

@@ -1,4 +1,4 @@
-//! The results of events, written by tools/result-names.
+//! The results of events, written by tools/gate/result-names.
 
 /// The result of one event of create_accounts.
 #[derive(Clone, Copy, Debug, PartialEq, Eq, Hash, PartialOrd, Ord)]

@@ -10,7 +10,7 @@
 //!
 //! What a line calls committed is on the disk. If the process is killed, it is run again: each till continues after its packets that are
 //! stored. So no transfer is lost or posted twice, also if its line was never printed. Only the process knows which payments are to be
-//! tried again: a kill leaves these undone. `tools/check-durable` tests it.
+//! tried again: a kill leaves these undone. `tools/gate/check-durable` tests it.
 //!
 //! The journal is only in the file. So the memory of a run grows by the accounts and transfers that are stored, however long it runs.
 //!

@@ -1,5 +1,5 @@
 //! The tests of tb_durable, in a crate of their own so that it isn't proved twice. What needs a file is tried by
-//! tools/check-durable.
+//! tools/gate/check-durable.
 #![tactic(auto)]
 
 #[cfg(test)]

@@ -1,5 +1,5 @@
 //! What is said of a faulty script beside its line: where the fault is, what is wrong, and what may stand there. It is one sentence for
-//! people, on standard error. No clause says what it is; `tools/check-remarks` compares what the program says.
+//! people, on standard error. No clause says what it is; `tools/gate/check-remarks` compares what the program says.
 
 use crate::event::{Layout, faulty_field, size_of_first};
 use crate::fault::Fault;

@@ -287,7 +287,7 @@ fn assert_held(rt: &impl Abort, front: &mut Front, parcels: &[Parcel], held: usi
     }
 }
 
-/// What is tried with each allocation refused in turn, by `tools/refuse-each-growth`.
+/// What is tried with each allocation refused in turn, by `tools/gate/refuse-each-growth`.
 #[test]
 fn take_into_refused_memory(rt: HostRuntime) {
     let mut front = small_front(rt.alloc()).expect(&rt, "no memory is needed yet");

@@ -1,4 +1,4 @@
-//! Capacity that was reserved suffices, and nothing is reserved by a ledger that is opened. `tools/refuse-each-growth` refuses each
+//! Capacity that was reserved suffices, and nothing is reserved by a ledger that is opened. `tools/gate/refuse-each-growth` refuses each
 //! allocation in turn: so it finds a commit that allocates all the same.
 
 use super::made::{creating, transferring};
@@ -193,7 +193,7 @@ fn first_commit_made_again_refused_memory(rt: HostRuntime) {
 /// How many of each are opened.
 const OPENED: u32 = 200;
 
-/// `tools/refuse-each-growth` checks that none of these calls allocates.
+/// `tools/gate/refuse-each-growth` checks that none of these calls allocates.
 #[test]
 fn opened_without_memory_refused_memory(rt: HostRuntime) {
     for _ in 0..OPENED {

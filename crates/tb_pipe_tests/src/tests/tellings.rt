@@ -138,7 +138,7 @@ fn assert_refusal(rt: &(impl Abort + Print), refusal: Option<Refusal>) {
     check!(rt; refusal.is_none() || refusal == Some(Refusal::Stopped));
 }
 
-/// `tools/refuse-each-growth` counts the lines that this prints: some allocation is the job's, and the packet isn't tried again.
+/// `tools/gate/refuse-each-growth` counts the lines that this prints: some allocation is the job's, and the packet isn't tried again.
 #[test]
 fn driver_told_once_refused_memory(rt: HostRuntime) {
     assert_refusal(&rt, refusal_by_driver(&rt, rt.alloc()));

@@ -24,7 +24,7 @@ fn submit_or_not(
     }
 }
 
-/// Tried with each allocation refused in turn, by `tools/refuse-each-growth`.
+/// Tried with each allocation refused in turn, by `tools/gate/refuse-each-growth`.
 #[test]
 fn submit_refused_memory(rt: HostRuntime) {
     match open_queue(rt.alloc(), 4, 4, 4, 2) {
@@ -59,7 +59,7 @@ fn try_again(rt: &(impl Abort + Wait), alloc: Global, submitter: &mut Submitter,
     drop(packet);
 }
 
-/// `tools/refuse-each-growth` checks that these calls allocate nothing.
+/// `tools/gate/refuse-each-growth` checks that these calls allocate nothing.
 #[test]
 fn credit_used_up_refused_memory(rt: HostRuntime) {
     let Ok(mut ends) = open_queue(rt.alloc(), 4, 4, 1, 1) else {

@@ -58,7 +58,7 @@ fn woken_before_it_sleeps(rt: HostRuntime) {
     check!(&rt; inlet.take().is_none());
 }
 
-/// Tried with each allocation refused in turn, by `tools/refuse-each-growth`: there are both ends, or
+/// Tried with each allocation refused in turn, by `tools/gate/refuse-each-growth`: there are both ends, or
 /// none.
 #[test]
 fn ring_refused_memory(rt: HostRuntime) {

@@ -38,7 +38,7 @@ fn offer_three(rt: &(impl Abort + Alloc<A = Global>), batcher: &mut Batcher) -> 
     3
 }
 
-/// What is tried with each allocation refused in turn, by `tools/refuse-each-growth`.
+/// What is tried with each allocation refused in turn, by `tools/gate/refuse-each-growth`.
 #[test]
 fn offer_refused_memory(rt: HostRuntime) {
     let mut batcher = batcher_of(&rt, 4);

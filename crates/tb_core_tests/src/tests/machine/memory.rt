@@ -1,4 +1,4 @@
-//! What is tried with each allocation refused in turn, by `tools/refuse-each-growth`.
+//! What is tried with each allocation refused in turn, by `tools/gate/refuse-each-growth`.
 
 use super::{MOST, is_packet, resolving};
 use std::alloc::Global;

@@ -2,7 +2,7 @@ use tb_layout::{Account, NoMemory, Transfer};
 use tb_test_makers::{check, zeros};
 use tb_work::{Job, Packet, Refusal};
 
-/// What is tried with each allocation refused in turn, by `tools/refuse-each-growth`. The room for four failures isn't
+/// What is tried with each allocation refused in turn, by `tools/gate/refuse-each-growth`. The room for four failures isn't
 /// in the job.
 #[test]
 fn job_refused_memory(rt: HostRuntime) {

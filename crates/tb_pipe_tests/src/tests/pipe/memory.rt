@@ -1,4 +1,4 @@
-//! What is tried with each allocation refused in turn, by `tools/refuse-each-growth`. Which allocation is refused
+//! What is tried with each allocation refused in turn, by `tools/gate/refuse-each-growth`. Which allocation is refused
 //! differs from run to run, since the stages and the test itself allocate at once: so the tests look only at the
 //! replies, and ask again for what they need themselves.
 
@@ -250,7 +250,7 @@ fn assert_first_commit<R: Threads + Wait + Sync + Abort + Print>(
     }
 }
 
-/// `tools/refuse-each-growth` counts the lines that this prints: some allocation is the first commit's.
+/// `tools/gate/refuse-each-growth` counts the lines that this prints: some allocation is the first commit's.
 #[test]
 fn first_commit_refused_memory(rt: HostRuntime) -> Result<(), Refusal> {
     let mut lone = open_again(&rt, rt.alloc(), &mut false)?;
