@@ -7,7 +7,7 @@
 //! Each end has a `Sleeper`. The taker waits for a value, and each `give` wakes it; the giver waits for a slot, and each `take` wakes
 //! it. Whoever waits for something else polls (`PollWait`). No clause speaks of waiting: `no_wake_up_is_lost` and `waking_ends` are laws of a model of it (`specs/clauses/Waking.antt`).
 //!
-//! `ring_of_two` in tb_pipe_tests is an example that the gate compiles.
+//! `ring_of_two` in tb_submit_tests is an example that the gate compiles.
 #![tactic(auto)]
 
 mod laws;
@@ -116,8 +116,8 @@ impl<T: Drop> Outlet<T> {
 }
 
 impl<T: Drop> Inlet<T> {
-    /// Takes the value that was given first, and wakes the thread that waits for a slot; None if none is seen, and so never while some
-    /// are known to be in the ring.
+    /// Takes the value that was given first, and wakes the thread that waits for a slot. None if no value is seen, and so never while
+    /// some are known to be in the ring.
     #[inline(always)]
     pub fn take(&mut self) -> Option<T>
         ensures ring { SameInlet self.old self.new }

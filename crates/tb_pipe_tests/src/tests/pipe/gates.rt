@@ -219,6 +219,15 @@ fn nine_batches_sealed_ahead(rt: HostRuntime) {
     assert_sealed_ahead(&rt, rt.alloc(), 9);
 }
 
+/// The gate says no to each batch for some ten milliseconds, and the ring before it has eight slots. So the batcher sleeps, and each
+/// batch that the committer takes wakes it.
+#[test]
+fn batcher_sleeps_for_a_slot(rt: HostRuntime) {
+    let gate = Notes::new(200);
+    let report = run_queued(&rt, rt.alloc(), &twenty_in_turn(), false, &[], &gate);
+    assert_run(&rt, report, 0, &twenty_places());
+}
+
 /// Queues two packets with a pulse between them. Asserts that the gate sees batches 0 and 1, each once and in order,
 /// and is asked for them as noted.
 fn assert_asked<R: Threads + Wait + Sync + Abort>(rt: &R, alloc: Global, yes_at: u64, asked: u64) {
