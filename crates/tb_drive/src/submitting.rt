@@ -130,9 +130,28 @@ fn read<D: Driver>(submitter: &mut Submitter, driver: &mut D) -> bool
     }
 }
 
-/// Waits for a slot of the queue. A packet that is in flight leaves the queue before its reply comes, so this waits for the next reply
-/// if there is to be one, and else polls.
-fn wait_for_slot<R: Wait>(rt: &R, submitter: &Submitter, idle: &IdleWait, poll: &PollWait) {
+/// Hands the next reply to the driver. If none is seen it waits for one, or polls if no packet is in flight.
+///
+/// It serves who waits for a slot of the queue too: a packet in flight leaves the queue before its reply comes. A wait without a look
+/// before it could sleep over replies that are there.
+fn read_or_wait<D: Driver, R: Wait>(
+    rt: &R,
+    submitter: &mut Submitter,
+    driver: &mut D,
+    idle: &IdleWait,
+    poll: &PollWait,
+)
+    ensures own { origin_of submitter.new ≡ origin_of submitter.old }
+    ensures front { submitter.new.queued ≡ submitter.old.queued }
+    ensures seen { HasSeen D.has_seen driver.old submitter.old → HasSeen D.has_seen driver.new submitter.new }
+    ensures ended { HasSeen D.has_ended driver.old submitter.old → HasSeen D.has_ended driver.new submitter.new }
+    ensures asked { (packet : packets.Packet) → HasAsked D.has_asked driver.old packet submitter.old
+        → HasAsked D.has_asked driver.new packet submitter.new }
+    ensures share { D.share driver.new ≡ D.share driver.old }
+{
+    if read(submitter, driver) {
+        return;
+    }
     if submitter.in_flight() > 0 {
         submitter.wait(rt, idle);
     } else {
@@ -140,8 +159,8 @@ fn wait_for_slot<R: Wait>(rt: &R, submitter: &Submitter, idle: &IdleWait, poll: 
     }
 }
 
-/// Submits a packet. While the credit is used up it waits for a reply, while the queue is full for a slot. Then it reads
-/// a reply and tries again, unless the run is given up. The driver receives the result.
+/// Submits a packet. While the credit is used up or the queue is full, it reads replies or waits, and tries again, unless the run is
+/// given up. The driver receives the result.
 fn submit<D: Driver, R: Wait>(
     rt: &R,
     alloc: Global,
@@ -162,20 +181,13 @@ fn submit<D: Driver, R: Wait>(
     for _ in rt.forever() {
         match submit_once(rt, alloc, submitter, packet) {
             Ok(number) => return Ok(driver.submitted(Ok(number))),
-            Err((back, Refusal::InFlight)) => {
-                packet = back;
-                submitter.wait(rt, &idle);
-            }
-            Err((back, Refusal::Full)) => {
-                packet = back;
-                wait_for_slot(rt, submitter, &idle, &poll);
-            }
+            Err((back, Refusal::InFlight | Refusal::Full)) => packet = back,
             Err((_, refusal)) => return Ok(driver.submitted(Err(refusal))),
         }
         if stop.is_given_up() {
             return Err(Stopped);
         }
-        read(submitter, driver);
+        read_or_wait(rt, submitter, driver, &idle, &poll);
     }
     unreachable!()
 }
@@ -256,8 +268,7 @@ fn end<D: Driver, R: Wait>(
         if stop.is_given_up() && submitter.give_up() {
             return None;
         }
-        read(&mut submitter, driver);
-        wait_for_slot(rt, &submitter, &idle, &poll);
+        read_or_wait(rt, &mut submitter, driver, &idle, &poll);
     }
     unreachable!()
 }

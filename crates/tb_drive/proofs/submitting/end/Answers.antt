@@ -8,13 +8,13 @@ pub loop-preserved : goal.loop-preserved
 loop-preserved g c =
     let same : c.in-Err.back ≡ c.loop.submitter = search rules in
     record {
-      own = c.read.ensures.own ∙ ap origin_of same ∙ c.loop.invariant.own;
-      front = c.read.ensures.front ∙ ap (λ (one : SubmitterState). one.queued) same ∙ c.loop.invariant.front;
-      ended = λ had. c.read.ensures.ended
+      own = c.read_or_wait.ensures.own ∙ ap origin_of same ∙ c.loop.invariant.own;
+      front = c.read_or_wait.ensures.front ∙ ap (λ (one : SubmitterState). one.queued) same ∙ c.loop.invariant.front;
+      ended = λ had. c.read_or_wait.ensures.ended
           (subst (HasSeen g.D.Driver.has_ended c.loop.driver) (sym same) (c.loop.invariant.ended had));
-      seen = λ had. c.read.ensures.seen
+      seen = λ had. c.read_or_wait.ensures.seen
           (subst (HasSeen g.D.Driver.has_seen c.loop.driver) (sym same) (c.loop.invariant.seen had));
-      share = c.read.ensures.share ∙ c.loop.invariant.share;
+      share = c.read_or_wait.ensures.share ∙ c.loop.invariant.share;
     }
 
 pub returns-in-Ok : goal.returns-in-Ok

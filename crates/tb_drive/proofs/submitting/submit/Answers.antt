@@ -6,12 +6,12 @@ pub loop-preserved : goal.loop-preserved
 loop-preserved g c =
     let kept : (c.match-this.packet ≡ c.loop.packet) × (c.submit_once.new.submitter ≡ c.loop.submitter) = search rules in
     record {
-      own = c.read.ensures.own ∙ c.submit_once.ensures.own ∙ c.loop.invariant.own;
-      front = c.read.ensures.front ∙ ap (λ (one : SubmitterState). one.queued) kept.1 ∙ c.loop.invariant.front;
+      own = c.read_or_wait.ensures.own ∙ c.submit_once.ensures.own ∙ c.loop.invariant.own;
+      front = c.read_or_wait.ensures.front ∙ ap (λ (one : SubmitterState). one.queued) kept.1 ∙ c.loop.invariant.front;
       same = kept.0 ∙ c.loop.invariant.same;
-      asked = λ had. c.read.ensures.asked c.args.packet
+      asked = λ had. c.read_or_wait.ensures.asked c.args.packet
           (subst (HasAsked g.D.Driver.has_asked c.loop.driver c.args.packet) (sym kept.1) (c.loop.invariant.asked had));
-      share = c.read.ensures.share ∙ c.loop.invariant.share;
+      share = c.read_or_wait.ensures.share ∙ c.loop.invariant.share;
     }
 
 pub returns-in-Ok-clause-seen : goal.returns-in-Ok-clause-seen
