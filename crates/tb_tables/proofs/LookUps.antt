@@ -2,7 +2,7 @@
 use Rattle.std.proofs.Common.{refl, sym, ap, ◌∙◌, ◌≡◌, ℕ, true, not, List, [], ◌∷◌, nat_eq, slice_get, length, arith, ◌==◌, Option, Some, None, IsSome, is_some, find, option_map, Bool, Result, Ok, Err, false, ◌≢◌}
 use Rattle.std.specs.Result.{result_eq}
 use mathlib.Core.Bool.{beq as bool_eq}
-use Rattle.tb_tables.proofs.Words.{length-map, slice_get-map, position, position_or_len, keys_of, lookup, Account, Transfer, Facts, account_with, IsIndexAmong, IsIndexOf, IsIndexOfTransfer, transfer_with, MayResolve, sums_of, with_sums, AreAt, Contain, AreGrounded, row_in, MayPost, Indices, Row, has_account, IsGrounded, Found-position, Missing-position, find_at}
+use Rattle.tb_tables.proofs.Words.{length-map, slice_get-map, position, position_or_len, keys_of, lookup, Account, Transfer, Facts, account_with, IsIndexAmong, IsIndexOf, IsIndexOfTransfer, transfer_with, MayResolve, sums_of, with_sums, HaveIndices, Contain, AreGrounded, row_in, MayPost, Indices, Row, has_account, IsGrounded, Found-position, Missing-position, find_at}
 use Rattle.tb_tables.proofs.MapRows.{rows, lookup-rows, key-indexed_at, key-of-position, first-of-key}
 use Rattle.tb_tables.proofs.GroundedFacts.{all-found}
 
@@ -109,8 +109,7 @@ module _ {facts : Facts} {accounts : List (ℕ × Account)} {transfers : List (�
 
   pub are-at : (t : Transfer) (indices : Indices)
       → slice_get (keys_of accounts) indices.debit ≡ Some t.debit_account_id
-      → slice_get (keys_of accounts) indices.credit ≡ Some t.credit_account_id →
-      AreAt facts.accounts indices t.debit_account_id t.credit_account_id
+      → slice_get (keys_of accounts) indices.credit ≡ Some t.credit_account_id → HaveIndices facts t indices
   are-at t indices debit credit =
       let d = account-index indices.debit debit in
       let c = account-index indices.credit credit in
