@@ -4,7 +4,8 @@ use Rattle.tb_tables.proofs.Words.{list_any, AllByRecursion, nat_tests, Account,
 use Rattle.tb_tables.specs.declared.amounts.Phase.TheVariants as phase
 use Rattle.tb_tables.proofs.MapRows.{map-same}
 use Rattle.tb_tables.proofs.Sums.{amounts, amounts-push, but_for, but_for-found}
-use Rattle.tb_tables.proofs.Laws.{find-none, reserves, posts, any-push, resolved_either, reserves-same, reserving, reserves-but_for, total, distinct-push}
+use Rattle.tb_tables.proofs.FoundById.{find-none}
+use Rattle.tb_tables.proofs.Laws.{status-add, reserves, posts, any-push, resolved_either, reserves-same, reserving, reserves-but_for, total, distinct-push}
 
 -- the same four sums
 pub record AreSame (sums others : Sums) : Type 0 where
@@ -53,19 +54,16 @@ module _ (facts : Facts) (grounded : AreGrounded facts) (id : ℕ) (fresh : has_
 -- ---- one plain or pending transfer more
 
 module _ (facts : Facts) (t : Transfer) (may : MayAdd facts t) where
-  pub status-add : (id : ℕ) → status_of (add_transfer facts t) id ≡ status_of facts id
-  status-add id = grind (arith, any-push, may.not_post, may.not_void)
-
   pub status_in-add : (y : Transfer) → status_in (add_transfer facts t) y ≡ status_in facts y
-  status_in-add y = ap (λ s. if is_pending y then Some s else None) (status-add y.id)
+  status_in-add y = ap (λ s. if is_pending y then Some s else None) (status-add facts t may y.id)
 
   module _ (grounded : AreGrounded facts) (not_expired : is_expired facts t.id ≡ false) where
     pub reserves-new : is_reserving (add_transfer facts t) t ≡ is_pending t
     reserves-new =
         grind (
           arith,
-          status-add t.id,
-          status-fresh facts grounded t.id (find-none t.id facts.transfers may.new) not_expired,
+          status-add facts t may t.id,
+          status-fresh facts grounded t.id (find-none _ facts.transfers may.new) not_expired,
         )
 
     pub reserved-add : (side : Transfer → ℕ) (id : ℕ)
@@ -153,7 +151,7 @@ module _ (facts : Facts) (t : Transfer) (may : MayResolve facts t) where
 
   pub resolve_lawful : transfer_with facts t.id ≡ None → IsLawful facts → IsLawful (add_transfer facts t)
   resolve_lawful new lawful = record {
-    distinct = distinct-push facts.transfers t (find-none t.id facts.transfers new) lawful.distinct;
+    distinct = distinct-push facts.transfers t (find-none _ facts.transfers new) lawful.distinct;
     debits_fit = λ id. omega (
       arith,
       total-resolve

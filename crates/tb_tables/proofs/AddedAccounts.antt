@@ -1,18 +1,14 @@
 -- Accounts and failed ids, added and taken back.
-use Rattle.std.proofs.Common.{arith, refl, sym, ap, ◌∙◌, ◌≡◌, ℕ, ◌-◌, Bool, true, false, List, [], ◌∷◌, ◌++◌, map, take, length, ◌==◌, ◌&&◌, None, find}
+use Rattle.std.proofs.Common.{arith, refl, sym, ap, ◌∙◌, ◌≡◌, ℕ, ◌-◌, Bool, true, List, [], ◌∷◌, ◌++◌, map, take, length, ◌==◌, ◌&&◌, None}
 use Rattle.tb_tables.proofs.Words.{map-append, length-map, take-map, AllByRecursion, nat_tests, Account as AccountRecord, Transfer as TransferRecord, Facts, account_with, add_account, is_reserving, is_posting, HasNoBalances, without_last, before, sums_of, with_sums, account_rows, Contents, facts_of, has_account, IsGrounded, AreGrounded, AreConsistent, IsSound, IsUndoable}
 use Rattle.tb_tables.specs.declared.change.Change.TheVariants.{Account}
+use Rattle.tb_tables.proofs.FoundById.{find-none}
 use Rattle.tb_tables.proofs.Sums.{amounts}
 use Rattle.tb_tables.proofs.GroundedFacts.{grounded_account}
 use Rattle.tb_tables.proofs.SeenFacts.{AreSeenAs, keeps}
 use Rattle.tb_tables.proofs.Histories.{all_push}
 
 -- ---- an account that is new has no balances
-
-none-there : (id : ℕ) (accounts : List AccountRecord) → find (λ (a : AccountRecord). a.id == id) accounts ≡ None
-    → has_account id accounts ≡ false
-none-there id [] e = refl
-none-there id (x ∷ xs) e = grind (arith, none-there id xs)
 
 module _ (facts : Facts) (grounded : AreGrounded facts) (account : AccountRecord)
     (fresh : account_with facts account.id ≡ None) (none : HasNoBalances account) where
@@ -26,7 +22,7 @@ module _ (facts : Facts) (grounded : AreGrounded facts) (account : AccountRecord
       grind (
         arith,
         nat_tests,
-        none-there account.id facts.accounts fresh,
+        find-none _ facts.accounts fresh,
         there x all.0,
         amounts-none
             test side there xs all.1,

@@ -96,13 +96,13 @@ module _ (facts : Facts) (x : Transfer) (index : ℕ) (at : slice_get facts.tran
       (record (row_in facts x) { status = Some Expired }) ≡ transfer_rows after facts.transfers
   rows-after is apart =
       rows-set (λ (t : Transfer). t.id) (row_in facts)
-      (row_in after) [] facts.transfers index x at row-expired row-other
+      (row_in after) [] facts.transfers index at row-expired row-other
       (is ∙ sym (append-nil _)) apart ∙ append-nil _
 
   -- ---- what it does to sound facts and to the set
 
   same : (p : ℕ) (y : Transfer) → slice_get facts.transfers p ≡ Some y → (x.id == y.id) ≡ true → x ≡ y
-  same p y at' is = one-transfer facts.transfers index p x y lawful.distinct at at' is
+  same p y at' is = one-transfer facts.transfers index p lawful.distinct at at' is
 
   is_open_pair-after : (m p : ℕ) → is_open_pair after m p ≡ true → (is_open_pair facts m p ≡ true) × ((index == p) ≡ false)
   is_open_pair-after m p has = by (slice_get facts.transfers p) refl has

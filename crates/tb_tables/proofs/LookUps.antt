@@ -1,9 +1,10 @@
 -- Look-ups in the maps.
-use Rattle.std.proofs.Common.{refl, sym, ap, ◌∙◌, ◌≡◌, ℕ, true, not, List, [], ◌∷◌, nat_eq, slice_get, length, arith, ◌==◌, Option, Some, None, IsSome, is_some, find, option_map, Bool, Result, Ok, Err, false, ◌≢◌}
+use Rattle.std.proofs.Common.{refl, sym, ap, ◌∙◌, ◌≡◌, ℕ, true, not, List, nat_eq, slice_get, length, arith, ◌==◌, Option, Some, None, IsSome, is_some, find, option_map, Bool, Result, Ok, Err, false, ◌≢◌}
 use Rattle.std.specs.Result.{result_eq}
 use mathlib.Core.Bool.{beq as bool_eq}
 use Rattle.tb_tables.proofs.Words.{length-map, slice_get-map, position, position_or_len, keys_of, lookup, Account, Transfer, Facts, account_with, IsIndexAmong, IsIndexOf, IsIndexOfTransfer, transfer_with, MayResolve, sums_of, with_sums, HaveIndices, Contain, AreGrounded, row_in, MayPost, Indices, Row, has_account, IsGrounded, Found-position, Missing-position, find_at}
 use Rattle.tb_tables.proofs.MapRows.{rows, lookup-rows, key-indexed_at, key-of-position, first-of-key}
+use Rattle.tb_tables.proofs.FoundById.{any-found}
 use Rattle.tb_tables.proofs.GroundedFacts.{all-found}
 
 -- the index of a key, as the map tells it
@@ -123,12 +124,8 @@ module _ {facts : Facts} {accounts : List (ℕ × Account)} {transfers : List (�
       }
 
   -- the accounts of the transfer that a post or a void names are there
-  there : (id : ℕ) (xs : List Account) → has_account id xs ≡ true → IsSome (find (λ (a : Account). a.id == id) xs)
-  there id [] h = h
-  there id (x ∷ xs) h = grind (arith, there id xs)
-
   pub has-account : (id : ℕ) → has_account id facts.accounts ≡ true → IsSome (lookup (nat_eq id) accounts)
-  has-account id has = account-there id (there id facts.accounts has)
+  has-account id has = account-there id (sym (any-found _ facts.accounts) ∙ has)
 
   module _ (grounded : AreGrounded facts) (t : Transfer) (may : MayResolve facts t) where
     ground : IsGrounded facts.accounts facts.transfers may.pending

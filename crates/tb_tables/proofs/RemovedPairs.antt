@@ -27,23 +27,23 @@ resolved-push : (index : ℕ) (changes : List Change) (change : Change)
 resolved-push index changes change = grind (arith, list_any-append (resolves_at index) changes (change ∷ []))
 
 -- after one change more
-pub forgotten-more : (changes : List Change) (k : ℕ) (d : Change) (p : ℕ)
-    (pair had now next : Bool) → k < length changes →
-    now ≡ (not (is_resolved_at p (take k changes) && pair) && had)
-    → next ≡ (not (resolves_at p (get_or changes k d) && pair) && now)
-    → next ≡ (not (is_resolved_at p (take (k + 1) changes) && pair) && had)
-forgotten-more changes k d p pair had now next h was is =
-    let e : k + 1 ≡ suc k = omega arith in
-    let more : is_resolved_at p (take (k + 1) changes)
-    ≡ (is_resolved_at p (take k changes) || resolves_at p (get_or changes k d)) =
-    ap (λ n. is_resolved_at p (take n changes)) e ∙ ap (is_resolved_at p) (take-suc changes k d h)
-    ∙ resolved-push p (take k changes) (get_or changes k d) in
-    is ∙ bits (is_resolved_at p (take k changes)) (resolves_at p (get_or changes k d)) now was
-    ∙ ap (λ b. not (b && pair) && had) (sym more)
-  where
-    bits : (a r now : Bool) → now ≡ (not (a && pair) && had)
-        → (not (r && pair) && now) ≡ (not ((a || r) && pair) && had)
-    bits a r now was = grind arith
+module _ (changes : List Change) (p : ℕ) (pair had : Bool) where
+  pub forgotten-more : (k : ℕ) (d : Change) {now next : Bool} → k < length changes
+      → now ≡ (not (is_resolved_at p (take k changes) && pair) && had)
+      → next ≡ (not (resolves_at p (get_or changes k d) && pair) && now)
+      → next ≡ (not (is_resolved_at p (take (k + 1) changes) && pair) && had)
+  forgotten-more k d {now} h was is =
+      let e : k + 1 ≡ suc k = omega arith in
+      let more : is_resolved_at p (take (k + 1) changes)
+      ≡ (is_resolved_at p (take k changes) || resolves_at p (get_or changes k d)) =
+      ap (λ n. is_resolved_at p (take n changes)) e ∙ ap (is_resolved_at p) (take-suc changes k d h)
+      ∙ resolved-push p (take k changes) (get_or changes k d) in
+      is ∙ bits (is_resolved_at p (take k changes)) (resolves_at p (get_or changes k d)) now was
+      ∙ ap (λ b. not (b && pair) && had) (sym more)
+    where
+      bits : (a r now : Bool) → now ≡ (not (a && pair) && had)
+          → (not (r && pair) && now) ≡ (not ((a || r) && pair) && had)
+      bits a r now was = grind arith
 
 -- ---- in the maps
 

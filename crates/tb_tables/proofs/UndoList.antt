@@ -1,10 +1,11 @@
 -- The undo list: what can be undone stays so.
-use Rattle.std.proofs.Common.{sym, ap, subst, refl, arith, ◌∙◌, ◌≡◌, ℕ, ◌≤◌, ◌-◌, ◌||◌, ◌&&◌, not, Bool, true, List, [], ◌∷◌, ◌++◌, take, length, slice_get, zero, suc, true≢false, Option, Some, None}
-use Rattle.tb_tables.proofs.Words.{eqb-true, length-take, AllByRecursion, Account as AccountRecord, Transfer as TransferRecord, Facts, account_with, add_account, add_failed, add_transfer, with_change, HasNoBalances, without_last, before, oldest, history_of, Contents, facts_of, Contain, MayStore, KeepsPairs, names_index, resolves_at, IsSound, WasMade, IsUndoable, AreUndoable, AreKept, IsAfter, CanRemove, IsGrounded, its_pair, Indices, Row, Change, Failed}
+use Rattle.std.proofs.Common.{sym, ap, subst, refl, arith, ◌∙◌, ◌≡◌, ℕ, ◌≤◌, ◌-◌, ◌||◌, ◌&&◌, not, Bool, true, List, [], ◌∷◌, ◌++◌, take, length, slice_get, zero, suc, true≢false, is_some, nat_eq, Option, Some, None}
+use Rattle.tb_tables.proofs.Words.{eqb-true, length-take, AllByRecursion, lookup, Account as AccountRecord, Transfer as TransferRecord, Facts, account_with, add_account, add_failed, add_transfer, with_change, HasNoBalances, without_last, before, oldest, history_of, Contents, facts_of, Contain, MayStore, KeepsPairs, names_index, resolves_at, IsSound, WasMade, IsUndoable, AreUndoable, AreKept, IsAfter, CanRemove, IsGrounded, its_pair, Indices, Row, Change, Failed}
 use Rattle.tb_tables.specs.declared.change.Change.TheVariants.{Account, Transfer}
-use Rattle.tb_tables.proofs.AddedAccounts.{held-failed, kept-account, kept-unaccount}
+use Rattle.tb_tables.proofs.AddedAccounts.{held-failed, kept-account, kept-unaccount, stamped-new}
 use Rattle.tb_tables.proofs.GroundedFacts.{all-there}
 use Rattle.tb_tables.proofs.Histories.{oldest-push, history_of-push, without_last-push}
+use Rattle.tb_tables.proofs.LookUps.{none-there, told-new-account}
 use Rattle.tb_tables.proofs.SeenFacts.{AreSeenAs, sound-indexed}
 use Rattle.tb_tables.proofs.StoredTransfers.{IsPushed, CanPop, can-pop, back, same-held}
 
@@ -83,11 +84,17 @@ module _ (changes : List Change) (old : Contents) (kept : AreKept changes old) w
         ap (history_of (changes ++ change ∷ [])) is.seen ∙ history_of-push changes change undone,
       )
 
-  pub account-made : (account : AccountRecord) → account_with (facts_of old) account.id ≡ None → HasNoBalances account
-      → TakesChange Account (record old { accounts = old.accounts ++ (account.id, account) ∷ [] })
+  -- if it is new, as the map tells it
+  pub account-made : (event : AccountRecord) (timestamp : ℕ) → HasNoBalances event
+      → true ≡ not (is_some (lookup (nat_eq event.id) old.accounts)) →
+      let account : AccountRecord = record event { timestamp = timestamp } in
+      TakesChange Account (record old { accounts = old.accounts ++ (event.id, account) ∷ [] })
       (add_account (facts_of old) account)
-  account-made account fresh none =
-      takes-change Account (kept-account old kept.consistent account fresh none)
+  account-made event timestamp none told =
+      let account : AccountRecord = record event { timestamp = timestamp } in
+      let fresh = none-there (account_with (facts_of old) event.id)
+      (sym (told ∙ told-new-account kept.consistent.hold event.id)) in
+      takes-change Account (kept-account old kept.consistent account fresh (stamped-new timestamp none))
       (ap (λ accounts. record (facts_of old) { accounts = accounts })
       (without_last-push (facts_of old).accounts account)) tt (λ m p within has. has)
 

@@ -18,7 +18,7 @@ pub use Rattle.tb_layout.specs.declared.account.Account.{Account}
 pub use Rattle.tb_layout.specs.declared.transfer.Transfer.{Transfer}
 pub use Rattle.tb_tables.specs.claim.Balances.{is_posting}
 pub use Rattle.tb_tables.specs.claim.Facts.{Facts, transfer_with, is_expired, add_transfer, account_with, add_account, add_failed}
-pub use Rattle.tb_tables.specs.claim.Status.{is_reserving, status_of, expires_at, expire_due, is_due}
+pub use Rattle.tb_tables.specs.claim.Status.{is_reserving, is_unresolved, status_of, expires_at, expire_due, is_due}
 pub use Rattle.tb_tables.specs.clauses.Changes.{without_last, before, oldest, past_of, history_of}
 pub use Rattle.tb_tables.specs.clauses.Conditions.{MayAdd, MayResolve, HasNoBalances, stamped}
 pub use Rattle.tb_tables.specs.clauses.Contents.{IsGrounded, AreGrounded, Contents, facts_of, has_account, AreContained, AreConsistent, IsSound, IsUndoable, row_in, transfer_rows, MayPost, MayStore, Contain, is_timed, is_pair_of, is_open_pair, reserves_at, its_pair, is_pair, is_spent, resolves_at, is_resolved_at, account_made, has_expired, KeepsPairs, AreExpiries, Allow, HaveIndices, AreKept, names_index, WasMade, AreUndoable}

@@ -19,8 +19,7 @@ use std::alloc::Global;
 use std::marker::Model;
 use tb_layout::{Account, NoMemory, Transfer};
 
-/// The facts of a ledger: accounts and transfers in order of making, under their ids. Beside them are the moments at
-/// which pending transfers expire, and the undo list.
+/// The facts of a ledger: accounts and transfers in order of making, under their ids.
 pub struct Tables {
     accounts: ById<Account>,
     transfers: Transfers,
@@ -145,8 +144,8 @@ impl Tables {
     }
 
     /// Adds a transfer with this timestamp, whose accounts, and whose pending transfer, have these indices, unless one
-    /// with its id is there; whether it was added. When it expires goes into the set first, and out again if it isn't
-    /// added.
+    /// with its id is there; whether it was added. Its expiry is put into the set first, and is taken out again if the
+    /// transfer isn't added.
     fn store(
         &mut self,
         event: &Transfer,

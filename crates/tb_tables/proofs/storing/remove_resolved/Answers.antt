@@ -13,10 +13,8 @@ remove_expiry_of-requires c = (
 
 pub loop-change-preserved : goal.loop-change-preserved
 loop-change-preserved c = λ facts all m p.
-    forgotten-more c.args.changes.now c.loop-change.change-index Account p (is_spent facts m p)
-    (is_in_expiries c.args.expiries.now m p) (is_in_expiries c.loop-change.expiries m p)
-    (is_in_expiries c.remove_expiry_of.new.expiries m p)
-    c.loop-change-test.true (c.loop-change.invariant facts all m p)
+    forgotten-more c.args.changes.now p (is_spent facts m p) (is_in_expiries c.args.expiries.now m p)
+    c.loop-change.change-index Account c.loop-change-test.true (c.loop-change.invariant facts all m p)
     (c.remove_expiry_of.ensures facts (All-from_recursion _ c.args.changes.now all c.loop-change.change-index
     Account c.loop-change-test.true) m p)
 
