@@ -19,14 +19,8 @@ module _ (facts : Facts) (grounded : AreGrounded facts) (account : AccountRecord
       → 0 ≡ amounts (λ x. test x && (side x == account.id)) xs
   amounts-none test side there [] all = refl
   amounts-none test side there (x ∷ xs) all =
-      grind (
-        arith,
-        nat_tests,
-        find-none _ facts.accounts fresh,
-        there x all.0,
-        amounts-none
-            test side there xs all.1,
-      )
+      let none_of = amounts-none test side there xs all.1 in
+      grind (arith, nat_tests, find-none _ facts.accounts fresh, there x all.0, none_of)
 
   -- it is stored as it was made
   new-account : account ≡ with_sums (sums_of facts) account

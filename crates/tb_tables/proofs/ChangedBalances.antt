@@ -35,12 +35,8 @@ module _ {facts : Facts} {t : Transfer} {indices : Indices} {account_entries : L
 
   pub some-row : 0 < length entries
   some-row =
-      omega (
-        arith,
-        ap length last-row,
-        length-append (transfer_rows (add_transfer facts t) facts.transfers)
-            ((t.id, row_in (add_transfer facts t) t) ∷ []),
-      )
+      let rows = transfer_rows (add_transfer facts t) facts.transfers in
+      omega (arith, ap length last-row, length-append rows ((t.id, row_in (add_transfer facts t) t) ∷ []))
 
   pub popped : {rest : List (ℕ × Row)} {result : Transfer}
       → ((id : ℕ) (row : Row) (others : List (ℕ × Row)) → entries ≡ others ++ (id, row) ∷ []
@@ -209,24 +205,14 @@ module _ {t : Transfer} {indices : Indices} (s : Step t indices) where
     debits-left : between.debits_pending s.allow.are_at.debit_account.id + between.debits_posted
         s.allow.are_at.debit_account.id + named.amount < 2 ^ 128
     debits-left =
-        grind (
-          arith,
-          s.allow.are_at.debit_is,
-          reserved
-              (λ x. x.debit_account_id) posted.may.same_debit,
-          s.allow.lawful.debits_fit t.debit_account_id,
-        )
+        let held = reserved (λ x. x.debit_account_id) posted.may.same_debit in
+        grind (arith, s.allow.are_at.debit_is, held, s.allow.lawful.debits_fit t.debit_account_id)
 
     credits-left : between.credits_pending s.allow.are_at.credit_account.id + between.credits_posted
         s.allow.are_at.credit_account.id + named.amount < 2 ^ 128
     credits-left =
-        grind (
-          arith,
-          s.allow.are_at.credit_is,
-          reserved
-              (λ x. x.credit_account_id) posted.may.same_credit,
-          s.allow.lawful.credits_fit t.credit_account_id,
-        )
+        let held = reserved (λ x. x.credit_account_id) posted.may.same_credit in
+        grind (arith, s.allow.are_at.credit_is, held, s.allow.lawful.credits_fit t.credit_account_id)
 
     pub can_return : (kind : Phase) {entries : List (ℕ × Account)} {amount : ℕ} → amount ≤ named.amount
         → entries ≡ account_rows between s.facts.accounts → CanAdd entries indices kind amount

@@ -161,14 +161,9 @@ module _ (left : List (ℕ × StoredTransfer)) (rest : List StoredStatus) {rows 
   popped-entry None status rows_are statuses_are some_row some_status = cc
   popped-entry (Some row) None rows_are statuses_are some_row some_status = cc
   popped-entry (Some row) (Some status) rows_are statuses_are some_row some_status =
-      let short : length rest ≡ length left = omega (
-        arith,
-        same,
-        ap length rows_are,
-        ap length statuses_are,
-        length-append left (row ∷ []),
-        length-append rest (status ∷ []),
-      ) in
+      let rows_length = ap length rows_are ∙ length-append left (row ∷ []) in
+      let statuses_length = ap length statuses_are ∙ length-append rest (status ∷ []) in
+      let short : length rest ≡ length left = omega (arith, same, rows_length, statuses_length) in
       let last_is = same_from_push (entries_of left rest) others (entry_of row status) last
       (sym (ap₂ entries_of rows_are statuses_are ∙ pushed-entry left rest row status short) ∙ is) in
       (ap (λ (entry : ℕ × Row). Some entry.1.transfer) last_is.1, last_is.0)

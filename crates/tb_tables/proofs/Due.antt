@@ -41,14 +41,8 @@ module _ (facts : Facts) (x : Transfer) (index : ℕ) (at : slice_get facts.tran
 
   pub more : (id : ℕ) → is_expired after id ≡ (is_expired facts id || (x.id == id))
   more id =
-      grind (
-        arith,
-        nat_tests,
-        ids-found (λ k. is_expired facts k || (x.id == k)) id facts.transfers,
-        expired-is
-            facts ordered id,
-        has_id-at id facts.transfers index x at,
-      )
+      let found = ids-found (λ k. is_expired facts k || (x.id == k)) id facts.transfers in
+      grind (arith, nat_tests, found, expired-is facts ordered id, has_id-at id facts.transfers index x at)
 
   pub reserving-after : (y : Transfer) → is_reserving after y ≡ (is_reserving facts y && not (x.id == y.id))
   reserving-after y = grind (arith, more y.id)
@@ -261,17 +255,9 @@ module _ {accounts : List (ℕ × Account)} {transfers : List (ℕ × Row)} {ind
     passed-over closed same = record {
       now = facts;
       held = held-by held (λ m p h. grind (arith, took m p, h))
-          (λ m p h was. grind (
-            arith,
-            nat_tests,
-            took m p,
-            pair.at,
-            closed,
-            h,
-            was,
-            resolved_either
-                pair.transfer.id facts.transfers,
-          ));
+          (λ m p h was.
+          let either = resolved_either pair.transfer.id facts.transfers in
+          grind (arith, nat_tests, took m p, pair.at, closed, h, was, either));
       same = same;
     }
 

@@ -82,13 +82,9 @@ module _ (facts : Facts) (t : Transfer) (may : MayResolve facts t) where
 
   -- the transfer that it names reserves its amount
   pub reserving : is_reserving facts may.pending ≡ true
-  reserving = grind (
-    arith,
-    found-id (λ (x : Transfer). x.id) t.pending_id facts.transfers may.pending may.named,
-    may.is_pending_one,
-    may.unresolved,
-    resolved_either t.pending_id facts.transfers,
-  )
+  reserving =
+      let same = found-id (λ (x : Transfer). x.id) t.pending_id facts.transfers may.pending may.named in
+      grind (arith, same, may.is_pending_one, may.unresolved, resolved_either t.pending_id facts.transfers)
 
   pub reserving-other : (y : Transfer) → is_reserving (add_transfer facts t) y
       ≡ (is_reserving facts y && not (t.pending_id == y.id))

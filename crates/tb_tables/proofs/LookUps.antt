@@ -12,11 +12,8 @@ indexed_at : {X V : Type 0} (key : X → ℕ) (made : X → V) (xs : List X) {es
     → (id : ℕ) (index : Option ℕ) → index ≡ position (nat_eq id) (keys_of es)
     → IsIndexAmong xs (find (λ x. key x == id) xs) index
 indexed_at key made xs {es} are id None is =
-    grind (
-      arith,
-      ap (lookup (nat_eq id)) are ∙ lookup-rows key made id xs,
-      (Missing-position (nat_eq id) es (sym is)).value,
-    )
+    let found = ap (lookup (nat_eq id)) are ∙ lookup-rows key made id xs in
+    grind (arith, found, (Missing-position (nat_eq id) es (sym is)).value)
 indexed_at key made xs {es} are id (Some index) is =
     let there = key-indexed_at key made xs are index (key-of-position id es index (sym is)) in
     let first = sym (ap (λ es. position_or_len (nat_eq id) (keys_of es)) are ∙ first-of-key key made id xs)

@@ -78,11 +78,8 @@ module _ {X V : Type 0} (key : X → ℕ) (old new : X → V) (more : List (ℕ 
   row-set (y ∷ xs) (suc index) x at apart same =
       let differs = key-apart (key y) xs index x (IsDistinct-head nat_eq (key y)
       (keys_of (rows key old xs ++ more)) apart) at in
-      cc (
-        same y differs,
-        row-set xs index x at (IsDistinct-tail nat_eq (key y)
-            (keys_of (rows key old xs ++ more)) apart) same,
-      )
+      let others = IsDistinct-tail nat_eq (key y) (keys_of (rows key old xs ++ more)) apart in
+      cc (same y differs, row-set xs index x at others same)
 
   -- as entries of a map, and with what is written given
   pub rows-set : (xs : List X) (index : ℕ) {es : List (ℕ × V)} {x : X} {v : V} → slice_get xs index ≡ Some x

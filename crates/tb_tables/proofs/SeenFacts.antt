@@ -15,8 +15,7 @@ accounts-seen sums (account ∷ accounts) all = cc (made, accounts-seen sums acc
       debits_pending = sym all.0.debits_pending i;
       debits_posted = sym all.0.debits_posted i;
       credits_pending = sym all.0.credits_pending i;
-      credits_posted =
-          sym all.0.credits_posted i;
+      credits_posted = sym all.0.credits_posted i;
     }
 
 transfers-seen : (facts : Facts) (transfers : List TransferRecord)

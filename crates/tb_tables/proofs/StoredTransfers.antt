@@ -35,12 +35,9 @@ pub allows : (indexed : ℕ → ℕ → Bool) (facts : Facts) (t : TransferRecor
 allows indexed facts t indices sound are_at may = record {
   lawful = sound.lawful;
   grounded = sound.grounded;
-  not_expired = grind (
-    arith,
-    expired-is facts sound.expiries.ordered t.id,
-    find-none _ facts.transfers
-        (no-other facts t indices.pending may),
-  );
+  not_expired =
+      let fresh = find-none _ facts.transfers (no-other facts t indices.pending may) in
+      grind (arith, expired-is facts sound.expiries.ordered t.id, fresh);
   are_at = are_at;
   may = may;
 }
@@ -69,14 +66,8 @@ module _ (facts : Facts) (t : TransferRecord) where
       by (Some index) posted = record {
         lawful = resolve_lawful facts t posted.may posted.new allow.lawful;
         grounded = grounded_resolved facts t posted.may allow.grounded;
-        open_ones = λ y expired open_one. grind (
-          arith,
-          nat_tests,
-          any-push,
-          posted.may.unresolved,
-          expired,
-          open_one,
-        );
+        open_ones = λ y expired open_one.
+            grind (arith, nat_tests, any-push, posted.may.unresolved, expired, open_one);
         less = λ y reserves. grind (arith, reserving-other facts t posted.may y, reserves);
       }
 
@@ -206,21 +197,9 @@ can-pop old kept indices undoable =
           let others : KeepsPairs (length facts.transfers) old.is_in_expiries next = λ m p within has.
           grind (arith, nat_tests, took m p, has) in
           let timed : (m p : ℕ) → next m p ≡ true → is_pair facts m p ≡ true = λ m p has.
-          grind (
-            arith,
-            took m p,
-            has,
-            kept.timed m p,
-            pairs-push facts t m p,
-            ap
-                (λ now. is_pair now m p) undoable.1.stored,
-          ) in (
-            keeps facts (record {
-              hold = hold;
-              timed = timed;
-              sound = sound-indexed old.is_in_expiries next (length facts.transfers) others facts
-                  (omega arith) undoable.0;
-            }),
-            others,
-          );
+          let same = ap (λ now. is_pair now m p) undoable.1.stored in
+          grind (arith, took m p, has, kept.timed m p, pairs-push facts t m p, same) in
+          let sound = sound-indexed old.is_in_expiries next (length facts.transfers) others facts (omega arith)
+          undoable.0 in
+          (keeps facts (record { hold = hold; timed = timed; sound = sound }), others);
     }

@@ -17,10 +17,9 @@ module _ (indexed : ℕ → ℕ → Bool) where
       → AreUndoable indexed (changes ++ change ∷ []) new
   undoable-push [] change new is sound made all =
       (subst (λ facts. IsSound indexed facts × WasMade change facts new) (sym is) (sound, made), tt)
-  undoable-push (first ∷ changes) change new is sound made all = (
-    subst (IsUndoable indexed first) (sym (oldest-push changes change new ∙ ap (oldest changes) is)) all.0,
-    undoable-push changes change new is sound made all.1,
-  )
+  undoable-push (first ∷ changes) change new is sound made all =
+      let same = oldest-push changes change new ∙ ap (oldest changes) is in
+      (subst (IsUndoable indexed first) (sym same) all.0, undoable-push changes change new is sound made all.1)
 
   undoable-pop : (changes : List Change) (change : Change) (facts : Facts)
       → AreUndoable indexed (changes ++ change ∷ []) facts
@@ -47,15 +46,10 @@ module _ (indexed other : ℕ → ℕ → Bool) (count : ℕ) (same : KeepsPairs
   undoable-indexed : (changes : List Change) (facts : Facts) → length facts.transfers ≤ count
       → AreUndoable indexed changes facts → AreUndoable other changes facts
   undoable-indexed [] facts short all = tt
-  undoable-indexed (change ∷ changes) facts short all = (
-    (
-      sound-indexed indexed other count same (oldest (change ∷ changes) facts)
-          (oldest-short (change ∷ changes) facts short) all.0.0,
-      all.0.1,
-    ),
-    undoable-indexed
-        changes facts short all.1,
-  )
+  undoable-indexed (change ∷ changes) facts short all =
+      let sound = sound-indexed indexed other count same (oldest (change ∷ changes) facts)
+      (oldest-short (change ∷ changes) facts short) all.0.0 in
+      ((sound, all.0.1), undoable-indexed changes facts short all.1)
 
 -- ---- the tables with one change more
 
@@ -221,12 +215,8 @@ module _ (old : Contents) where
           can index is =
               let named = named-there change (oldest (change ∷ changes) (facts_of old)) (oldest changes (facts_of old))
               all.0.1 index is in
-              let at = there-now (change ∷ changes) (facts_of old) index named.0 named.1 in (
-                named.0,
-                record {
-                  transfers_are = kept.consistent.hold.transfers_are;
-                  at = at;
-                  expiry_fits = (all-there (IsGrounded (facts_of old).accounts (facts_of old).transfers)
-                      (facts_of old).transfers index named.0 kept.consistent.sound.grounded at).expiry_fits;
-                },
-              )
+              let at = there-now (change ∷ changes) (facts_of old) index named.0 named.1 in
+              let ground = all-there (IsGrounded (facts_of old).accounts (facts_of old).transfers)
+              (facts_of old).transfers index named.0 kept.consistent.sound.grounded at in
+              let rows = kept.consistent.hold.transfers_are in
+              (named.0, record { transfers_are = rows; at = at; expiry_fits = ground.expiry_fits })

@@ -5,11 +5,9 @@ use Rattle.tb_tables.proofs.RemovedPairs.{forgotten-more}
 use Rattle.tb_tables.proofs.storing.remove_resolved.Goals as goal
 
 pub remove_expiry_of-requires : goal.remove_expiry_of-requires
-remove_expiry_of-requires c = (
-  c.requires.0,
-  All-from_recursion _ c.args.changes.now c.requires.1 c.loop-change.change-index Account
-      c.loop-change-test.true,
-)
+remove_expiry_of-requires c =
+    let all = All-from_recursion _ c.args.changes.now c.requires.1 in
+    (c.requires.0, all c.loop-change.change-index Account c.loop-change-test.true)
 
 pub loop-change-preserved : goal.loop-change-preserved
 loop-change-preserved c = λ facts all m p.

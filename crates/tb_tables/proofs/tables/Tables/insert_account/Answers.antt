@@ -16,21 +16,14 @@ returns-clause-new c =
 
 pub invariant_of-self-2 : goal.invariant_of-self-2
 invariant_of-self-2 c =
-    rw (
-      c.in_ok-push_account.ensures.added (ap Ok c.if-not-branch.false),
-      c.push_reserved.ensures.items,
-      c.reserve.ensures.items,
-    )
+    let pushed = c.in_ok-push_account.ensures.added (ap Ok c.if-not-branch.false) in
+    rw (pushed, c.push_reserved.ensures.items, c.reserve.ensures.items)
     (account-made c.self.inside.changes.items (contents_in c.self.inside) c.self.invariant c.args.event.now
     c.args.timestamp c.requires (sym c.if-not-branch.false ∙ c.in_ok-push_account.ensures.new)).0
 
 pub returns-clause-added : goal.returns-clause-added
 returns-clause-added c = λ _.
-    rw (
-      ← c.self.view_is,
-      c.in_ok-push_account.ensures.added (ap Ok c.if-not-branch.false),
-      c.push_reserved.ensures.items,
-      c.reserve.ensures.items,
-    )
+    let pushed = c.in_ok-push_account.ensures.added (ap Ok c.if-not-branch.false) in
+    rw (← c.self.view_is, pushed, c.push_reserved.ensures.items, c.reserve.ensures.items)
     (account-made c.self.inside.changes.items (contents_in c.self.inside) c.self.invariant c.args.event.now
     c.args.timestamp c.requires (sym c.if-not-branch.false ∙ c.in_ok-push_account.ensures.new)).1
