@@ -4,7 +4,8 @@ use Rattle.tb_tables.proofs.Words.{list_any, AllByRecursion, nat_tests, Account,
 use Rattle.tb_tables.specs.declared.amounts.Phase.TheVariants as phase
 use Rattle.tb_tables.proofs.MapRows.{map-same}
 use Rattle.tb_tables.proofs.Sums.{amounts, amounts-push, but_for, but_for-found}
-use Rattle.tb_tables.proofs.Laws.{find-none, reserves, posts, any-push, resolved_either, reserves-same, reserving, reserves-but_for, total, distinct-push}
+use Rattle.tb_tables.proofs.FoundById.{find-none}
+use Rattle.tb_tables.proofs.Laws.{status-add, reserves, posts, any-push, resolved_either, reserves-same, reserving, reserves-but_for, total, distinct-push}
 
 -- the same four sums
 pub record AreSame (sums others : Sums) : Type 0 where
@@ -23,8 +24,7 @@ rows-same sums others accounts same =
         debits_pending = same.debits_pending a.id i;
         debits_posted = same.debits_posted a.id i;
         credits_pending = same.credits_pending a.id i;
-        credits_posted =
-            same.credits_posted a.id i;
+        credits_posted = same.credits_posted a.id i;
       },
     ))
 
@@ -53,33 +53,23 @@ module _ (facts : Facts) (grounded : AreGrounded facts) (id : ℕ) (fresh : has_
 -- ---- one plain or pending transfer more
 
 module _ (facts : Facts) (t : Transfer) (may : MayAdd facts t) where
-  pub status-add : (id : ℕ) → status_of (add_transfer facts t) id ≡ status_of facts id
-  status-add id = grind (arith, any-push, may.not_post, may.not_void)
-
   pub status_in-add : (y : Transfer) → status_in (add_transfer facts t) y ≡ status_in facts y
-  status_in-add y = ap (λ s. if is_pending y then Some s else None) (status-add y.id)
+  status_in-add y = ap (λ s. if is_pending y then Some s else None) (status-add facts t may y.id)
 
   module _ (grounded : AreGrounded facts) (not_expired : is_expired facts t.id ≡ false) where
     pub reserves-new : is_reserving (add_transfer facts t) t ≡ is_pending t
     reserves-new =
-        grind (
-          arith,
-          status-add t.id,
-          status-fresh facts grounded t.id (find-none t.id facts.transfers may.new) not_expired,
-        )
+        let fresh = status-fresh facts grounded t.id (find-none _ facts.transfers may.new) not_expired in
+        grind (arith, status-add facts t may t.id, fresh)
 
     pub reserved-add : (side : Transfer → ℕ) (id : ℕ)
         → amounts (reserves side (add_transfer facts t) id) (add_transfer facts t).transfers
         ≡ amounts (reserves side facts id) facts.transfers +
         (if is_pending t && (side t == id) then t.amount else 0)
     reserved-add side id =
-        grind (
-          arith,
-          amounts-push (reserves side facts id)
-              (reserves side (add_transfer facts t) id) facts.transfers t
-              (reserves-same facts t may side id),
-          reserves-new,
-        )
+        let pushed = amounts-push (reserves side facts id) (reserves side (add_transfer facts t) id) facts.transfers t
+        (reserves-same facts t may side id) in
+        grind (arith, pushed, reserves-new)
 
     pub posted-add : (side : Transfer → ℕ) (id : ℕ)
         → amounts (posts side id) (add_transfer facts t).transfers
@@ -137,13 +127,8 @@ module _ (facts : Facts) (t : Transfer) (may : MayResolve facts t) where
       → amounts (posts side id) (add_transfer facts t).transfers
       ≡ amounts (posts side id) facts.transfers + (if is_post t && (side t == id) then t.amount else 0)
   posted-resolve side id =
-      grind (
-        arith,
-        amounts-push (posts side id) (posts side id) facts.transfers t
-            (λ y. refl),
-        may.not_pending,
-        may.post_or_void,
-      )
+      let pushed = amounts-push (posts side id) (posts side id) facts.transfers t (λ y. refl) in
+      grind (arith, pushed, may.not_pending, may.post_or_void)
 
   -- it posts at most what it releases
   total-resolve : (side : Transfer → ℕ) → side t ≡ side may.pending → IsLawful facts → (id : ℕ)
@@ -153,19 +138,13 @@ module _ (facts : Facts) (t : Transfer) (may : MayResolve facts t) where
 
   pub resolve_lawful : transfer_with facts t.id ≡ None → IsLawful facts → IsLawful (add_transfer facts t)
   resolve_lawful new lawful = record {
-    distinct = distinct-push facts.transfers t (find-none t.id facts.transfers new) lawful.distinct;
-    debits_fit = λ id. omega (
-      arith,
-      total-resolve
-          (λ x. x.debit_account_id) may.same_debit lawful id,
-      lawful.debits_fit id,
-    );
-    credits_fit = λ id. omega (
-      arith,
-      total-resolve
-          (λ x. x.credit_account_id) may.same_credit lawful id,
-      lawful.credits_fit id,
-    );
+    distinct = distinct-push facts.transfers t (find-none _ facts.transfers new) lawful.distinct;
+    debits_fit = λ id.
+        let less = total-resolve (λ x. x.debit_account_id) may.same_debit lawful id in
+        omega (arith, less, lawful.debits_fit id);
+    credits_fit = λ id.
+        let less = total-resolve (λ x. x.credit_account_id) may.same_credit lawful id in
+        omega (arith, less, lawful.credits_fit id);
   }
 
   -- between the release of what was reserved and the post of another amount

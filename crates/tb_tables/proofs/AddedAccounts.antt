@@ -1,18 +1,14 @@
 -- Accounts and failed ids, added and taken back.
-use Rattle.std.proofs.Common.{arith, refl, sym, ap, ◌∙◌, ◌≡◌, ℕ, ◌-◌, Bool, true, false, List, [], ◌∷◌, ◌++◌, map, take, length, ◌==◌, ◌&&◌, None, find}
-use Rattle.tb_tables.proofs.Words.{map-append, length-map, take-map, AllByRecursion, nat_tests, Account as AccountRecord, Transfer as TransferRecord, Facts, account_with, add_account, is_reserving, is_posting, HasNoBalances, without_last, before, sums_of, with_sums, account_rows, Contents, facts_of, has_account, IsGrounded, AreGrounded, AreContained, AreConsistent, IsSound, Indices, Row, IsUndoable}
+use Rattle.std.proofs.Common.{arith, refl, sym, ap, ◌∙◌, ◌≡◌, ℕ, ◌-◌, Bool, true, List, [], ◌∷◌, ◌++◌, map, take, length, ◌==◌, ◌&&◌, None}
+use Rattle.tb_tables.proofs.Words.{map-append, length-map, take-map, AllByRecursion, nat_tests, Account as AccountRecord, Transfer as TransferRecord, Facts, account_with, add_account, is_reserving, is_posting, HasNoBalances, without_last, before, sums_of, with_sums, account_rows, Contents, facts_of, has_account, IsGrounded, AreGrounded, AreConsistent, IsSound, IsUndoable}
 use Rattle.tb_tables.specs.declared.change.Change.TheVariants.{Account}
+use Rattle.tb_tables.proofs.FoundById.{find-none}
 use Rattle.tb_tables.proofs.Sums.{amounts}
 use Rattle.tb_tables.proofs.GroundedFacts.{grounded_account}
-use Rattle.tb_tables.proofs.SeenFacts.{keeps}
+use Rattle.tb_tables.proofs.SeenFacts.{AreSeenAs, keeps}
 use Rattle.tb_tables.proofs.Histories.{all_push}
 
 -- ---- an account that is new has no balances
-
-none-there : (id : ℕ) (accounts : List AccountRecord) → find (λ (a : AccountRecord). a.id == id) accounts ≡ None
-    → has_account id accounts ≡ false
-none-there id [] e = refl
-none-there id (x ∷ xs) e = grind (arith, none-there id xs)
 
 module _ (facts : Facts) (grounded : AreGrounded facts) (account : AccountRecord)
     (fresh : account_with facts account.id ≡ None) (none : HasNoBalances account) where
@@ -23,14 +19,8 @@ module _ (facts : Facts) (grounded : AreGrounded facts) (account : AccountRecord
       → 0 ≡ amounts (λ x. test x && (side x == account.id)) xs
   amounts-none test side there [] all = refl
   amounts-none test side there (x ∷ xs) all =
-      grind (
-        arith,
-        nat_tests,
-        none-there account.id facts.accounts fresh,
-        there x all.0,
-        amounts-none
-            test side there xs all.1,
-      )
+      let none_of = amounts-none test side there xs all.1 in
+      grind (arith, nat_tests, find-none _ facts.accounts fresh, there x all.0, none_of)
 
   -- it is stored as it was made
   new-account : account ≡ with_sums (sums_of facts) account
@@ -67,13 +57,15 @@ sound-with facts accounts failed s grounded made = record {
   paired = s.paired;
 }
 
-pub held-failed : {accounts : List (ℕ × AccountRecord)} {transfers : List (ℕ × Row)} {indexed : ℕ → ℕ → Bool}
-    (facts : Facts) (failed : List ℕ) → AreContained accounts transfers indexed facts
-    → AreContained accounts transfers indexed (record facts { failed = failed })
-held-failed facts failed held = record {
-  hold = record { accounts_are = held.hold.accounts_are; transfers_are = held.hold.transfers_are };
-  timed = held.timed;
-  sound = sound-with facts facts.accounts failed held.sound held.sound.grounded held.sound.made;
+pub held-failed : (old : Contents) (failed : List ℕ) → AreConsistent old
+    → AreSeenAs (record (facts_of old) { failed = failed }) (record old { failed = failed })
+held-failed old failed held = record {
+  consistent = record {
+    hold = record { accounts_are = held.hold.accounts_are; transfers_are = held.hold.transfers_are };
+    timed = held.timed;
+    sound = sound-with (facts_of old) (facts_of old).accounts failed held.sound held.sound.grounded held.sound.made;
+  };
+  seen = refl;
 }
 
 pub stamped-new : {account : AccountRecord} (timestamp : ℕ) → HasNoBalances account
@@ -90,7 +82,7 @@ module _ (old : Contents) (kept : AreConsistent old) where
 
   module _ (account : AccountRecord) (fresh : account_with (facts_of old) account.id ≡ None)
       (none : HasNoBalances account) where
-    abbrev pub with_account : Contents
+    abbrev with_account : Contents
     with_account = record old { accounts = old.accounts ++ (account.id, account) ∷ [] }
 
     abbrev facts_with : Facts
@@ -104,7 +96,7 @@ module _ (old : Contents) (kept : AreConsistent old) where
         ∙ sym (map-append (λ (a : AccountRecord). (a.id, with_sums (sums_of (facts_of old)) a))
         (facts_of old).accounts (account ∷ []))
 
-    pub kept-account : AreConsistent with_account × (facts_of with_account ≡ facts_with)
+    pub kept-account : AreSeenAs facts_with with_account
     kept-account = keeps facts_with (record {
       hold = record { accounts_are = rows-are; transfers_are = kept.hold.transfers_are };
       timed = kept.timed;
@@ -119,16 +111,13 @@ module _ (old : Contents) (kept : AreConsistent old) where
   map-without_last f xs =
       sym (take-map f (length xs - 1) xs) ∙ ap (λ n. take (n - 1) (map f xs)) (sym (length-map xs f))
 
-  abbrev pub without_account : Contents
-  without_account = record old { accounts = without_last old.accounts }
-
   pub kept-unaccount : IsUndoable old.is_in_expiries Account (facts_of old)
-      → AreConsistent without_account × (facts_of without_account ≡ before {T = Indices} Account (facts_of old))
+      → AreSeenAs (before Account (facts_of old)) (record old { accounts = without_last old.accounts })
   kept-unaccount undoable =
       let accounts = ap without_last kept.hold.accounts_are
       ∙ sym (map-without_last (λ (a : AccountRecord). (a.id, with_sums (sums_of (facts_of old)) a))
       (facts_of old).accounts) in
-      keeps (before {T = Indices} Account (facts_of old))
+      keeps (before Account (facts_of old))
       (record {
         hold = record { accounts_are = accounts; transfers_are = kept.hold.transfers_are };
         timed = kept.timed;

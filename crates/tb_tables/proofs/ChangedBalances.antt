@@ -2,11 +2,11 @@
 use Rattle.std.proofs.Common.{refl, sym, ap, subst, ◌∙◌, arith, ◌≡◌, ℕ, ◌+◌, ◌<◌, ◌≤◌, ◌^◌, Bool, true, false, List, [], ◌∷◌, ◌++◌, nat_eq, slice_get, length, length-append, append-nil, true≢false, zero, suc, if◌then◌else◌, ◌==◌, Option, Some, None}
 use Rattle.tb_tables.proofs.Words.{map_push, length-map, IsDistinct, keys_of, set_value_at, Account, Transfer, is_pending, is_post, Facts, add_transfer, status_of, expires_at, MayAdd, Sums, sums_of, with_sums, balance_of, debits_in, credits_in, Phase, phase_of, with_amount, posted_if, account_rows, CanAdd, CanTake, row_in, transfer_rows, MayPost, MayStore, new_row, status_after, Step, AreOf, IsBefore, IsAfter, IsStored, Contain, Indices, Row, Status, Pending, nat_tests}
 use Rattle.tb_tables.specs.declared.amounts.Phase.TheVariants as phase
-use Rattle.tb_tables.proofs.FoundById.{found-id}
+use Rattle.tb_tables.proofs.FoundById.{find-none, found-id}
 use Rattle.tb_tables.proofs.MapRows.{rows-set, map-same, row-indexed_at}
 use Rattle.tb_tables.proofs.Sums.{amounts}
-use Rattle.tb_tables.proofs.Laws.{==_swap, find-none, reserves}
-use Rattle.tb_tables.proofs.Added.{rows-same, status_in-add, status-add, status-fresh, sums-add, left, sums-release, sums-post, status-other, status-named, reserved-resolve}
+use Rattle.tb_tables.proofs.Laws.{==_swap, reserves, status-add}
+use Rattle.tb_tables.proofs.Added.{rows-same, status_in-add, status-fresh, sums-add, left, sums-release, sums-post, status-other, status-named, reserved-resolve}
 
 pub slice_get-append : {X : Type 0} (xs ys : List X) (index : ℕ) (x : X) → slice_get xs index ≡ Some x
     → slice_get (xs ++ ys) index ≡ Some x
@@ -35,12 +35,8 @@ module _ {facts : Facts} {t : Transfer} {indices : Indices} {account_entries : L
 
   pub some-row : 0 < length entries
   some-row =
-      omega (
-        arith,
-        ap length last-row,
-        length-append (transfer_rows (add_transfer facts t) facts.transfers)
-            ((t.id, row_in (add_transfer facts t) t) ∷ []),
-      )
+      let rows = transfer_rows (add_transfer facts t) facts.transfers in
+      omega (arith, ap length last-row, length-append rows ((t.id, row_in (add_transfer facts t) t) ∷ []))
 
   pub popped : {rest : List (ℕ × Row)} {result : Transfer}
       → ((id : ℕ) (row : Row) (others : List (ℕ × Row)) → entries ≡ others ++ (id, row) ∷ []
@@ -109,7 +105,7 @@ module _ {t : Transfer} {indices : Indices} (s : Step t indices) where
       by None may =
           ap (λ status. record { transfer = t; status = if is_pending t then Some status else None })
           (sym (status-add s.facts t may t.id ∙ status-fresh s.facts s.allow.grounded t.id
-          (find-none t.id s.facts.transfers may.new) s.allow.not_expired))
+          (find-none _ s.facts.transfers may.new) s.allow.not_expired))
       by (Some index) posted = grind (arith, posted.may.not_pending)
 
   -- ---- a plain or pending transfer
@@ -177,7 +173,7 @@ module _ {t : Transfer} {indices : Indices} (s : Step t indices) where
         ≡ transfer_rows after s.facts.transfers ++ s.more
     rows-settled are =
         rows-set (λ (x : Transfer). x.id) (row_in s.facts)
-        (row_in after) s.more s.facts.transfers pending named posted.pending_at
+        (row_in after) s.more s.facts.transfers pending posted.pending_at
         (row-is after _ (status-named s.facts t posted.may)) others are.transfers_are
 
     pub rows-open : {account_entries : List (ℕ × Account)} {entries : List (ℕ × Row)}
@@ -186,7 +182,7 @@ module _ {t : Transfer} {indices : Indices} (s : Step t indices) where
         ≡ transfer_rows s.facts s.facts.transfers ++ s.more
     rows-open are =
         rows-set (λ (x : Transfer). x.id) (row_in after)
-        (row_in s.facts) s.more s.facts.transfers pending named posted.pending_at
+        (row_in s.facts) s.more s.facts.transfers pending posted.pending_at
         (row-is s.facts _ posted.may.unresolved) (λ y apart. sym (others y apart)) are.transfers_are
 
     -- what was reserved is among the balances, and so there is room to post it or a part of it
@@ -209,24 +205,14 @@ module _ {t : Transfer} {indices : Indices} (s : Step t indices) where
     debits-left : between.debits_pending s.allow.are_at.debit_account.id + between.debits_posted
         s.allow.are_at.debit_account.id + named.amount < 2 ^ 128
     debits-left =
-        grind (
-          arith,
-          s.allow.are_at.debit_is,
-          reserved
-              (λ x. x.debit_account_id) posted.may.same_debit,
-          s.allow.lawful.debits_fit t.debit_account_id,
-        )
+        let held = reserved (λ x. x.debit_account_id) posted.may.same_debit in
+        grind (arith, s.allow.are_at.debit_is, held, s.allow.lawful.debits_fit t.debit_account_id)
 
     credits-left : between.credits_pending s.allow.are_at.credit_account.id + between.credits_posted
         s.allow.are_at.credit_account.id + named.amount < 2 ^ 128
     credits-left =
-        grind (
-          arith,
-          s.allow.are_at.credit_is,
-          reserved
-              (λ x. x.credit_account_id) posted.may.same_credit,
-          s.allow.lawful.credits_fit t.credit_account_id,
-        )
+        let held = reserved (λ x. x.credit_account_id) posted.may.same_credit in
+        grind (arith, s.allow.are_at.credit_is, held, s.allow.lawful.credits_fit t.credit_account_id)
 
     pub can_return : (kind : Phase) {entries : List (ℕ × Account)} {amount : ℕ} → amount ≤ named.amount
         → entries ≡ account_rows between s.facts.accounts → CanAdd entries indices kind amount

@@ -151,24 +151,19 @@ set-entry (r ∷ rows) (s ∷ statuses) (suc index) stored is at =
     ap (λ es. entry_of r s ∷ es) (set-entry rows statuses index stored is at)
 
 -- the last taken off both columns
-pub popped-entry : (left : List (ℕ × StoredTransfer)) (rest : List StoredStatus) {rows : List (ℕ × StoredTransfer)}
-    {statuses : List StoredStatus} (row : Option (ℕ × StoredTransfer)) (status : Option StoredStatus)
-    → length statuses ≡ length rows → rows ≡ left ++ option_to_list row → statuses ≡ rest ++ option_to_list status
-    → IsSome row → IsSome status → (id : ℕ) (last : Row) (others : List (ℕ × Row))
-    → entries_of rows statuses ≡ others ++ (id, last) ∷ []
-    → (option_map (λ (row : ℕ × StoredTransfer). transfer_under row.0 row.1) row ≡ Some last.transfer)
-    × (entries_of left rest ≡ others)
-popped-entry left rest None status same rows_are statuses_are some_row some_status id last others is = cc
-popped-entry left rest (Some row) None same rows_are statuses_are some_row some_status id last others is = cc
-popped-entry left rest (Some row) (Some status) same rows_are statuses_are some_row some_status id last others is =
-    let short : length rest ≡ length left = omega (
-      arith,
-      same,
-      ap length rows_are,
-      ap length statuses_are,
-      length-append left (row ∷ []),
-      length-append rest (status ∷ []),
-    ) in
-    let last_is = same_from_push (entries_of left rest) others (entry_of row status) (id, last)
-    (sym (ap₂ entries_of rows_are statuses_are ∙ pushed-entry left rest row status short) ∙ is) in
-    (ap (λ (entry : ℕ × Row). Some entry.1.transfer) last_is.1, last_is.0)
+module _ (left : List (ℕ × StoredTransfer)) (rest : List StoredStatus) {rows : List (ℕ × StoredTransfer)}
+    {statuses : List StoredStatus} (same : length statuses ≡ length rows) (others : List (ℕ × Row)) (last : ℕ × Row)
+    (is : entries_of rows statuses ≡ others ++ last ∷ []) where
+  pub popped-entry : (row : Option (ℕ × StoredTransfer)) (status : Option StoredStatus)
+      → rows ≡ left ++ option_to_list row → statuses ≡ rest ++ option_to_list status → IsSome row → IsSome status
+      → (option_map (λ (row : ℕ × StoredTransfer). transfer_under row.0 row.1) row ≡ Some last.1.transfer)
+      × (entries_of left rest ≡ others)
+  popped-entry None status rows_are statuses_are some_row some_status = cc
+  popped-entry (Some row) None rows_are statuses_are some_row some_status = cc
+  popped-entry (Some row) (Some status) rows_are statuses_are some_row some_status =
+      let rows_length = ap length rows_are ∙ length-append left (row ∷ []) in
+      let statuses_length = ap length statuses_are ∙ length-append rest (status ∷ []) in
+      let short : length rest ≡ length left = omega (arith, same, rows_length, statuses_length) in
+      let last_is = same_from_push (entries_of left rest) others (entry_of row status) last
+      (sym (ap₂ entries_of rows_are statuses_are ∙ pushed-entry left rest row status short) ∙ is) in
+      (ap (λ (entry : ℕ × Row). Some entry.1.transfer) last_is.1, last_is.0)

@@ -41,14 +41,8 @@ module _ (facts : Facts) (x : Transfer) (index : ℕ) (at : slice_get facts.tran
 
   pub more : (id : ℕ) → is_expired after id ≡ (is_expired facts id || (x.id == id))
   more id =
-      grind (
-        arith,
-        nat_tests,
-        ids-found (λ k. is_expired facts k || (x.id == k)) id facts.transfers,
-        expired-is
-            facts ordered id,
-        has_id-at id facts.transfers index x at,
-      )
+      let found = ids-found (λ k. is_expired facts k || (x.id == k)) id facts.transfers in
+      grind (arith, nat_tests, found, expired-is facts ordered id, has_id-at id facts.transfers index x at)
 
   pub reserving-after : (y : Transfer) → is_reserving after y ≡ (is_reserving facts y && not (x.id == y.id))
   reserving-after y = grind (arith, more y.id)
@@ -96,13 +90,13 @@ module _ (facts : Facts) (x : Transfer) (index : ℕ) (at : slice_get facts.tran
       (record (row_in facts x) { status = Some Expired }) ≡ transfer_rows after facts.transfers
   rows-after is apart =
       rows-set (λ (t : Transfer). t.id) (row_in facts)
-      (row_in after) [] facts.transfers index x at row-expired row-other
+      (row_in after) [] facts.transfers index at row-expired row-other
       (is ∙ sym (append-nil _)) apart ∙ append-nil _
 
   -- ---- what it does to sound facts and to the set
 
   same : (p : ℕ) (y : Transfer) → slice_get facts.transfers p ≡ Some y → (x.id == y.id) ≡ true → x ≡ y
-  same p y at' is = one-transfer facts.transfers index p x y lawful.distinct at at' is
+  same p y at' is = one-transfer facts.transfers index p lawful.distinct at at' is
 
   is_open_pair-after : (m p : ℕ) → is_open_pair after m p ≡ true → (is_open_pair facts m p ≡ true) × ((index == p) ≡ false)
   is_open_pair-after m p has = by (slice_get facts.transfers p) refl has
@@ -261,17 +255,9 @@ module _ {accounts : List (ℕ × Account)} {transfers : List (ℕ × Row)} {ind
     passed-over closed same = record {
       now = facts;
       held = held-by held (λ m p h. grind (arith, took m p, h))
-          (λ m p h was. grind (
-            arith,
-            nat_tests,
-            took m p,
-            pair.at,
-            closed,
-            h,
-            was,
-            resolved_either
-                pair.transfer.id facts.transfers,
-          ));
+          (λ m p h was.
+          let either = resolved_either pair.transfer.id facts.transfers in
+          grind (arith, nat_tests, took m p, pair.at, closed, h, was, either));
       same = same;
     }
 

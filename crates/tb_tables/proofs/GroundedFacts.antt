@@ -1,14 +1,11 @@
 -- Transfers stay grounded with each change.
-use Rattle.std.proofs.Common.{refl, sym, ap, subst, ◌∙◌, ◌≡◌, Bool, true, append-nil, arith, List, [], ◌∷◌, ◌++◌, true≢false, ◌==◌, ◌||◌, Some, IsSome, find, ℕ, slice_get}
+use Rattle.std.proofs.Common.{sym, ap, subst, ◌∙◌, ◌≡◌, Bool, true, append-nil, arith, List, [], ◌∷◌, ◌++◌, true≢false, ◌==◌, ◌||◌, Some, is_some, find, ℕ, slice_get}
 use Rattle.tb_tables.proofs.Words.{All-from_recursion, find_at, list_any-append, get_or_from_slice_get, slice_get_within, list_any, position_or_len, AllByRecursion, Account, Transfer, Facts, add_account, add_transfer, MayAdd, MayResolve, has_account, IsGrounded, AreGrounded}
+use Rattle.tb_tables.proofs.FoundById.{any-found}
 use Rattle.tb_tables.proofs.Histories.{all_push}
 
 any-more : {X : Type 0} (test : X → Bool) (xs ys : List X) → list_any test xs ≡ true → list_any test (xs ++ ys) ≡ true
 any-more test xs ys h = list_any-append test xs ys ∙ ap (λ b. b || list_any test ys) h
-
-any-found : {X : Type 0} (test : X → Bool) (xs : List X) → IsSome (find test xs) → list_any test xs ≡ true
-any-found test [] h = absurd (true≢false (sym h))
-any-found test (x ∷ xs) h = grind (arith, any-found test xs)
 
 pub all-there : {X : Type 0} (P : X → Type 0) (xs : List X) (index : ℕ) (x : X) → AllByRecursion P xs
     → slice_get xs index ≡ Some x → P x
@@ -51,8 +48,8 @@ pub grounded_added : (facts : Facts) (t : Transfer) → MayAdd facts t → AreGr
     → AreGrounded (add_transfer facts t)
 grounded_added facts t may all =
     grounded_transfer facts t all (record {
-      debit = any-found (λ (a : Account). a.id == t.debit_account_id) facts.accounts may.debit_there;
-      credit = any-found (λ (a : Account). a.id == t.credit_account_id) facts.accounts may.credit_there;
+      debit = any-found _ facts.accounts ∙ may.debit_there;
+      credit = any-found _ facts.accounts ∙ may.credit_there;
       named = λ resolving. grind (arith, may.not_post, may.not_void);
       expiry_fits = may.expiry_fits;
     })
@@ -62,11 +59,10 @@ pub grounded_resolved : (facts : Facts) (t : Transfer) → MayResolve facts t �
 grounded_resolved facts t may all =
     let ground = all-found (IsGrounded facts.accounts facts.transfers)
     (λ (x : Transfer). x.id == t.pending_id) facts.transfers may.pending all may.named in
-    let there : IsSome (find (λ (x : Transfer). x.id == t.pending_id) facts.transfers) = rw may.named refl in
     grounded_transfer facts t all (record {
       debit = ap (λ id. has_account id facts.accounts) may.same_debit ∙ ground.debit;
       credit = ap (λ id. has_account id facts.accounts) may.same_credit ∙ ground.credit;
       named = λ resolving. any-more (λ (x : Transfer). x.id == t.pending_id) facts.transfers (t ∷ [])
-          (any-found (λ (x : Transfer). x.id == t.pending_id) facts.transfers there);
+          (any-found _ facts.transfers ∙ ap is_some may.named);
       expiry_fits = λ pending. absurd (true≢false (sym pending ∙ may.not_pending));
     })

@@ -1,8 +1,8 @@
 -- The facts stay lawful with each change.
-use Rattle.std.proofs.Common.{refl, ap, ◌∙◌, arith, ◌≡◌, ℕ, ◌+◌, ◌<◌, ◌≤◌, ◌^◌, Bool, true, false, not, List, [], ◌∷◌, ◌++◌, if◌then◌else◌, ◌==◌, ◌&&◌, ◌||◌, None, find}
+use Rattle.std.proofs.Common.{refl, ap, ◌∙◌, arith, ◌≡◌, ℕ, ◌+◌, ◌<◌, ◌≤◌, ◌^◌, Bool, true, false, not, List, [], ◌∷◌, ◌++◌, if◌then◌else◌, ◌==◌, ◌&&◌, ◌||◌}
 use Rattle.std.proofs.Math.Bool.{or-false}
-use Rattle.tb_tables.proofs.Words.{list_any-append, list_any, nat_tests, Transfer, is_post, is_void, is_resolving, Facts, add_transfer, is_reserving, is_posting, MayAdd, MayResolve, IsLawful, has_id, ids_distinct}
-use Rattle.tb_tables.proofs.FoundById.{found-id}
+use Rattle.tb_tables.proofs.Words.{list_any-append, list_any, nat_tests, Transfer, is_pending, is_post, is_void, is_resolving, Facts, add_transfer, is_reserving, is_unresolved, status_of, is_posting, MayAdd, MayResolve, IsLawful, has_id, ids_distinct}
+use Rattle.tb_tables.proofs.FoundById.{find-none, found-id}
 use Rattle.tb_tables.proofs.Sums.{amounts, amounts-push, but_for}
 
 -- which transfers reserve, or have posted, an amount at an account; `side` is the account that is debited, or credited
@@ -21,10 +21,6 @@ pub ==_swap : (a b : ℕ) → (a == b) ≡ (b == a)
 
 -- ---- ids
 
-pub find-none : (id : ℕ) (xs : List Transfer) → find (λ (x : Transfer). x.id == id) xs ≡ None → has_id id xs ≡ false
-find-none id [] e = refl
-find-none id (x ∷ xs) e = grind (arith, find-none id xs)
-
 pub distinct-push : (xs : List Transfer) (t : Transfer) → has_id t.id xs ≡ false → ids_distinct xs ≡ true
     → ids_distinct (xs ++ t ∷ []) ≡ true
 distinct-push [] t fresh distinct = refl
@@ -41,15 +37,11 @@ module _ (facts : Facts) (t : Transfer) (may : MayAdd facts t) where
   pub resolves_nothing : (id : ℕ) → (is_resolving t && (t.pending_id == id)) ≡ false
   resolves_nothing id = grind (arith, may.not_post, may.not_void)
 
+  pub status-add : (id : ℕ) → status_of (add_transfer facts t) id ≡ status_of facts id
+  status-add id = grind (arith, any-push, may.not_post, may.not_void)
+
   pub reserving-same : (y : Transfer) → is_reserving (add_transfer facts t) y ≡ is_reserving facts y
-  reserving-same y =
-      grind (
-        arith,
-        any-push (λ other. is_post other && (other.pending_id == y.id)) facts.transfers t,
-        any-push (λ other. is_void other && (other.pending_id == y.id)) facts.transfers t,
-        may.not_post,
-        may.not_void,
-      )
+  reserving-same y = ap (λ status. is_pending y && is_unresolved status) (status-add y.id)
 
   pub reserves-same : (side : Transfer → ℕ) (id : ℕ) (y : Transfer)
       → reserves side (add_transfer facts t) id y ≡ reserves side facts id y
@@ -70,7 +62,7 @@ module _ (facts : Facts) (t : Transfer) (may : MayAdd facts t) where
 
   pub add_transfer_lawful : IsLawful facts → IsLawful (add_transfer facts t)
   add_transfer_lawful lawful = record {
-    distinct = distinct-push facts.transfers t (find-none t.id facts.transfers may.new) lawful.distinct;
+    distinct = distinct-push facts.transfers t (find-none _ facts.transfers may.new) lawful.distinct;
     debits_fit = λ id. total-fits (λ x. x.debit_account_id) may.debits_fit id (lawful.debits_fit id);
     credits_fit = λ id. total-fits (λ x. x.credit_account_id) may.credits_fit id (lawful.credits_fit id);
   }
@@ -90,23 +82,13 @@ module _ (facts : Facts) (t : Transfer) (may : MayResolve facts t) where
 
   -- the transfer that it names reserves its amount
   pub reserving : is_reserving facts may.pending ≡ true
-  reserving = grind (
-    arith,
-    found-id (λ (x : Transfer). x.id) t.pending_id facts.transfers may.pending may.named,
-    may.is_pending_one,
-    may.unresolved,
-    resolved_either t.pending_id facts.transfers,
-  )
+  reserving =
+      let same = found-id (λ (x : Transfer). x.id) t.pending_id facts.transfers may.pending may.named in
+      grind (arith, same, may.is_pending_one, may.unresolved, resolved_either t.pending_id facts.transfers)
 
   pub reserving-other : (y : Transfer) → is_reserving (add_transfer facts t) y
       ≡ (is_reserving facts y && not (t.pending_id == y.id))
-  reserving-other y =
-      grind (
-        arith,
-        any-push (λ other. is_post other && (other.pending_id == y.id)) facts.transfers t,
-        any-push (λ other. is_void other && (other.pending_id == y.id)) facts.transfers t,
-        resolves,
-      )
+  reserving-other y = grind (arith, any-push, resolves)
 
   -- it takes the amount of the one that it names from what is reserved, and nothing else
   pub reserves-but_for : (side : Transfer → ℕ) (id : ℕ) (y : Transfer)

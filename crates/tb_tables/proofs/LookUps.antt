@@ -1,9 +1,10 @@
 -- Look-ups in the maps.
-use Rattle.std.proofs.Common.{refl, sym, ap, ◌∙◌, ◌≡◌, ℕ, true, not, List, [], ◌∷◌, nat_eq, slice_get, length, arith, ◌==◌, Option, Some, None, IsSome, is_some, find, option_map, Bool, Result, Ok, Err, false, ◌≢◌}
+use Rattle.std.proofs.Common.{refl, sym, ap, ◌∙◌, ◌≡◌, ℕ, true, not, List, nat_eq, slice_get, length, arith, ◌==◌, Option, Some, None, IsSome, is_some, find, option_map, Bool, Result, Ok, Err, false, ◌≢◌}
 use Rattle.std.specs.Result.{result_eq}
 use mathlib.Core.Bool.{beq as bool_eq}
-use Rattle.tb_tables.proofs.Words.{length-map, slice_get-map, position, position_or_len, keys_of, lookup, Account, Transfer, Facts, account_with, IsIndexAmong, IsIndexOf, IsIndexOfTransfer, transfer_with, MayResolve, sums_of, with_sums, AreAt, Contain, AreGrounded, row_in, MayPost, Indices, Row, has_account, IsGrounded, Found-position, Missing-position, find_at}
+use Rattle.tb_tables.proofs.Words.{length-map, slice_get-map, position, position_or_len, keys_of, lookup, Account, Transfer, Facts, account_with, IsIndexAmong, IsIndexOf, IsIndexOfTransfer, transfer_with, MayResolve, sums_of, with_sums, HaveIndices, Contain, AreGrounded, row_in, MayPost, Indices, Row, has_account, IsGrounded, Found-position, Missing-position, find_at}
 use Rattle.tb_tables.proofs.MapRows.{rows, lookup-rows, key-indexed_at, key-of-position, first-of-key}
+use Rattle.tb_tables.proofs.FoundById.{any-found}
 use Rattle.tb_tables.proofs.GroundedFacts.{all-found}
 
 -- the index of a key, as the map tells it
@@ -11,11 +12,8 @@ indexed_at : {X V : Type 0} (key : X → ℕ) (made : X → V) (xs : List X) {es
     → (id : ℕ) (index : Option ℕ) → index ≡ position (nat_eq id) (keys_of es)
     → IsIndexAmong xs (find (λ x. key x == id) xs) index
 indexed_at key made xs {es} are id None is =
-    grind (
-      arith,
-      ap (lookup (nat_eq id)) are ∙ lookup-rows key made id xs,
-      (Missing-position (nat_eq id) es (sym is)).value,
-    )
+    let found = ap (lookup (nat_eq id)) are ∙ lookup-rows key made id xs in
+    grind (arith, found, (Missing-position (nat_eq id) es (sym is)).value)
 indexed_at key made xs {es} are id (Some index) is =
     let there = key-indexed_at key made xs are index (key-of-position id es index (sym is)) in
     let first = sym (ap (λ es. position_or_len (nat_eq id) (keys_of es)) are ∙ first-of-key key made id xs)
@@ -109,8 +107,7 @@ module _ {facts : Facts} {accounts : List (ℕ × Account)} {transfers : List (�
 
   pub are-at : (t : Transfer) (indices : Indices)
       → slice_get (keys_of accounts) indices.debit ≡ Some t.debit_account_id
-      → slice_get (keys_of accounts) indices.credit ≡ Some t.credit_account_id →
-      AreAt facts.accounts indices t.debit_account_id t.credit_account_id
+      → slice_get (keys_of accounts) indices.credit ≡ Some t.credit_account_id → HaveIndices facts t indices
   are-at t indices debit credit =
       let d = account-index indices.debit debit in
       let c = account-index indices.credit credit in
@@ -124,12 +121,8 @@ module _ {facts : Facts} {accounts : List (ℕ × Account)} {transfers : List (�
       }
 
   -- the accounts of the transfer that a post or a void names are there
-  there : (id : ℕ) (xs : List Account) → has_account id xs ≡ true → IsSome (find (λ (a : Account). a.id == id) xs)
-  there id [] h = h
-  there id (x ∷ xs) h = grind (arith, there id xs)
-
   pub has-account : (id : ℕ) → has_account id facts.accounts ≡ true → IsSome (lookup (nat_eq id) accounts)
-  has-account id has = account-there id (there id facts.accounts has)
+  has-account id has = account-there id (sym (any-found _ facts.accounts) ∙ has)
 
   module _ (grounded : AreGrounded facts) (t : Transfer) (may : MayResolve facts t) where
     ground : IsGrounded facts.accounts facts.transfers may.pending

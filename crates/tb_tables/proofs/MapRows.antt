@@ -78,19 +78,15 @@ module _ {X V : Type 0} (key : X → ℕ) (old new : X → V) (more : List (ℕ 
   row-set (y ∷ xs) (suc index) x at apart same =
       let differs = key-apart (key y) xs index x (IsDistinct-head nat_eq (key y)
       (keys_of (rows key old xs ++ more)) apart) at in
-      cc (
-        same y differs,
-        row-set xs index x at (IsDistinct-tail nat_eq (key y)
-            (keys_of (rows key old xs ++ more)) apart) same,
-      )
+      let others = IsDistinct-tail nat_eq (key y) (keys_of (rows key old xs ++ more)) apart in
+      cc (same y differs, row-set xs index x at others same)
 
--- as entries of a map, and with what is written given
-pub rows-set : {X V : Type 0} (key : X → ℕ) (old new : X → V) (more : List (ℕ × V)) {es : List (ℕ × V)}
-    (xs : List X) (index : ℕ) (x : X) {v : V} → slice_get xs index ≡ Some x → v ≡ new x
-    → ((y : X) → (key y == key x) ≡ false → new y ≡ old y) →
-    es ≡ rows key old xs ++ more → IsDistinct nat_eq (keys_of es) → set_value_at es index v ≡ rows key new xs ++ more
-rows-set key old new more xs index x at value same is apart =
-    rw (is, value) (row-set key old new more xs index x at (rw is at apart) same)
+  -- as entries of a map, and with what is written given
+  pub rows-set : (xs : List X) (index : ℕ) {es : List (ℕ × V)} {x : X} {v : V} → slice_get xs index ≡ Some x
+      → v ≡ new x → ((y : X) → (key y == key x) ≡ false → new y ≡ old y) → es ≡ rows key old xs ++ more
+      → IsDistinct nat_eq (keys_of es) → set_value_at es index v ≡ rows key new xs ++ more
+  rows-set xs index {es} {x} at value same is apart =
+      rw (is, value) (row-set xs index x at (rw is at apart) same)
 
 pub any-swap : (id : ℕ) (ids : List ℕ) → list_any (nat_eq id) ids ≡ list_any (λ other. other == id) ids
 any-swap id [] = refl

@@ -49,9 +49,9 @@ one-index (z ∷ xs) (suc i) zero x y distinct at at' = grind (arith, nat_tests,
 one-index (z ∷ xs) (suc i) (suc j) x y distinct at at' = grind (arith, nat_tests, one-index xs i j x y)
 
 -- and so it is of one transfer
-pub one-transfer : (xs : List Transfer) (i j : ℕ) (x y : Transfer) → ids_distinct xs ≡ true
+pub one-transfer : (xs : List Transfer) (i j : ℕ) {x y : Transfer} → ids_distinct xs ≡ true
     → slice_get xs i ≡ Some x → slice_get xs j ≡ Some y → (x.id == y.id) ≡ true → x ≡ y
-one-transfer xs i j x y distinct at at' same =
+one-transfer xs i j {x} {y} distinct at at' same =
     cc (at, at', ap (slice_get xs) (eqb-true i j (sym (one-index xs i j x y distinct at at') ∙ same)))
 
 module _ (facts : Facts) (t : Transfer) where

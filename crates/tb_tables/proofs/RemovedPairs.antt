@@ -1,9 +1,8 @@
 -- The pairs of resolved transfers leave the set.
 use Rattle.std.proofs.Common.{sym, ap, ◌∙◌, arith, ◌≡◌, ℕ, ◌+◌, ◌<◌, ◌^◌, Bool, true, not, List, [], ◌∷◌, ◌++◌, take, length, get_or, slice_get, suc, ◌==◌, ◌&&◌, ◌||◌, Some}
-use Rattle.tb_tables.proofs.Words.{list_any-append, take-suc, NamesOne, AllByRecursion, nat_tests, Transfer, Facts, expires_at, same_pair, Contents, facts_of, row_in, is_timed, is_spent, IsGrounded, AreConsistent, resolves_at, is_resolved_at, is_open_status, IsRemovable, CanRemove, Indices, Row, Change}
+use Rattle.tb_tables.proofs.Words.{list_any-append, take-suc, nat_tests, Transfer, Facts, expires_at, same_pair, Contents, facts_of, row_in, is_timed, is_spent, AreConsistent, resolves_at, is_resolved_at, is_open_status, IsRemovable, Row, Change}
 use Rattle.tb_tables.proofs.Laws.{resolved_either}
 use Rattle.tb_tables.proofs.MapRows.{row-indexed_at}
-use Rattle.tb_tables.proofs.GroundedFacts.{all-there}
 use Rattle.tb_tables.proofs.SeenFacts.{held-by}
 
 -- ---- one transfer
@@ -23,50 +22,33 @@ module _ {facts : Facts} {t : Transfer} {entries : List (ℕ × Row)} {index : �
 
 -- ---- all that some changes resolved
 
-resolved-push : (index : ℕ) (changes : List (Change Indices)) (change : Change Indices)
+resolved-push : (index : ℕ) (changes : List Change) (change : Change)
     → is_resolved_at index (changes ++ change ∷ []) ≡ (is_resolved_at index changes || resolves_at index change)
 resolved-push index changes change = grind (arith, list_any-append (resolves_at index) changes (change ∷ []))
 
 -- after one change more
-pub forgotten-more : (changes : List (Change Indices)) (k : ℕ) (d : Change Indices) (p : ℕ)
-    (pair had now next : Bool) → k < length changes →
-    now ≡ (not (is_resolved_at p (take k changes) && pair) && had)
-    → next ≡ (not (resolves_at p (get_or changes k d) && pair) && now)
-    → next ≡ (not (is_resolved_at p (take (k + 1) changes) && pair) && had)
-forgotten-more changes k d p pair had now next h was is =
-    let e : k + 1 ≡ suc k = omega arith in
-    let more : is_resolved_at p (take (k + 1) changes)
-    ≡ (is_resolved_at p (take k changes) || resolves_at p (get_or changes k d)) =
-    ap (λ n. is_resolved_at p (take n changes)) e ∙ ap (is_resolved_at p) (take-suc changes k d h)
-    ∙ resolved-push p (take k changes) (get_or changes k d) in
-    is ∙ bits (is_resolved_at p (take k changes)) (resolves_at p (get_or changes k d)) now was
-    ∙ ap (λ b. not (b && pair) && had) (sym more)
-  where
-    bits : (a r now : Bool) → now ≡ (not (a && pair) && had)
-        → (not (r && pair) && now) ≡ (not ((a || r) && pair) && had)
-    bits a r now was = grind arith
+module _ (changes : List Change) (p : ℕ) (pair had : Bool) where
+  pub forgotten-more : (k : ℕ) (d : Change) {now next : Bool} → k < length changes
+      → now ≡ (not (is_resolved_at p (take k changes) && pair) && had)
+      → next ≡ (not (resolves_at p (get_or changes k d) && pair) && now)
+      → next ≡ (not (is_resolved_at p (take (k + 1) changes) && pair) && had)
+  forgotten-more k d {now} h was is =
+      let e : k + 1 ≡ suc k = omega arith in
+      let more : is_resolved_at p (take (k + 1) changes)
+      ≡ (is_resolved_at p (take k changes) || resolves_at p (get_or changes k d)) =
+      ap (λ n. is_resolved_at p (take n changes)) e ∙ ap (is_resolved_at p) (take-suc changes k d h)
+      ∙ resolved-push p (take k changes) (get_or changes k d) in
+      is ∙ bits (is_resolved_at p (take k changes)) (resolves_at p (get_or changes k d)) now was
+      ∙ ap (λ b. not (b && pair) && had) (sym more)
+    where
+      bits : (a r now : Bool) → now ≡ (not (a && pair) && had)
+          → (not (r && pair) && now) ≡ (not ((a || r) && pair) && had)
+      bits a r now was = grind arith
 
 -- ---- in the maps
 
 module _ (old : Contents) (kept : AreConsistent old) where
-  pub can-remove_expiry : (changes : List (Change Indices)) → AllByRecursion (NamesOne (facts_of old)) changes
-      → AllByRecursion (λ change. CanRemove (facts_of old) change old.transfers) changes
-  can-remove_expiry [] all = tt
-  can-remove_expiry (change ∷ changes) all = (can, can-remove_expiry changes all.1)
-    where
-      can : CanRemove (facts_of old) change old.transfers
-      can index is =
-          let named = all.0 index is in (
-            named.0,
-            record {
-              transfers_are = kept.hold.transfers_are;
-              at = named.1;
-              expiry_fits = (all-there (IsGrounded (facts_of old).accounts (facts_of old).transfers)
-                  (facts_of old).transfers index named.0 kept.sound.grounded named.1).expiry_fits;
-            },
-          )
-
-  pub kept-now : (changes : List (Change Indices)) (indexed : ℕ → ℕ → Bool)
+  pub kept-now : (changes : List Change) (indexed : ℕ → ℕ → Bool)
       → ((m p : ℕ) → indexed m p ≡ (not (is_resolved_at p changes && is_spent (facts_of old) m p)
       && old.is_in_expiries m p)) → AreConsistent (record old { is_in_expiries = indexed })
   kept-now changes indexed is =

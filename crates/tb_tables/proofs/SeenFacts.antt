@@ -15,8 +15,7 @@ accounts-seen sums (account ∷ accounts) all = cc (made, accounts-seen sums acc
       debits_pending = sym all.0.debits_pending i;
       debits_posted = sym all.0.debits_posted i;
       credits_pending = sym all.0.credits_pending i;
-      credits_posted =
-          sym all.0.credits_posted i;
+      credits_posted = sym all.0.credits_posted i;
     }
 
 transfers-seen : (facts : Facts) (transfers : List TransferRecord)
@@ -50,14 +49,19 @@ seen new facts failed held =
         → has_expired (status_in facts t) ≡ is_expired facts t.id
     each index t at = grind (arith, held.sound.expiries.open_ones index t at, resolved_either t.id facts.transfers)
 
+-- the maps are consistent, and seen as these facts
+pub record AreSeenAs (facts : Facts) (stored : Contents) : Type 0 where
+  pub consistent : AreConsistent stored
+  pub seen : facts_of stored ≡ facts
+
 pub keeps : {accounts : List (ℕ × AccountRecord)} {transfers : List (ℕ × Row)} {indexed : ℕ → ℕ → Bool}
-    (facts : Facts) → AreContained accounts transfers indexed facts →
-    let new : Contents = record {
+    (facts : Facts) → AreContained accounts transfers indexed facts
+    → AreSeenAs facts (record {
       accounts = accounts;
       transfers = transfers;
       failed = facts.failed;
       is_in_expiries = indexed;
-    } in AreConsistent new × (facts_of new ≡ facts)
+    })
 keeps {accounts} {transfers} {indexed} facts held =
     let is = seen (record {
       accounts = accounts;
@@ -65,7 +69,7 @@ keeps {accounts} {transfers} {indexed} facts held =
       failed = facts.failed;
       is_in_expiries = indexed;
     }) facts refl held in
-    (subst (AreContained accounts transfers indexed) (sym is) held, is)
+    record { consistent = subst (AreContained accounts transfers indexed) (sym is) held; seen = is }
 
 -- ---- the same with another set
 

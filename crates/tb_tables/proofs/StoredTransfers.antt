@@ -1,14 +1,16 @@
 -- A transfer stored in the maps, and taken back.
-use Rattle.std.proofs.Common.{sym, ap, subst, arith, ◌∙◌, ◌≡◌, ℕ, Bool, true, false, not, List, [], ◌∷◌, ◌++◌, map, filter, length, append-nil, ◌==◌, ◌&&◌, ◌||◌, Option, Some, None}
-use Rattle.tb_tables.proofs.Words.{filter-append, slice_get_past, list_any, nat_tests, Account, Transfer as TransferRecord, is_resolving, Facts, transfer_with, is_expired, add_transfer, is_resolved, is_reserving, IsLawful, has_id, before, AreAt, Contents, AreGrounded, facts_of, is_pair, AreExpiries, IsSound, AreContained, Allow, MayStore, AreConsistent, Contain, new_row, Step, IsBefore, IsAfter, HaveIndices, IsStored, row_in, transfer_rows, Indices, Row, IsUndoable, KeepsPairs, its_pair, map_push}
+use Rattle.std.proofs.Common.{sym, ap, subst, arith, ◌∙◌, ◌≡◌, ℕ, Bool, true, false, not, List, [], ◌∷◌, ◌++◌, map, filter, length, append-nil, ◌==◌, ◌&&◌, ◌||◌, Option, Some, None, Result, Ok, IfOk, is_some, nat_eq}
+use Rattle.tb_tables.proofs.Words.{filter-append, slice_get_past, list_any, lookup, nat_tests, Account, Transfer as TransferRecord, Facts, transfer_with, is_expired, add_transfer, is_resolved, is_reserving, IsLawful, has_id, before, Contents, AreGrounded, facts_of, is_pair, AreExpiries, IsSound, AreContained, Allow, MayStore, AreConsistent, Contain, new_row, Step, IsBefore, IsAfter, HaveIndices, IsStored, row_in, transfer_rows, Indices, Row, IsUndoable, KeepsPairs, its_pair, map_push}
 use Rattle.tb_tables.specs.declared.change.Change.TheVariants.{Transfer}
-use Rattle.tb_tables.proofs.Laws.{find-none, any-push, reserving-same, reserving-other, resolves_nothing, add_transfer_lawful}
+use Rattle.tb_tables.proofs.FoundById.{find-none}
+use Rattle.tb_tables.proofs.Laws.{any-push, reserving-same, reserving-other, resolves_nothing, add_transfer_lawful}
 use Rattle.tb_tables.proofs.Added.{resolve_lawful}
 use Rattle.tb_tables.proofs.GroundedFacts.{grounded_added, grounded_resolved}
 use Rattle.tb_tables.proofs.Pairs.{slice_get-push, pairs-push, is_open_pair-push}
-use Rattle.tb_tables.proofs.SeenFacts.{keeps, sound-indexed, held-by}
+use Rattle.tb_tables.proofs.SeenFacts.{AreSeenAs, keeps, sound-indexed, held-by}
 use Rattle.tb_tables.proofs.Histories.{without_last-push}
 use Rattle.tb_tables.proofs.ChangedBalances.{row-new}
+use Rattle.tb_tables.proofs.LookUps.{none-there, told-new}
 
 -- the ids of those whose id passes a test
 pub ids-found : (test : ℕ → Bool) (id : ℕ) (xs : List TransferRecord)
@@ -29,17 +31,13 @@ no-other facts t None may = may.new
 no-other facts t (Some index) may = may.new
 
 pub allows : (indexed : ℕ → ℕ → Bool) (facts : Facts) (t : TransferRecord) (indices : Indices) → IsSound indexed facts
-    → AreAt facts.accounts indices t.debit_account_id t.credit_account_id
-    → MayStore facts t indices.pending → Allow facts t indices
+    → HaveIndices facts t indices → MayStore facts t indices.pending → Allow facts t indices
 allows indexed facts t indices sound are_at may = record {
   lawful = sound.lawful;
   grounded = sound.grounded;
-  not_expired = grind (
-    arith,
-    expired-is facts sound.expiries.ordered t.id,
-    find-none t.id facts.transfers
-        (no-other facts t indices.pending may),
-  );
+  not_expired =
+      let fresh = find-none _ facts.transfers (no-other facts t indices.pending may) in
+      grind (arith, expired-is facts sound.expiries.ordered t.id, fresh);
   are_at = are_at;
   may = may;
 }
@@ -62,28 +60,14 @@ module _ (facts : Facts) (t : TransferRecord) where
       by None may = record {
         lawful = add_transfer_lawful facts t may allow.lawful;
         grounded = grounded_added facts t may allow.grounded;
-        open_ones = λ y expired open_one. grind (
-          arith,
-          any-push
-              (λ other. is_resolving other && (other.pending_id == y.id)) facts.transfers t,
-          resolves_nothing
-              facts t may y.id,
-          open_one,
-        );
+        open_ones = λ y expired open_one. grind (arith, any-push, resolves_nothing facts t may y.id, open_one);
         less = λ y reserves. sym (reserving-same facts t may y) ∙ reserves;
       }
       by (Some index) posted = record {
         lawful = resolve_lawful facts t posted.may posted.new allow.lawful;
         grounded = grounded_resolved facts t posted.may allow.grounded;
-        open_ones = λ y expired open_one. grind (
-          arith,
-          nat_tests,
-          any-push
-              (λ other. is_resolving other && (other.pending_id == y.id)) facts.transfers t,
-          posted.may.unresolved,
-          expired,
-          open_one,
-        );
+        open_ones = λ y expired open_one.
+            grind (arith, nat_tests, any-push, posted.may.unresolved, expired, open_one);
         less = λ y reserves. grind (arith, reserving-other facts t posted.may y, reserves);
       }
 
@@ -139,44 +123,50 @@ same-held same held = held-by held (λ m p has. sym (same m p) ∙ has) (λ m p 
 
 -- its row is there, and with the rest of it the maps are kept
 pub record IsPushed (old : Contents) (t : TransferRecord) (indices : Indices) (entries : List (ℕ × Row)) : Type 0 where
+  pub allow : Allow (facts_of old) t indices
   pub step : Step t indices
   pub before : IsBefore step old.accounts entries
   pub stored : {accounts : List (ℕ × Account)} {transfers : List (ℕ × Row)} {next : ℕ → ℕ → Bool}
       → IsAfter step accounts transfers → ((m p : ℕ)
-      → next m p ≡ (its_pair (facts_of old) t m p || old.is_in_expiries m p)) →
-      let new : Contents = record old { accounts = accounts; transfers = transfers; is_in_expiries = next } in AreConsistent new
-      × (facts_of new ≡ add_transfer (facts_of old) t)
+      → next m p ≡ (its_pair (facts_of old) t m p || old.is_in_expiries m p))
+      → AreSeenAs (add_transfer (facts_of old) t)
+      (record old { accounts = accounts; transfers = transfers; is_in_expiries = next })
 
-pub pushed : (old : Contents) → AreConsistent old → (t : TransferRecord) (indices : Indices)
-    → HaveIndices (facts_of old) t indices → MayStore (facts_of old) t indices.pending → {entries : List (ℕ × Row)}
-    → entries ≡ old.transfers ++ (t.id, new_row t) ∷ [] → IsPushed old t indices entries
-pushed old kept t indices at may is =
-    let new : Facts = add_transfer (facts_of old) t in
-    let step : Step t indices = record {
-      facts = facts_of old;
-      more = (t.id, new_row t) ∷ [];
-      allow = allows old.is_in_expiries (facts_of old) t indices kept.sound at.are_at may;
-    } in
-    record {
-      step = step;
-      before = record {
-        accounts_are = kept.hold.accounts_are;
-        transfers_are = is
-            ∙ ap (λ es. es ++ (t.id, new_row t) ∷ []) kept.hold.transfers_are;
-      };
-      stored = λ after put. keeps new (held-push (facts_of old) t kept step.allow (record {
-        accounts_are = after.accounts_are;
-        transfers_are = after.transfers_are ∙ ap (λ row.
-            transfer_rows new (facts_of old).transfers ++ (t.id, row) ∷ []) (row-new step)
-            ∙ sym (map_push (λ (x : TransferRecord). (x.id, row_in new x)) (facts_of old).transfers t);
-      }) put);
-    }
+module _ (old : Contents) (kept : AreConsistent old) (t : TransferRecord) where
+  -- if it is new, as the map tells it
+  pub pushed : (indices : Indices) → HaveIndices (facts_of old) t indices
+      → (transfer_with (facts_of old) t.id ≡ None → MayStore (facts_of old) t indices.pending)
+      → {E : Type 0} {result : Result Bool E}
+      → IfOk result (λ added. added ≡ not (is_some (lookup (nat_eq t.id) old.transfers))) → result ≡ Ok true
+      → {entries : List (ℕ × Row)} → (result ≡ Ok true → entries ≡ old.transfers ++ (t.id, new_row t) ∷ [])
+      → IsPushed old t indices entries
+  pushed indices at may {E} is_new done is =
+      let new : Facts = add_transfer (facts_of old) t in
+      let told = subst (λ (r : Result Bool E).
+      IfOk r (λ added. added ≡ not (is_some (lookup (nat_eq t.id) old.transfers)))) done is_new in
+      let none = none-there (transfer_with (facts_of old) t.id) (sym (told ∙ told-new kept.hold t.id)) in
+      let allow = allows old.is_in_expiries (facts_of old) t indices kept.sound at (may none) in
+      let step : Step t indices = record { facts = facts_of old; more = (t.id, new_row t) ∷ []; allow = allow } in
+      record {
+        allow = allow;
+        step = step;
+        before = record {
+          accounts_are = kept.hold.accounts_are;
+          transfers_are = is done
+              ∙ ap (λ es. es ++ (t.id, new_row t) ∷ []) kept.hold.transfers_are;
+        };
+        stored = λ after put. keeps new (held-push (facts_of old) t kept allow (record {
+          accounts_are = after.accounts_are;
+          transfers_are = after.transfers_are ∙ ap (λ row.
+              transfer_rows new (facts_of old).transfers ++ (t.id, row) ∷ []) (row-new step)
+              ∙ sym (map_push (λ (x : TransferRecord). (x.id, row_in new x)) (facts_of old).transfers t);
+        }) put);
+      }
 
--- its pair put into the set and taken out again: it wasn't there
-pub refused : (old : Contents) → AreConsistent old → (t : TransferRecord) (m p : ℕ)
-    → (not (its_pair (facts_of old) t m p) && (its_pair (facts_of old) t m p || old.is_in_expiries m p))
-    ≡ old.is_in_expiries m p
-refused old kept t m p = grind (arith, nat_tests, kept.timed m p, slice_get_past (facts_of old).transfers p)
+  -- its pair put into the set and taken out again: it wasn't there
+  pub refused : (m p : ℕ) → (not (its_pair (facts_of old) t m p)
+      && (its_pair (facts_of old) t m p || old.is_in_expiries m p)) ≡ old.is_in_expiries m p
+  refused m p = grind (arith, nat_tests, kept.timed m p, slice_get_past (facts_of old).transfers p)
 
 -- ---- the last taken back
 
@@ -186,9 +176,9 @@ pub record CanPop (old : Contents) (indices : Indices) (facts : Facts) : Type 0 
   pub stored : IsStored facts transfer indices old.accounts old.transfers
   pub popped : {accounts : List (ℕ × Account)} {transfers : List (ℕ × Row)} {next : ℕ → ℕ → Bool}
       → Contain facts accounts transfers → ((m p : ℕ) → next m p
-      ≡ (not (its_pair facts transfer m p) && old.is_in_expiries m p)) →
-      let new : Contents = record old { accounts = accounts; transfers = transfers; is_in_expiries = next } in AreConsistent new
-      × (facts_of new ≡ facts) × KeepsPairs (length facts.transfers) old.is_in_expiries next
+      ≡ (not (its_pair facts transfer m p) && old.is_in_expiries m p))
+      → AreSeenAs facts (record old { accounts = accounts; transfers = transfers; is_in_expiries = next })
+      × KeepsPairs (length facts.transfers) old.is_in_expiries next
 
 pub can-pop : (old : Contents) → AreConsistent old → (indices : Indices)
     → IsUndoable old.is_in_expiries (Transfer indices) (facts_of old)
@@ -207,20 +197,9 @@ can-pop old kept indices undoable =
           let others : KeepsPairs (length facts.transfers) old.is_in_expiries next = λ m p within has.
           grind (arith, nat_tests, took m p, has) in
           let timed : (m p : ℕ) → next m p ≡ true → is_pair facts m p ≡ true = λ m p has.
-          grind (
-            arith,
-            took m p,
-            has,
-            kept.timed m p,
-            pairs-push facts t m p,
-            ap
-                (λ now. is_pair now m p) undoable.1.stored,
-          ) in
-          let is = keeps facts (record {
-            hold = hold;
-            timed = timed;
-            sound = sound-indexed old.is_in_expiries next (length facts.transfers) others facts
-                (omega arith) undoable.0;
-          }) in
-          (is.0, is.1, others);
+          let same = ap (λ now. is_pair now m p) undoable.1.stored in
+          grind (arith, took m p, has, kept.timed m p, pairs-push facts t m p, same) in
+          let sound = sound-indexed old.is_in_expiries next (length facts.transfers) others facts (omega arith)
+          undoable.0 in
+          (keeps facts (record { hold = hold; timed = timed; sound = sound }), others);
     }

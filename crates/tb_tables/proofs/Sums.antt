@@ -50,12 +50,5 @@ pub but_for-found : (test : Transfer → Bool) (id : ℕ) (xs : List Transfer) (
     amounts test xs ≡ amounts (but_for id test) xs + amount_if test p
 but_for-found test id [] p distinct found = cc
 but_for-found test id (x ∷ xs) p distinct found =
-    grind (
-      arith,
-      nat_tests,
-      amounts-cons test x xs,
-      amounts-cons
-          (but_for id test) x xs,
-      but_for-found test id xs p,
-      but_for-absent test id xs,
-    )
+    let split = amounts-cons (but_for id test) x xs in
+    grind (arith, nat_tests, amounts-cons test x xs, split, but_for-found test id xs p, but_for-absent test id xs)

@@ -1,123 +1,172 @@
 -- The undo list: what can be undone stays so.
-use Rattle.std.proofs.Common.{sym, ap, subst, arith, ◌∙◌, ◌≡◌, ℕ, ◌≤◌, ◌-◌, Bool, true, List, [], ◌∷◌, ◌++◌, take, length, slice_get, zero, suc, true≢false, Option, Some, None}
-use Rattle.tb_tables.proofs.Words.{eqb-true, length-take, AllByRecursion, Account as AccountRecord, Transfer as TransferRecord, Facts, add_account, add_failed, with_change, before, oldest, MapsState, add_transfer, has_pair, HaveIndices, MayStore, KeepsPairs, NamesOne, names_index, resolves_at, IsSound, WasMade, IsUndoable, AreUndoable, history_in, Indices, Change, Failed}
+use Rattle.std.proofs.Common.{sym, ap, subst, refl, arith, ◌∙◌, ◌≡◌, ℕ, ◌≤◌, ◌-◌, ◌||◌, ◌&&◌, not, Bool, true, List, [], ◌∷◌, ◌++◌, take, length, slice_get, zero, suc, true≢false, is_some, nat_eq, Option, Some, None}
+use Rattle.tb_tables.proofs.Words.{eqb-true, length-take, AllByRecursion, lookup, Account as AccountRecord, Transfer as TransferRecord, Facts, account_with, add_account, add_failed, add_transfer, with_change, HasNoBalances, without_last, before, oldest, history_of, Contents, facts_of, Contain, MayStore, KeepsPairs, names_index, resolves_at, IsSound, WasMade, IsUndoable, AreUndoable, AreKept, IsAfter, CanRemove, IsGrounded, its_pair, Indices, Row, Change, Failed}
 use Rattle.tb_tables.specs.declared.change.Change.TheVariants.{Account, Transfer}
+use Rattle.tb_tables.proofs.AddedAccounts.{held-failed, kept-account, kept-unaccount, stamped-new}
+use Rattle.tb_tables.proofs.GroundedFacts.{all-there}
 use Rattle.tb_tables.proofs.Histories.{oldest-push, history_of-push, without_last-push}
-use Rattle.tb_tables.proofs.SeenFacts.{sound-indexed}
-use Rattle.tb_tables.proofs.StoredTransfers.{allows, back}
+use Rattle.tb_tables.proofs.LookUps.{none-there, told-new-account}
+use Rattle.tb_tables.proofs.SeenFacts.{AreSeenAs, sound-indexed}
+use Rattle.tb_tables.proofs.StoredTransfers.{IsPushed, CanPop, can-pop, back, same-held}
 
 -- ---- one change more, or one taken back, in the list of those that can be undone
 
-pub undoable-push : (indexed : ℕ → ℕ → Bool) (changes : List (Change Indices)) (change : Change Indices)
-    (old new : Facts) → before change new ≡ old → IsSound indexed old → WasMade change old new
-    → AreUndoable indexed changes old →
-    AreUndoable indexed (changes ++ change ∷ []) new
-undoable-push indexed [] change old new e sound made all =
-    (subst (λ facts. IsSound indexed facts × WasMade change facts new) (sym e) (sound, made), tt)
-undoable-push indexed (first ∷ changes) change old new e sound made all = (
-  subst (IsUndoable indexed first) (sym (oldest-push before (λ (facts : Facts). facts) changes change new
-      ∙ ap (oldest before changes) e)) all.0,
-  undoable-push indexed changes change old new e sound made all.1,
-)
+module _ (indexed : ℕ → ℕ → Bool) where
+  undoable-push : (changes : List Change) (change : Change) {old : Facts} (new : Facts) → before change new ≡ old
+      → IsSound indexed old → WasMade change old new → AreUndoable indexed changes old
+      → AreUndoable indexed (changes ++ change ∷ []) new
+  undoable-push [] change new is sound made all =
+      (subst (λ facts. IsSound indexed facts × WasMade change facts new) (sym is) (sound, made), tt)
+  undoable-push (first ∷ changes) change new is sound made all =
+      let same = oldest-push changes change new ∙ ap (oldest changes) is in
+      (subst (IsUndoable indexed first) (sym same) all.0, undoable-push changes change new is sound made all.1)
 
-pub undoable-pop : (indexed : ℕ → ℕ → Bool) (changes : List (Change Indices)) (change : Change Indices)
-    (facts : Facts) → AreUndoable indexed (changes ++ change ∷ []) facts
-    → AreUndoable indexed changes (before change facts) × IsUndoable indexed change facts
-undoable-pop indexed [] change facts all = (tt, all.0)
-undoable-pop indexed (first ∷ changes) change facts all =
-    let rest = undoable-pop indexed changes change facts all.1 in (
-      (
-        subst (IsUndoable indexed first) (oldest-push before
-            (λ (facts : Facts). facts) changes change facts) all.0,
-        rest.0,
-      ),
-      rest.1,
-    )
+  undoable-pop : (changes : List Change) (change : Change) (facts : Facts)
+      → AreUndoable indexed (changes ++ change ∷ []) facts
+      → AreUndoable indexed changes (before change facts) × IsUndoable indexed change facts
+  undoable-pop [] change facts all = (tt, all.0)
+  undoable-pop (first ∷ changes) change facts all =
+      let rest = undoable-pop changes change facts all.1 in
+      ((subst (IsUndoable indexed first) (oldest-push changes change facts) all.0, rest.0), rest.1)
 
 -- ---- the same with another set, which has the same pairs of the indices that there are
 
 module _ (indexed other : ℕ → ℕ → Bool) (count : ℕ) (same : KeepsPairs count indexed other) where
-  no-longer : (change : Change Indices) (facts : Facts) → length (before change facts).transfers ≤ length facts.transfers
+  no-longer : (change : Change) (facts : Facts) → length (before change facts).transfers ≤ length facts.transfers
   no-longer Account facts = omega arith
   no-longer (Transfer indices) facts = omega (arith, length-take (length facts.transfers - 1) facts.transfers)
   no-longer Failed facts = omega arith
 
-  oldest-short : (changes : List (Change Indices)) (facts : Facts) → length facts.transfers ≤ count
-      → length (oldest before changes facts).transfers ≤ count
+  oldest-short : (changes : List Change) (facts : Facts) → length facts.transfers ≤ count
+      → length (oldest changes facts).transfers ≤ count
   oldest-short [] facts short = short
   oldest-short (change ∷ changes) facts short =
-      omega (arith, no-longer change (oldest before changes facts), oldest-short changes facts short)
+      omega (arith, no-longer change (oldest changes facts), oldest-short changes facts short)
 
-  pub undoable-indexed : (changes : List (Change Indices)) (facts : Facts) → length facts.transfers ≤ count
+  undoable-indexed : (changes : List Change) (facts : Facts) → length facts.transfers ≤ count
       → AreUndoable indexed changes facts → AreUndoable other changes facts
   undoable-indexed [] facts short all = tt
-  undoable-indexed (change ∷ changes) facts short all = (
-    (
-      sound-indexed indexed other count same (oldest before (change ∷ changes) facts)
-          (oldest-short (change ∷ changes) facts short) all.0.0,
-      all.0.1,
-    ),
-    undoable-indexed
-        changes facts short all.1,
-  )
+  undoable-indexed (change ∷ changes) facts short all =
+      let sound = sound-indexed indexed other count same (oldest (change ∷ changes) facts)
+      (oldest-short (change ∷ changes) facts short) all.0.0 in
+      ((sound, all.0.1), undoable-indexed changes facts short all.1)
 
--- ---- one change more
+-- ---- the tables with one change more
 
-module _ (changes : List (Change Indices)) (old : MapsState) (all : AreUndoable (has_pair old.pairs) changes old.facts)
-    (sound : IsSound (has_pair old.pairs) old.facts) where
-  -- what can be undone, and the history
-  abbrev TakesChange : Change Indices → MapsState → Type 0
-  TakesChange change new =
-      AreUndoable (has_pair new.pairs) (changes ++ change ∷ []) new.facts
-      × (history_in (changes ++ change ∷ []) new.facts ≡ with_change (history_in changes old.facts) new.facts)
+module _ (changes : List Change) (old : Contents) (kept : AreKept changes old) where
+  -- what is kept, and the history, after a change to these facts
+  abbrev TakesChange : Change → Contents → Facts → Type 0
+  TakesChange change new facts =
+      AreKept (changes ++ change ∷ []) new
+      × (history_of (changes ++ change ∷ []) (facts_of new) ≡ with_change (history_of changes (facts_of old)) facts)
 
-  goes-on : (change : Change Indices) (new : MapsState) → before change new.facts ≡ old.facts
-      → WasMade change old.facts new.facts → KeepsPairs (length old.facts.transfers) (has_pair old.pairs)
-      (has_pair new.pairs) → TakesChange change new
-  goes-on change new is made keeps =
-      let count = length old.facts.transfers in
-      let same = undoable-indexed (has_pair old.pairs)
-      (has_pair new.pairs) count keeps changes old.facts (omega arith) all in (
-        undoable-push (has_pair new.pairs) changes change old.facts new.facts is
-            (sound-indexed (has_pair old.pairs) (has_pair new.pairs) count keeps old.facts (omega arith) sound) made
-            same,
-        history_of-push before (λ (now : Facts). now) changes change old.facts new.facts is,
+  takes-change : (change : Change) {new : Contents} {facts : Facts} → AreSeenAs facts new
+      → before change facts ≡ facts_of old → WasMade change (facts_of old) facts
+      → KeepsPairs (length (facts_of old).transfers) old.is_in_expiries new.is_in_expiries
+      → TakesChange change new facts
+  takes-change change {new} {facts} is undone made keeps =
+      let count = length (facts_of old).transfers in
+      let sound = sound-indexed old.is_in_expiries new.is_in_expiries count keeps (facts_of old) (omega arith)
+      kept.consistent.sound in
+      let all = undoable-indexed old.is_in_expiries new.is_in_expiries count keeps changes (facts_of old)
+      (omega arith) kept.undoable in (
+        record {
+          consistent = is.consistent;
+          undoable = subst (AreUndoable new.is_in_expiries (changes ++ change ∷ [])) (sym is.seen)
+              (undoable-push new.is_in_expiries changes change facts undone sound made all);
+        },
+        ap (history_of (changes ++ change ∷ [])) is.seen ∙ history_of-push changes change undone,
       )
 
-  pub account-made : (account : AccountRecord) → TakesChange Account (record old { facts = add_account old.facts account })
-  account-made account =
-      goes-on Account _ (ap (λ accounts. record old.facts { accounts = accounts })
-      (without_last-push old.facts.accounts account)) tt (λ m p within has. has)
+  -- if it is new, as the map tells it
+  pub account-made : (event : AccountRecord) (timestamp : ℕ) → HasNoBalances event
+      → true ≡ not (is_some (lookup (nat_eq event.id) old.accounts)) →
+      let account : AccountRecord = record event { timestamp = timestamp } in
+      TakesChange Account (record old { accounts = old.accounts ++ (event.id, account) ∷ [] })
+      (add_account (facts_of old) account)
+  account-made event timestamp none told =
+      let account : AccountRecord = record event { timestamp = timestamp } in
+      let fresh = none-there (account_with (facts_of old) event.id)
+      (sym (told ∙ told-new-account kept.consistent.hold event.id)) in
+      takes-change Account (kept-account old kept.consistent account fresh (stamped-new timestamp none))
+      (ap (λ accounts. record (facts_of old) { accounts = accounts })
+      (without_last-push (facts_of old).accounts account)) tt (λ m p within has. has)
 
-  pub failed-made : (id : ℕ) → TakesChange Failed (record old { facts = add_failed old.facts id })
+  pub failed-made : (id : ℕ) → TakesChange Failed (record old { failed = old.failed ++ id ∷ [] })
+      (add_failed (facts_of old) id)
   failed-made id =
-      goes-on Failed _ (ap (λ failed. record old.facts { failed = failed }) (without_last-push old.facts.failed id))
-      tt (λ m p within has. has)
+      takes-change Failed (held-failed old (old.failed ++ id ∷ []) kept.consistent)
+      (ap (λ failed. record (facts_of old) { failed = failed }) (without_last-push old.failed id)) tt
+      (λ m p within has. has)
 
-  pub transfer-made : (t : TransferRecord) (indices : Indices) → HaveIndices old.facts t indices
-      → MayStore old.facts t indices.pending → (new : MapsState) → new.facts ≡ add_transfer old.facts t
-      → KeepsPairs (length old.facts.transfers) (has_pair old.pairs) (has_pair new.pairs)
-      → TakesChange (Transfer indices) new
-  transfer-made t indices at may new is keeps =
-      goes-on (Transfer indices) new (ap (before {T = Indices} (Transfer indices)) is ∙ back old.facts t indices)
-      (record {
-        transfer = t;
-        stored = is;
-        allow = allows
-            (has_pair old.pairs) old.facts t indices sound at.are_at may;
-      }) keeps
+  pub transfer-made : {t : TransferRecord} {indices : Indices} {entries : List (ℕ × Row)}
+      (pushed : IsPushed old t indices entries) {accounts : List (ℕ × AccountRecord)} {transfers : List (ℕ × Row)}
+      {next : ℕ → ℕ → Bool} → IsAfter pushed.step accounts transfers
+      → ((m p : ℕ) → next m p ≡ (its_pair (facts_of old) t m p || old.is_in_expiries m p))
+      → TakesChange (Transfer indices)
+      (record old { accounts = accounts; transfers = transfers; is_in_expiries = next }) (add_transfer (facts_of old) t)
+  transfer-made {t} {indices} pushed after put =
+      takes-change (Transfer indices) (pushed.stored after put) (back (facts_of old) t indices)
+      (record { transfer = t; stored = refl; allow = pushed.allow }) (λ m p within has. grind (arith, put m p, has))
 
--- ---- the last one taken back
+  -- if the set has the same pairs
+  pub same-kept : {next : ℕ → ℕ → Bool} → ((m p : ℕ) → next m p ≡ old.is_in_expiries m p)
+      → AreKept changes (record old { is_in_expiries = next })
+  same-kept {next} same = record {
+    consistent = same-held same kept.consistent;
+    undoable = undoable-indexed old.is_in_expiries next (length (facts_of old).transfers)
+        (λ m p within has. same m p ∙ has) changes (facts_of old) (omega arith) kept.undoable;
+  }
 
-pub goes-back : (changes : List (Change Indices)) (change : Change Indices) (old new : MapsState)
-    → AreUndoable (has_pair old.pairs) (changes ++ change ∷ []) old.facts → new.facts ≡ before change old.facts →
-    KeepsPairs (length (before change old.facts).transfers) (has_pair old.pairs) (has_pair new.pairs)
-    → AreUndoable (has_pair new.pairs) changes new.facts
-goes-back changes change old new all is keeps =
-    subst (AreUndoable (has_pair new.pairs) changes) (sym is)
-    (undoable-indexed (has_pair old.pairs) (has_pair new.pairs)
-    (length (before change old.facts).transfers) keeps changes (before change old.facts) (omega arith)
-    (undoable-pop (has_pair old.pairs) changes change old.facts all).0)
+-- ---- and with the last one taken back
+
+module _ (changes : List Change) (old : Contents) where
+  -- what is kept, and the history, before a change
+  abbrev GivesBack : Change → Contents → Type 0
+  GivesBack change new =
+      AreKept changes new × (with_change (history_of changes (facts_of new)) (facts_of old)
+      ≡ history_of (changes ++ change ∷ []) (facts_of old))
+
+  undoable-last : (change : Change) → AreKept (changes ++ change ∷ []) old
+      → IsUndoable old.is_in_expiries change (facts_of old)
+  undoable-last change kept = (undoable-pop old.is_in_expiries changes change (facts_of old) kept.undoable).1
+
+  gives-back : (change : Change) {new : Contents} → AreKept (changes ++ change ∷ []) old
+      → AreSeenAs (before change (facts_of old)) new
+      → KeepsPairs (length (before change (facts_of old)).transfers) old.is_in_expiries new.is_in_expiries
+      → GivesBack change new
+  gives-back change {new} kept is keeps =
+      let facts = before change (facts_of old) in (
+        record {
+          consistent = is.consistent;
+          undoable = subst (AreUndoable new.is_in_expiries changes) (sym is.seen)
+              (undoable-indexed old.is_in_expiries new.is_in_expiries (length facts.transfers) keeps changes facts
+              (omega arith) (undoable-pop old.is_in_expiries changes change (facts_of old) kept.undoable).0);
+        },
+        ap (λ facts. with_change (history_of changes facts) (facts_of old)) is.seen
+            ∙ sym (history_of-push changes change refl),
+      )
+
+  pub account-back : AreKept (changes ++ Account ∷ []) old
+      → GivesBack Account (record old { accounts = without_last old.accounts })
+  account-back kept =
+      gives-back Account kept (kept-unaccount old kept.consistent (undoable-last Account kept)) (λ m p within has. has)
+
+  pub failed-back : AreKept (changes ++ Failed ∷ []) old
+      → GivesBack Failed (record old { failed = without_last old.failed })
+  failed-back kept =
+      gives-back Failed kept (held-failed old (without_last old.failed) kept.consistent) (λ m p within has. has)
+
+  module _ (indices : Indices) (kept : AreKept (changes ++ Transfer indices ∷ []) old) where
+    pub can-give : CanPop old indices (before (Transfer indices) (facts_of old))
+    can-give = can-pop old kept.consistent indices (undoable-last (Transfer indices) kept)
+
+    pub transfer-back : {accounts : List (ℕ × AccountRecord)} {transfers : List (ℕ × Row)} {next : ℕ → ℕ → Bool}
+        → Contain (before (Transfer indices) (facts_of old)) accounts transfers
+        → ((m p : ℕ) → next m p ≡ (not (its_pair (before (Transfer indices) (facts_of old)) can-give.transfer m p)
+        && old.is_in_expiries m p))
+        → GivesBack (Transfer indices) (record old { accounts = accounts; transfers = transfers; is_in_expiries = next })
+    transfer-back hold took = let popped = can-give.popped hold took in gives-back (Transfer indices) kept popped.0 popped.1
 
 -- ---- what a change resolved is there still
 
@@ -128,19 +177,19 @@ prefix-at (suc n) [] index x at = at
 prefix-at (suc n) (y ∷ xs) zero x at = at
 prefix-at (suc n) (y ∷ xs) (suc index) x at = prefix-at n xs index x at
 
-there-after : (change : Change Indices) (facts : Facts) (index : ℕ) (t : TransferRecord)
+there-after : (change : Change) (facts : Facts) (index : ℕ) (t : TransferRecord)
     → slice_get (before change facts).transfers index ≡ Some t → slice_get facts.transfers index ≡ Some t
 there-after Account facts index t at = at
 there-after (Transfer indices) facts index t at = prefix-at (length facts.transfers - 1) facts.transfers index t at
 there-after Failed facts index t at = at
 
-there-now : (changes : List (Change Indices)) (facts : Facts) (index : ℕ) (t : TransferRecord)
-    → slice_get (oldest before changes facts).transfers index ≡ Some t → slice_get facts.transfers index ≡ Some t
+there-now : (changes : List Change) (facts : Facts) (index : ℕ) (t : TransferRecord)
+    → slice_get (oldest changes facts).transfers index ≡ Some t → slice_get facts.transfers index ≡ Some t
 there-now [] facts index t at = at
 there-now (change ∷ changes) facts index t at =
-    there-now changes facts index t (there-after change (oldest before changes facts) index t at)
+    there-now changes facts index t (there-after change (oldest changes facts) index t at)
 
-named-there : (change : Change Indices) (old new : Facts) → WasMade change old new → (index : ℕ)
+named-there : (change : Change) (old new : Facts) → WasMade change old new → (index : ℕ)
     → resolves_at index change ≡ true → (t : TransferRecord) × (slice_get old.transfers index ≡ Some t)
 named-there Account old new made index is = absurd (true≢false (sym is))
 named-there Failed old new made index is = absurd (true≢false (sym is))
@@ -152,13 +201,22 @@ named-there (Transfer indices) old new made index is = by indices.pending made.a
     by (Some pending) posted h =
         (posted.may.pending, ap (slice_get old.transfers) (sym (eqb-true pending index h)) ∙ posted.pending_at)
 
-pub names-all : (indexed : ℕ → ℕ → Bool) (changes : List (Change Indices)) (facts : Facts)
-    → AreUndoable indexed changes facts → AllByRecursion (NamesOne facts) changes
-names-all indexed [] facts all = tt
-names-all indexed (change ∷ changes) facts all = (names, names-all indexed changes facts all.1)
-  where
-    names : NamesOne facts change
-    names index is =
-        let named = named-there change (before change (oldest before changes facts))
-        (oldest before changes facts) all.0.1 index is in
-        (named.0, there-now (change ∷ changes) facts index named.0 named.1)
+module _ (old : Contents) where
+  pub can-remove_all : (changes : List Change) → AreKept changes old
+      → AllByRecursion (λ change. CanRemove (facts_of old) change old.transfers) changes
+  can-remove_all changes kept = by changes kept.undoable
+    where
+      by : (changes : List Change) → AreUndoable old.is_in_expiries changes (facts_of old)
+          → AllByRecursion (λ change. CanRemove (facts_of old) change old.transfers) changes
+      by [] all = tt
+      by (change ∷ changes) all = (can, by changes all.1)
+        where
+          can : CanRemove (facts_of old) change old.transfers
+          can index is =
+              let named = named-there change (oldest (change ∷ changes) (facts_of old)) (oldest changes (facts_of old))
+              all.0.1 index is in
+              let at = there-now (change ∷ changes) (facts_of old) index named.0 named.1 in
+              let ground = all-there (IsGrounded (facts_of old).accounts (facts_of old).transfers)
+              (facts_of old).transfers index named.0 kept.consistent.sound.grounded at in
+              let rows = kept.consistent.hold.transfers_are in
+              (named.0, record { transfers_are = rows; at = at; expiry_fits = ground.expiry_fits })

@@ -18,11 +18,12 @@ pub use Rattle.tb_layout.specs.declared.account.Account.{Account}
 pub use Rattle.tb_layout.specs.declared.transfer.Transfer.{Transfer}
 pub use Rattle.tb_tables.specs.claim.Balances.{is_posting}
 pub use Rattle.tb_tables.specs.claim.Facts.{Facts, transfer_with, is_expired, add_transfer, account_with, add_account, add_failed}
-pub use Rattle.tb_tables.specs.claim.Status.{is_reserving, status_of, expires_at, expire_due, is_due}
+pub use Rattle.tb_tables.specs.claim.Status.{is_reserving, is_unresolved, status_of, expires_at, expire_due, is_due}
 pub use Rattle.tb_tables.specs.clauses.Changes.{without_last, before, oldest, past_of, history_of}
 pub use Rattle.tb_tables.specs.clauses.Conditions.{MayAdd, MayResolve, HasNoBalances, stamped}
-pub use Rattle.tb_tables.specs.clauses.Contents.{IsGrounded, AreGrounded, Contents, facts_of, has_account, AreContained, AreConsistent, IsSound, IsUndoable, row_in, transfer_rows, MayPost, MayStore, Contain, is_timed, is_pair_of, is_open_pair, reserves_at, its_pair, is_pair, NamesOne, is_spent, resolves_at, is_resolved_at, account_made, has_expired, KeepsPairs, AreExpiries, Allow, HaveIndices, MapsState, names_index, WasMade, AreUndoable, history_in}
-pub use Rattle.tb_tables.specs.clauses.Expiries.{same_pair, pair_cmp, is_in_expiries, has_pair}
+pub use Rattle.tb_tables.specs.clauses.Contents.{IsGrounded, AreGrounded, Contents, facts_of, has_account, AreContained, AreConsistent, IsSound, IsUndoable, row_in, transfer_rows, MayPost, MayStore, Contain, is_timed, is_pair_of, is_open_pair, reserves_at, its_pair, is_pair, is_spent, resolves_at, is_resolved_at, account_made, has_expired, KeepsPairs, AreExpiries, Allow, HaveIndices, AreKept, names_index, WasMade, AreUndoable}
+pub use Rattle.tb_tables.specs.clauses.Expiries.{same_pair, pair_cmp, is_in_expiries}
+pub use Rattle.tb_tables.specs.clauses.Fields.{contents_in}
 pub use Rattle.tb_tables.specs.clauses.History.{with_change, mark_of, back_to}
 pub use Rattle.tb_tables.specs.clauses.Indices.{IsIndexAmong, IsIndexOf, IsIndexOfTransfer}
 pub use Rattle.tb_tables.specs.clauses.Lawful.{has_id, IsLawful, ids_distinct}
@@ -41,4 +42,3 @@ pub use Rattle.tb_tables.specs.declared.stored_transfer.StoredTransfer.{StoredTr
 pub use Rattle.tb_tables.specs.inside.Changing.{status_after, new_row, Step, AreOf, IsBefore, IsAfter, IsStored, is_open_status, CanExpire, expire_one, IsRemovable, CanRemove}
 pub use Rattle.tb_tables.specs.inside.Columns.{entries_of, entry_of, status_found, status_of_stored, transfer_under}
 pub use Rattle.tb_tables.specs.inside.Hashing.{with_id}
-pub use Rattle.tb_tables.specs.inside.MapFields.{contents_in}

@@ -7,6 +7,7 @@ pub mod Changes
 pub mod Sums
 pub mod Expiries
 pub mod Contents
+pub mod Fields
 pub mod Balances
 pub mod Indices
 pub mod Status

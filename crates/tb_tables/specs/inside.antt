@@ -1,5 +1,4 @@
 -- What only proofs, private functions and invariants need.
 pub mod Columns
-pub mod MapFields
 pub mod Changing
 pub mod Hashing

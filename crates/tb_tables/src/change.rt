@@ -1,9 +1,11 @@
 //! An entry of the undo list.
 
+use crate::indices::Indices;
+
 /// What a change added; for a transfer, with what else is needed to undo it.
 #[derive(Clone, Copy)]
-pub(crate) enum Change<T> {
+pub(crate) enum Change {
     Account,
-    Transfer(T),
+    Transfer(Indices),
     Failed,
 }

@@ -7,9 +7,10 @@ ghost use Rattle.tb_tables.specs.clauses.Changes.{without_last};
 ghost use Rattle.tb_tables.specs.inside.Changing.{status_after};
 
 use crate::by_id::{ById, Ids};
+use crate::indices::Indices;
 use crate::status::Status;
 use indexmap::map::Entry;
-use tb_layout::{Account, NoMemory};
+use tb_layout::{Account, NoMemory, Transfer};
 
 /// Adds an account with this timestamp after the others, unless its id is there; whether it was added. It is written in
 /// place.
@@ -63,12 +64,31 @@ pub(crate) fn pop_failed(failed: &mut Ids)
     failed.truncate(failed.len().saturating_sub(1));
 }
 
-/// Returns the index of the entry with this id.
-pub(crate) fn index_of<V: Drop>(entries: &ById<V>, id: u128) -> usize
-    requires { IsSome (get nat_eq entries.now id) }
-    ensures { slice_get (keys entries.now) result ≡ Some id }
+/// Returns the index of the account with this id.
+fn index_of(accounts: &ById<Account>, id: u128) -> usize
+    requires { IsSome (get nat_eq accounts.now id) }
+    ensures { slice_get (keys accounts.now) result ≡ Some id }
 {
-    entries.get_index_of(&id).unwrap()
+    accounts.get_index_of(&id).unwrap()
+}
+
+/// Returns the indices of a transfer's accounts, together with the index of the transfer that it names.
+pub(crate) fn indices_of(
+    accounts: &ById<Account>,
+    transfer: &Transfer,
+    pending: Option<usize>,
+) -> Indices
+    requires debit { IsSome (get nat_eq accounts.now transfer.now.debit_account_id) }
+    requires credit { IsSome (get nat_eq accounts.now transfer.now.credit_account_id) }
+    ensures debit { slice_get (keys accounts.now) result.debit ≡ Some transfer.now.debit_account_id }
+    ensures credit { slice_get (keys accounts.now) result.credit ≡ Some transfer.now.credit_account_id }
+    ensures pending { result.pending ≡ pending }
+{
+    Indices {
+        debit: index_of(accounts, transfer.debit_account_id),
+        credit: index_of(accounts, transfer.credit_account_id),
+        pending,
+    }
 }
 
 /// Returns the status of what a post or a void names.

@@ -13,8 +13,7 @@
 //! - `balance`, `amounts`: one balance of an account, an amount between two;
 //! - `entries`, `expiries`: one entry of a map, one pair of the set of expiries;
 //! - `storing`, `timeouts`: all that one transfer changes, over facts that the maps contain (`AreContained`);
-//! - `maps`: the maps and the set together, seen as facts, whose invariant is `AreConsistent`;
-//! - `tables`: the undo list on top, whose invariant is `AreUndoable`.
+//! - `tables`: the maps, the set and the undo list together, seen as a history, whose invariant is `AreKept`.
 //!
 //! `each_other_call` in tb_core_tests is an example that the gate compiles.
 #![tactic(auto)]
@@ -28,9 +27,7 @@ mod entries;
 mod expiries;
 mod hashing;
 mod indices;
-mod maps;
 mod mark;
-mod note;
 mod row;
 mod status;
 mod stored_status;

@@ -142,7 +142,7 @@ pub(crate) fn undo_transfer(
 }
 
 /// Returns the index of the transfer that a change resolved.
-fn named_by(change: &Change<Indices>) -> Option<usize>
+fn named_by(change: &Change) -> Option<usize>
     ensures { result ≡ named_by_of change.now }
 {
     match change {
@@ -174,7 +174,7 @@ fn remove_expiry_at(expiries: &mut Expiries, transfers: &Transfers, index: usize
 }
 
 /// Takes the pair of the transfer that a change resolved out of the set.
-fn remove_expiry_of(expiries: &mut Expiries, transfers: &Transfers, change: &Change<Indices>)
+fn remove_expiry_of(expiries: &mut Expiries, transfers: &Transfers, change: &Change)
     requires { (facts : Facts) × CanRemove facts change.now transfers.now }
     ensures { (facts : Facts) → CanRemove facts change.now transfers.now → (m p : ℕ)
         → is_in_expiries expiries.new m p ≡ (not (resolves_at p change.now && is_spent_at facts m p)
@@ -187,11 +187,7 @@ fn remove_expiry_of(expiries: &mut Expiries, transfers: &Transfers, change: &Cha
 
 /// Takes the pairs of the transfers that some changes resolved out of the set. If that is empty, the changes
 /// aren't gone through.
-pub(crate) fn remove_resolved(
-    expiries: &mut Expiries,
-    transfers: &Transfers,
-    changes: &[Change<Indices>],
-)
+pub(crate) fn remove_resolved(expiries: &mut Expiries, transfers: &Transfers, changes: &[Change])
     requires { (facts : Facts) × AllByRecursion (λ change. CanRemove facts change transfers.now) changes.now }
     ensures { (facts : Facts) → AllByRecursion (λ change.
         CanRemove facts change transfers.now) changes.now → (m p : ℕ)

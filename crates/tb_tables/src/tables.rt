@@ -3,43 +3,60 @@
 ghost use Rattle.std.specs.Prelude.{◌≡◌, ◌≢◌, ◌<◌, ◌≤◌, ◌^◌, Some, None, [], Ok, IfOk, OnOk, OnErr, is_some, not, true, false, length, slice_get};
 ghost use Rattle.std.specs.Option.{option_map};
 
+use crate::by_id::{ById, Ids};
 use crate::change::Change;
 use crate::counts::Counts;
-use crate::hashing::Seed;
+use crate::entries::{indices_of, pop_account, pop_failed, push_account, push_failed};
+use crate::expiries::Expiries;
+use crate::hashing::{IdHasher, Seed};
 use crate::indices::Indices;
-use crate::maps::Maps;
 use crate::mark::Mark;
-use crate::note::note;
 use crate::status::Status;
+use crate::storing::{apply, insert_expiry, remove_expiry, remove_resolved, undo_transfer};
+use crate::timeouts::expire_all;
+use crate::transfers::Transfers;
 use std::alloc::Global;
 use std::marker::Model;
 use tb_layout::{Account, NoMemory, Transfer};
 
 /// The facts of a ledger: accounts and transfers in order of making, under their ids.
 pub struct Tables {
-    maps: Maps,
-    changes: Vec<Change<Indices>>,
+    accounts: ById<Account>,
+    transfers: Transfers,
+    failed: Ids,
+    expiries: Expiries,
+    changes: Vec<Change>,
 }
 
 impl Drop for Tables {
     /// Frees everything held in one call, so that no owner's proof repeats it.
     fn drop(self) {
-        let Tables { maps, changes } = self;
-        drop(maps);
+        let Tables {
+            accounts,
+            transfers,
+            failed,
+            expiries,
+            changes,
+        } = self;
+        drop(accounts);
+        drop(transfers);
+        drop(failed);
+        drop(expiries);
         drop(changes);
     }
 }
 
 impl Model for Tables {
     ghost use Rattle.tb_tables.specs.clauses.History.{History};
-    ghost use Rattle.tb_tables.specs.clauses.Expiries.{has_pair};
-    ghost use Rattle.tb_tables.specs.clauses.Contents.{history_in, AreUndoable};
 
     ghost Value = { History };
 
-    ghost view = { λ tables. history_in tables.changes.items tables.maps.facts };
+    ghost use Rattle.tb_tables.specs.clauses.Fields.{contents_in, history_in};
+    ghost use Rattle.tb_tables.specs.clauses.Contents.{AreKept};
 
-    ghost invariant = { λ tables. AreUndoable (has_pair tables.maps.pairs) tables.changes.items tables.maps.facts };
+    ghost view = { history_in };
+
+    ghost invariant = { λ tables. AreKept tables.changes.items (contents_in tables) };
 }
 
 impl Tables {
@@ -66,8 +83,12 @@ impl Tables {
     pub fn with_seed(alloc: Global, seed: Seed) -> Tables
         ensures { result ≡ record { now = no_facts; past = [] } }
     {
+        let hasher = IdHasher::new(seed);
         Tables {
-            maps: Maps::new(alloc, seed),
+            accounts: ById::with_hasher(alloc, hasher),
+            transfers: Transfers::new(alloc, hasher),
+            failed: Ids::with_hasher(alloc, hasher),
+            expiries: Expiries::new(alloc),
             changes: Vec::new(alloc),
         }
     }
@@ -77,7 +98,8 @@ impl Tables {
     pub fn reserve(&mut self, accounts: usize, transfers: usize) -> Result<(), NoMemory>
         ensures { self.new ≡ self.old }
     {
-        self.maps.reserve(accounts, transfers)
+        self.accounts.reserve(accounts)?;
+        self.transfers.reserve(transfers)
     }
 
     /// Adds an account after those that are there, with its timestamp and no balances of its own. If memory runs out
@@ -102,10 +124,10 @@ impl Tables {
         ensures same { result ≢ Ok true → self.new ≡ self.old }
     {
         self.changes.reserve(1)?;
-        if !self.maps.add_account(event, timestamp)? {
+        if !push_account(&mut self.accounts, event, timestamp)? {
             return Ok(false);
         }
-        note(&mut self.changes, Change::Account);
+        self.changes.push_reserved(Change::Account);
         Ok(true)
     }
 
@@ -116,13 +138,14 @@ impl Tables {
         ensures err { OnErr result (self.new ≡ self.old) }
     {
         self.changes.reserve(1)?;
-        self.maps.add_failed(id)?;
-        note(&mut self.changes, Change::Failed);
+        push_failed(&mut self.failed, id)?;
+        self.changes.push_reserved(Change::Failed);
         Ok(())
     }
 
     /// Adds a transfer with this timestamp, whose accounts, and whose pending transfer, have these indices, unless one
-    /// with its id is there; whether it was added.
+    /// with its id is there; whether it was added. Its expiry is put into the set first, and is taken out again if the
+    /// transfer isn't added.
     fn store(
         &mut self,
         event: &Transfer,
@@ -139,11 +162,16 @@ impl Tables {
         ensures same { result ≢ Ok true → self.new ≡ self.old }
     {
         self.changes.reserve(1)?;
-        if !self.maps.store(event, timestamp, indices)? {
-            return Ok(false);
+        let index = self.transfers.len();
+        insert_expiry(&mut self.expiries, event, timestamp, index)?;
+        let added = self.transfers.push(event, timestamp);
+        if added == Ok(true) {
+            apply(&mut self.accounts, &mut self.transfers, indices, event);
+            self.changes.push_reserved(Change::Transfer(indices));
+        } else {
+            remove_expiry(&mut self.expiries, event, timestamp, index);
         }
-        note(&mut self.changes, Change::Transfer(indices));
-        Ok(true)
+        added
     }
 
     /// Adds a plain or pending transfer after those that are there. If memory runs out nothing has changed.
@@ -152,7 +180,7 @@ impl Tables {
         ensures ok { OnOk result (self.new ≡ with_change self.old (with_transfer self.old.now transfer)) }
         ensures err { OnErr result (self.new ≡ self.old) }
     {
-        let indices = self.maps.indices_of(&transfer);
+        let indices = indices_of(&self.accounts, &transfer, None);
         self.store(&transfer, transfer.timestamp, indices)?;
         Ok(())
     }
@@ -196,7 +224,7 @@ impl Tables {
         ensures ok { OnOk result (self.new ≡ with_change self.old (with_transfer self.old.now transfer)) }
         ensures err { OnErr result (self.new ≡ self.old) }
     {
-        let Some(pending) = self.maps.transfer_index(transfer.pending_id) else {
+        let Some(pending) = self.transfer_index(transfer.pending_id) else {
             unreachable!()
         };
         self.insert_resolving(&transfer, pending)?;
@@ -217,7 +245,7 @@ impl Tables {
         ensures added { result ≡ Ok true → self.new ≡ with_change self.old (with_transfer self.old.now transfer.now) }
         ensures same { result ≢ Ok true → self.new ≡ self.old }
     {
-        let indices = self.maps.resolved_indices(transfer, pending);
+        let indices = indices_of(&self.accounts, transfer, Some(pending));
         self.store(transfer, transfer.timestamp, indices)
     }
 
@@ -225,49 +253,54 @@ impl Tables {
     pub fn account(&self, id: u128) -> Option<Account>
         ensures { result ≡ balanced_account self.now.now id }
     {
-        self.maps.account(id)
+        self.accounts.get(&id).copied()
     }
 
     /// Returns the index in the order of making of the account with this id, counted from 0.
     pub fn account_index(&self, id: u128) -> Option<usize>
         ensures { IsIndexOf self.now.now id result }
     {
-        self.maps.account_index(id)
+        self.accounts.get_index_of(&id)
     }
 
     /// Returns the account at an index in the order of making, counted from 0, with its balances.
     pub fn account_at(&self, index: usize) -> Option<Account>
         ensures { result ≡ option_map (balanced self.now.now) (slice_get self.now.now.accounts index) }
     {
-        self.maps.account_at(index)
+        let (_, account) = self.accounts.get_index(index)?;
+        Some(*account)
     }
 
     /// Returns how many accounts there are.
     pub fn accounts(&self) -> usize
         ensures { result ≡ length self.now.now.accounts }
     {
-        self.maps.accounts()
+        self.accounts.len()
     }
 
     /// Returns how much is stored.
     pub fn counts(&self) -> Counts
         ensures { result ≡ counts_of self.now.now }
     {
-        self.maps.counts()
+        Counts {
+            accounts: self.accounts.len(),
+            transfers: self.transfers.len(),
+            failed_ids: self.failed.len(),
+        }
     }
 
     /// Returns the transfer with this id; a post or a void with its resolved fields.
     pub fn transfer(&self, id: u128) -> Option<Transfer>
         ensures { result ≡ transfer_with self.now.now id }
     {
-        self.maps.transfer(id)
+        self.transfers.transfer(id)
     }
 
     /// Returns the index in the order of making of the transfer with this id, counted from 0.
     pub fn transfer_index(&self, id: u128) -> Option<usize>
         ensures { IsIndexOfTransfer self.now.now id result }
     {
-        self.maps.transfer_index(id)
+        self.transfers.index_of(id)
     }
 
     /// Returns the transfer at an index in the order of making, counted from 0; a post or a void with its resolved
@@ -275,28 +308,28 @@ impl Tables {
     pub fn transfer_at(&self, index: usize) -> Option<Transfer>
         ensures { result ≡ slice_get self.now.now.transfers index }
     {
-        self.maps.transfer_at(index)
+        self.transfers.transfer_at(index)
     }
 
     /// Returns the status of the pending transfer with this id.
     pub fn status(&self, id: u128) -> Option<Status>
         ensures { result ≡ status_with self.now.now id }
     {
-        self.maps.status(id)
+        self.transfers.status(id)
     }
 
     /// Returns the status of the pending transfer at an index in the order of making, counted from 0.
     pub fn status_at(&self, index: usize) -> Option<Status>
         ensures { result ≡ status_if_pending self.now.now (slice_get self.now.now.transfers index) }
     {
-        self.maps.status_at(index)
+        self.transfers.status_at(index)
     }
 
     /// Returns whether an id is among those that failed.
     pub fn failed(&self, id: u128) -> bool
         ensures { result ≡ is_failed self.now.now id }
     {
-        self.maps.failed(id)
+        self.failed.contains(&id)
     }
 
     /// Returns a mark at the changes so far, to which `undo_to` can come back. It is spent by `keep` and by going back
@@ -312,9 +345,19 @@ impl Tables {
         requires { 0 < length self.old.past }
         ensures { with_change self.new self.old.now ≡ self.old }
     {
-        match self.changes.pop() {
-            None => {}
-            Some(change) => self.maps.undo(change),
+        if let Some(change) = self.changes.pop() {
+            match change {
+                Change::Account => pop_account(&mut self.accounts),
+                Change::Transfer(indices) => {
+                    undo_transfer(
+                        &mut self.accounts,
+                        &mut self.transfers,
+                        &mut self.expiries,
+                        indices,
+                    );
+                }
+                Change::Failed => pop_failed(&mut self.failed),
+            }
         }
     }
 
@@ -332,7 +375,7 @@ impl Tables {
     pub fn keep(&mut self)
         ensures { self.new ≡ without_past self.old }
     {
-        self.maps.remove_resolved(self.changes.as_slice());
+        remove_resolved(&mut self.expiries, &self.transfers, self.changes.as_slice());
         self.changes.clear();
     }
 
@@ -342,6 +385,11 @@ impl Tables {
         requires { self.old.past ≡ [] }
         ensures { self.new ≡ record { now = with_due_expired clock self.old.now; past = [] } }
     {
-        self.maps.expire_due(clock);
+        expire_all(
+            &mut self.accounts,
+            &mut self.transfers,
+            &mut self.expiries,
+            clock,
+        );
     }
 }

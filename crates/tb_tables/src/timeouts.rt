@@ -8,9 +8,8 @@ ghost use Rattle.tb_tables.specs.inside.Changing.{CanExpire, expire_one};
 
 use crate::amounts::{Phase, subtract_amount};
 use crate::by_id::ById;
-use crate::entries::index_of;
+use crate::entries::indices_of;
 use crate::expiries::{Expiries, take_due};
-use crate::indices::Indices;
 use crate::status::Status;
 use crate::transfers::Transfers;
 use tb_layout::Account;
@@ -22,11 +21,7 @@ fn expire(accounts: &mut ById<Account>, transfers: &mut Transfers, index: usize)
         → Contain (expire_one can.transfer.id facts) accounts.new.entries transfers.new }
 {
     let transfer = transfers.set_status(index, Status::Expired);
-    let indices = Indices {
-        debit: index_of(accounts, transfer.debit_account_id),
-        credit: index_of(accounts, transfer.credit_account_id),
-        pending: None,
-    };
+    let indices = indices_of(accounts, &transfer, None);
     subtract_amount(accounts, indices, Phase::Pending, transfer.amount);
 }
 

@@ -9,20 +9,20 @@ abbrev pub without_last : {X : Type 0} → List X → List X
 without_last xs = take (length xs - 1) xs
 
 -- the facts before a change
-abbrev pub before : {T : Type 0} → Change T → Facts → Facts
+abbrev pub before : Change → Facts → Facts
 before Account facts = record facts { accounts = without_last facts.accounts }
-before (Transfer told) facts = record facts { transfers = without_last facts.transfers }
+before (Transfer indices) facts = record facts { transfers = without_last facts.transfers }
 before Failed facts = record facts { failed = without_last facts.failed }
 
--- what there was before all of the changes; the newest change is at the end, and `undo` reverts one
-abbrev pub oldest : {T X : Type 0} → (Change T → X → X) → List (Change T) → X → X
-oldest undo [] now = now
-oldest undo (change ∷ changes) now = undo change (oldest undo changes now)
+-- what there was before all of the changes; the newest change is at the end
+abbrev pub oldest : List Change → Facts → Facts
+oldest [] now = now
+oldest (change ∷ changes) now = before change (oldest changes now)
 
 -- the facts before each
-abbrev pub past_of : {T X : Type 0} → (Change T → X → X) → (X → Facts) → List (Change T) → X → List Facts
-past_of undo seen [] now = []
-past_of undo seen (change ∷ changes) now = seen (oldest undo (change ∷ changes) now) ∷ past_of undo seen changes now
+abbrev pub past_of : List Change → Facts → List Facts
+past_of [] now = []
+past_of (change ∷ changes) now = oldest (change ∷ changes) now ∷ past_of changes now
 
-abbrev pub history_of : {T X : Type 0} → (Change T → X → X) → (X → Facts) → List (Change T) → X → History
-history_of undo seen changes now = record { now = seen now; past = past_of undo seen changes now }
+abbrev pub history_of : List Change → Facts → History
+history_of changes now = record { now = now; past = past_of changes now }

@@ -4,13 +4,11 @@ use Rattle.std.specs.List.{list_any, AllByRecursion}
 use Rattle.tb_layout.specs.declared.account.Account.{Account as AccountRecord}
 use Rattle.tb_layout.specs.declared.transfer.Transfer.{Transfer as TransferRecord}
 use Rattle.tb_layout.specs.claim.Transfer.{is_pending, is_resolving}
-use Rattle.std.specs.declared.cmp.Reverse.{Reverse}
 use Rattle.tb_tables.specs.claim.Facts.{Facts, transfer_with, is_expired, add_transfer}
-use Rattle.tb_tables.specs.clauses.History.{History}
 use Rattle.tb_tables.specs.claim.Status.{is_reserving, expires_at}
 use Rattle.tb_tables.specs.clauses.Status.{is_resolved, status_in}
 use Rattle.tb_tables.specs.clauses.Expiries.{same_pair}
-use Rattle.tb_tables.specs.clauses.Changes.{before, oldest, history_of}
+use Rattle.tb_tables.specs.clauses.Changes.{before, oldest}
 use Rattle.tb_tables.specs.clauses.Conditions.{HasNoBalances, MayAdd, MayResolve}
 use Rattle.tb_tables.specs.clauses.Lawful.{IsLawful, has_id}
 use Rattle.tb_tables.specs.clauses.Sums.{sums_of, account_rows, AreAt}
@@ -45,11 +43,6 @@ facts_of stored =
       expired = map (λ entry. entry.1.transfer.id) (filter (λ entry. has_expired entry.1.status) stored.transfers);
       failed = stored.failed;
     }
-
--- what the maps are seen as: the facts, and the pairs of moment and index that the set has
-pub record MapsState : Type 0 where
-  pub facts : Facts
-  pub pairs : List (Reverse (ℕ × ℕ))
 
 -- ---- the maps
 
@@ -149,21 +142,22 @@ MayStore facts transfer None = MayAdd facts transfer
 MayStore facts transfer (Some index) = MayPost facts transfer index
 
 -- the indices are those of the accounts
-pub record HaveIndices (facts : Facts) (transfer : TransferRecord) (indices : Indices) : Type 0 where
-  pub are_at : AreAt facts.accounts indices transfer.debit_account_id transfer.credit_account_id
+abbrev pub HaveIndices : Facts → TransferRecord → Indices → Type 0
+HaveIndices facts transfer indices =
+    AreAt facts.accounts indices transfer.debit_account_id transfer.credit_account_id
 
 -- the facts allow it, and the indices are those of its accounts
 pub record Allow (facts : Facts) (transfer : TransferRecord) (indices : Indices) : Type 0 where
   pub lawful : IsLawful facts
   pub grounded : AreGrounded facts
   pub not_expired : is_expired facts transfer.id ≡ false
-  pub are_at : AreAt facts.accounts indices transfer.debit_account_id transfer.credit_account_id
+  pub are_at : HaveIndices facts transfer indices
   pub may : MayStore facts transfer indices.pending
 
 -- ---- the undo list
 
 -- the index of the transfer that a change resolved
-abbrev pub named_by : Change Indices → Option ℕ
+abbrev pub named_by : Change → Option ℕ
 named_by (Transfer indices) = indices.pending
 named_by other = None
 
@@ -171,10 +165,10 @@ abbrev pub names_index : ℕ → Option ℕ → Bool
 names_index index None = false
 names_index index (Some pending) = pending == index
 
-abbrev pub resolves_at : ℕ → Change Indices → Bool
+abbrev pub resolves_at : ℕ → Change → Bool
 resolves_at index change = names_index index (named_by change)
 
-abbrev pub is_resolved_at : ℕ → List (Change Indices) → Bool
+abbrev pub is_resolved_at : ℕ → List Change → Bool
 is_resolved_at index changes = list_any (resolves_at index) changes
 
 pub record WasStored (indices : Indices) (old new : Facts) : Type 0 where
@@ -182,28 +176,30 @@ pub record WasStored (indices : Indices) (old new : Facts) : Type 0 where
   pub stored : new ≡ add_transfer old transfer
   pub allow : Allow old transfer indices
 
-abbrev pub WasMade : Change Indices → Facts → Facts → Type 0
+abbrev pub WasMade : Change → Facts → Facts → Type 0
 WasMade (Transfer indices) old new = WasStored indices old new
 WasMade other old new = Unit {0}
 
 -- what a change says of the facts after it
-abbrev pub IsUndoable : (ℕ → ℕ → Bool) → Change Indices → Facts → Type 0
+abbrev pub IsUndoable : (ℕ → ℕ → Bool) → Change → Facts → Type 0
 IsUndoable indexed change facts = IsSound indexed (before change facts) × WasMade change (before change facts) facts
 
-abbrev pub AreUndoable : (ℕ → ℕ → Bool) → List (Change Indices) → Facts → Type 0
+abbrev pub AreUndoable : (ℕ → ℕ → Bool) → List Change → Facts → Type 0
 AreUndoable indexed [] facts = Unit {0}
 AreUndoable indexed (change ∷ changes) facts =
-    IsUndoable indexed change (oldest before changes facts) × AreUndoable indexed changes facts
+    IsUndoable indexed change (oldest changes facts) × AreUndoable indexed changes facts
+
+-- the maps contain the facts, and each change can be undone
+pub record AreKept (changes : List Change) (stored : Contents) : Type 0 where
+  pub consistent : AreConsistent stored
+  pub undoable : AreUndoable stored.is_in_expiries changes (facts_of stored)
 
 -- each pair of the indices below a count that is in the one set is in the other
 abbrev pub KeepsPairs : ℕ → (ℕ → ℕ → Bool) → (ℕ → ℕ → Bool) → Type 0
 KeepsPairs count old new = (moment index : ℕ) → index < count → old moment index ≡ true → new moment index ≡ true
 
 -- what a change resolved is there
-abbrev pub NamesOne : Facts → Change Indices → Type 0
+abbrev pub NamesOne : Facts → Change → Type 0
 NamesOne facts change =
     (index : ℕ) → resolves_at index change ≡ true
     → (transfer : TransferRecord) × (slice_get facts.transfers index ≡ Some transfer)
-
-abbrev pub history_in : List (Change Indices) → Facts → History
-history_in changes facts = history_of before (λ (now : Facts). now) changes facts

@@ -66,7 +66,7 @@ pub record IsRemovable (facts : Facts) (transfer : Transfer) (transfer_entries :
   pub expiry_fits : is_pending transfer ≡ true → expires_at transfer < 2 ^ 64
 
 -- what a change names can be forgotten
-abbrev pub CanRemove : Facts → Change Indices → List (ℕ × Row) → Type 0
+abbrev pub CanRemove : Facts → Change → List (ℕ × Row) → Type 0
 CanRemove facts change transfer_entries =
     (index : ℕ) → resolves_at index change ≡ true
     → (transfer : Transfer) × IsRemovable facts transfer transfer_entries index

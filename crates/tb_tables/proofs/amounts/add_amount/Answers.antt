@@ -6,8 +6,8 @@ use Rattle.tb_tables.proofs.amounts.add_amount.Goals as goal
 pub raise_at-requires : goal.raise_at-requires
 raise_at-requires c =
     let r = c.requires in
-    rw c.debits_in.ensures (has_room r.sums r.accounts c.args.indices.debit r.are_at.debit_account
-    (debits_in c.args.phase) c.args.amount c.args.accounts.now.entries r.are_at.debit_at r.are r.debit_fits)
+    rw c.debits_in.ensures (has_room r.accounts c.args.indices.debit r.are_at.debit_at (debits_in c.args.phase) c.args.amount r.sums r.are
+    r.debit_fits)
 
 pub raise_at-requires-2 : goal.raise_at-requires-2
 raise_at-requires-2 c =
@@ -17,9 +17,8 @@ raise_at-requires-2 c =
     let fits = subst (λ n. n + c.args.amount < 2 ^ 128)
     (sym (credits-kept c.args.phase r.are_at.debit_account.id c.args.amount r.sums r.are_at.credit_account))
     r.credit_fits in
-    rw c.credits_in.ensures (has_room (with_more (debits_in c.args.phase) r.are_at.debit_account.id c.args.amount
-    r.sums) r.accounts c.args.indices.credit r.are_at.credit_account _ c.args.amount
-    c.raise_at.new.accounts.entries r.are_at.credit_at raised_once fits)
+    rw c.credits_in.ensures (has_room r.accounts c.args.indices.credit r.are_at.credit_at _ c.args.amount
+    (with_more (debits_in c.args.phase) r.are_at.debit_account.id c.args.amount r.sums) raised_once fits)
 
 pub returns : goal.returns
 returns c = λ sums rows debit credit are is.

@@ -12,24 +12,14 @@ expires_at-moment-requires c =
 
 pub returns-then-is_spent : goal.returns-then-is_spent
 returns-then-is_spent c =
-    λ facts t can m p. grind (
-      arith,
-      spent-is can m p,
-      c.row_at-row.ensures _ _
-          (row-there can),
-      c.is_spent.ensures,
-      c.if-is_spent.true,
-      c.expires_at-moment.ensures,
-      c.remove_pair.ensures m p,
-    )
+    λ facts t can m p.
+    let row = c.row_at-row.ensures _ _ (row-there can) in
+    let spent = c.is_spent.ensures in
+    let moment = c.expires_at-moment.ensures in
+    grind (arith, spent-is can m p, row, spent, c.if-is_spent.true, moment, c.remove_pair.ensures m p)
 
 pub returns-else-is_spent : goal.returns-else-is_spent
 returns-else-is_spent c =
-    λ facts t can m p. grind (
-      arith,
-      spent-is can m p,
-      c.row_at-row.ensures _ _
-          (row-there can),
-      c.is_spent.ensures,
-      c.if-is_spent.false,
-    )
+    λ facts t can m p.
+    let row = c.row_at-row.ensures _ _ (row-there can) in
+    grind (arith, spent-is can m p, row, c.is_spent.ensures, c.if-is_spent.false)

@@ -5,18 +5,14 @@ use Rattle.tb_tables.proofs.RemovedPairs.{forgotten-more}
 use Rattle.tb_tables.proofs.storing.remove_resolved.Goals as goal
 
 pub remove_expiry_of-requires : goal.remove_expiry_of-requires
-remove_expiry_of-requires c = (
-  c.requires.0,
-  All-from_recursion _ c.args.changes.now c.requires.1 c.loop-change.change-index Account
-      c.loop-change-test.true,
-)
+remove_expiry_of-requires c =
+    let all = All-from_recursion _ c.args.changes.now c.requires.1 in
+    (c.requires.0, all c.loop-change.change-index Account c.loop-change-test.true)
 
 pub loop-change-preserved : goal.loop-change-preserved
 loop-change-preserved c = λ facts all m p.
-    forgotten-more c.args.changes.now c.loop-change.change-index Account p (is_spent facts m p)
-    (is_in_expiries c.args.expiries.now m p) (is_in_expiries c.loop-change.expiries m p)
-    (is_in_expiries c.remove_expiry_of.new.expiries m p)
-    c.loop-change-test.true (c.loop-change.invariant facts all m p)
+    forgotten-more c.args.changes.now p (is_spent facts m p) (is_in_expiries c.args.expiries.now m p)
+    c.loop-change.change-index Account c.loop-change-test.true (c.loop-change.invariant facts all m p)
     (c.remove_expiry_of.ensures facts (All-from_recursion _ c.args.changes.now all c.loop-change.change-index
     Account c.loop-change-test.true) m p)
 

@@ -12,41 +12,24 @@ row_at-requires c =
 pub expire-requires : goal.expire-requires
 expire-requires c =
     let due = c.loop-index.invariant c.requires.0 c.requires.1 in
-    let has = c.in-Some.ensures.due.2 in (
-      due.now,
-      can-expire due.held has (grind (
-        arith,
-        c.row_at.ensures _ _
-            (pair-row due.held has),
-        c.is_open.ensures,
-        c.if-is_open.true,
-      )),
-    )
+    let has = c.in-Some.ensures.due.2 in
+    let row = c.row_at.ensures _ _ (pair-row due.held has) in
+    (due.now, can-expire due.held has (grind (arith, row, c.is_open.ensures, c.if-is_open.true)))
 
 pub loop-index-preserved-then-is_open : goal.loop-index-preserved-then-is_open
 loop-index-preserved-then-is_open c = λ facts held.
     let due = c.loop-index.invariant facts held in
     let d = c.in-Some.ensures.due in
-    let can = can-expire due.held d.2 (grind (
-      arith,
-      c.row_at.ensures _ _
-          (pair-row due.held d.2),
-      c.is_open.ensures,
-      c.if-is_open.true,
-    )) in
+    let row = c.row_at.ensures _ _ (pair-row due.held d.2) in
+    let can = can-expire due.held d.2 (grind (arith, row, c.is_open.ensures, c.if-is_open.true)) in
     still-due due.held d.2 d.1 d.3 can due.same (c.expire.ensures due.now can)
 
 pub loop-index-preserved : goal.loop-index-preserved
 loop-index-preserved c = λ facts held.
     let due = c.loop-index.invariant facts held in
     let d = c.in-Some.ensures.due in
-    passed-over due.held d.2 d.1 d.3 (grind (
-      arith,
-      c.row_at.ensures _ _
-          (pair-row due.held d.2),
-      c.is_open.ensures,
-      c.if-is_open.false,
-    )) due.same
+    let row = c.row_at.ensures _ _ (pair-row due.held d.2) in
+    passed-over due.held d.2 d.1 d.3 (grind (arith, row, c.is_open.ensures, c.if-is_open.false)) due.same
 
 pub returns : goal.returns
 returns c = λ facts held.

@@ -1,6 +1,8 @@
--- Found by the prover itself; on file since the check of an edit then costs less.
-use Rattle.std.proofs.Common.{rules}
+use Rattle.std.proofs.Common.{◌∙◌}
+use Rattle.tb_tables.proofs.LookUps.{account-found}
 use Rattle.tb_tables.proofs.tables.Tables.account.Goals as goal
 
 pub returns : goal.returns
-returns c = search rules
+returns c =
+    rw (← c.self.view_is) (c.copied.ensures ∙ c.get.ensures.value
+    ∙ account-found c.self.invariant.consistent.hold c.args.id)

@@ -1,12 +1,21 @@
--- Found by the prover itself; on file since the check of an edit then costs less.
-use Rattle.std.proofs.Common.{rules}
+use Rattle.tb_tables.proofs.LookUps.{debit-there, credit-there, are-at, may-post}
 use Rattle.tb_tables.proofs.tables.Tables.insert_resolving.Goals as goal
 
-pub returns-clause-new : goal.returns-clause-new
-returns-clause-new c = search rules
+pub indices_of-indices-requires : goal.indices_of-indices-requires
+indices_of-indices-requires c =
+    let may = rw (← c.self.view_is) at c.requires.may in
+    let hold = c.self.invariant.consistent.hold in
+    let grounded = c.self.invariant.consistent.sound.grounded in
+    record {
+      debit = debit-there hold grounded c.args.transfer.now may;
+      credit = credit-there hold grounded c.args.transfer.now may;
+    }
 
-pub returns-clause-added : goal.returns-clause-added
-returns-clause-added c = search rules
+pub store-requires-clause-at : goal.store-requires-clause-at
+store-requires-clause-at c =
+    let found = c.indices_of-indices.ensures in
+    rw (← c.self.view_is) (are-at c.self.invariant.consistent.hold c.args.transfer.now _ found.debit found.credit)
 
 pub store-requires-clause-may : goal.store-requires-clause-may
-store-requires-clause-may c = rw (← c.self.view_is) c.resolved_indices-indices.ensures.may
+store-requires-clause-may c =
+    rw c.indices_of-indices.ensures.pending (may-post c.requires.may c.requires.pending)

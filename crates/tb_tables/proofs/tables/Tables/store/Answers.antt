@@ -1,51 +1,62 @@
-use Rattle.std.proofs.Common.{length, arith, ap, sym, ◌∙◌, ◌≡◌, None, Ok}
-use Rattle.tb_tables.proofs.Words.{common_steps, has_pair, history_in, transfer_with, with_change, stamped}
-use Rattle.tb_tables.proofs.LookUps.{none-there}
-use Rattle.tb_tables.proofs.UndoList.{undoable-indexed, transfer-made}
+use Rattle.std.proofs.Common.{◌∙◌, ap, not, ◌&&◌}
+use Rattle.tb_tables.proofs.Words.{facts_of, its_pair, contents_in, stamped}
+use Rattle.tb_tables.proofs.LookUps.{is-done, isn't-done, told-new, transfers-length}
+use Rattle.tb_tables.proofs.StoredTransfers as stepping
+use Rattle.tb_tables.proofs.UndoList.{transfer-made, same-kept}
 use Rattle.tb_tables.proofs.tables.Tables.store.Goals as goal
 
-pub invariant_of-self-in_err-store : goal.invariant_of-self-in_err-store
-invariant_of-self-in_err-store c =
-    let o = c.self.inside in
-    rw (c.in_err-store.ensures.same (λ e. cc), c.reserve.ensures.items)
-    (undoable-indexed (has_pair o.maps.pairs) (has_pair c.store.new.self.pairs)
-    (length o.maps.facts.transfers) c.store.ensures.pairs o.changes.items o.maps.facts
-    (omega arith) c.self.invariant)
-
-pub invariant_of-self-then-not-branch : goal.invariant_of-self-then-not-branch
-invariant_of-self-then-not-branch c =
-    let o = c.self.inside in
-    rw (c.in_ok-store.ensures.same (λ e. let no = c.if-not-branch.true in cc), c.reserve.ensures.items)
-    (undoable-indexed (has_pair o.maps.pairs) (has_pair c.store.new.self.pairs)
-    (length o.maps.facts.transfers) c.store.ensures.pairs o.changes.items o.maps.facts
-    (omega arith) c.self.invariant)
-
-pub invariant_of-self-2 : goal.invariant_of-self-2
-invariant_of-self-2 c =
-    let o = c.self.inside in
-    let t = stamped c.args.timestamp c.args.event.now in
+pub apply-requires : goal.apply-requires
+apply-requires c =
     let r = rw (← c.self.view_is) at c.requires in
-    let none : transfer_with o.maps.facts t.id ≡ None = none-there (transfer_with o.maps.facts t.id)
-    (sym (sym c.if-not-branch.false ∙ c.in_ok-store.ensures.new)) in
-    rw (c.note.ensures, c.reserve.ensures.items) (transfer-made o.changes.items o.maps c.self.invariant
-    c.store.ensures.sound t c.args.indices r.at (r.may none) c.store.new.self
-    (c.in_ok-store.ensures.added (ap Ok c.if-not-branch.false)) c.store.ensures.pairs).0
+    let pushed = stepping.pushed (contents_in c.self.inside) c.self.invariant.consistent
+    (stamped c.args.timestamp c.args.event.now) c.args.indices r.at r.may c.push-added.ensures.new
+    (is-done _ c.push-added.result c.if-eq.ensures) c.push-added.ensures.added in
+    (c.args.timestamp, pushed.step, pushed.before)
 
-pub returns-clause-added : goal.returns-clause-added
-returns-clause-added c = λ _.
-    let o = c.self.inside in
-    let t = stamped c.args.timestamp c.args.event.now in
+pub invariant_of-self-then-eq : goal.invariant_of-self-then-eq
+invariant_of-self-then-eq c =
+    let old = contents_in c.self.inside in
     let r = rw (← c.self.view_is) at c.requires in
-    let none : transfer_with o.maps.facts t.id ≡ None = none-there (transfer_with o.maps.facts t.id)
-    (sym (sym c.if-not-branch.false ∙ c.in_ok-store.ensures.new)) in
-    let added = c.in_ok-store.ensures.added (ap Ok c.if-not-branch.false) in
-    rw (← c.self.view_is, c.note.ensures, c.reserve.ensures.items)
-    ((transfer-made o.changes.items o.maps c.self.invariant c.store.ensures.sound t c.args.indices r.at
-    (r.may none) c.store.new.self added c.store.ensures.pairs).1
-    ∙ ap (with_change (history_in o.changes.items o.maps.facts)) added)
+    let pushed = stepping.pushed old c.self.invariant.consistent
+    (stamped c.args.timestamp c.args.event.now) c.args.indices r.at r.may c.push-added.ensures.new
+    (is-done _ c.push-added.result c.if-eq.ensures) c.push-added.ensures.added in
+    let put = rw (c.len-index.ensures ∙ transfers-length c.self.invariant.consistent.hold) at
+    c.in_ok-insert_expiry.ensures.ok in
+    rw (c.push_reserved.ensures.items, c.reserve.ensures.items)
+    (transfer-made c.self.inside.changes.items old c.self.invariant pushed
+    (c.apply.ensures c.args.timestamp pushed.step pushed.before) put).0
 
-pub note-requires : goal.note-requires
-note-requires c = grind (arith, common_steps)
+pub returns-then-eq-clause-added : goal.returns-then-eq-clause-added
+returns-then-eq-clause-added c = λ _.
+    let old = contents_in c.self.inside in
+    let r = rw (← c.self.view_is) at c.requires in
+    let pushed = stepping.pushed old c.self.invariant.consistent
+    (stamped c.args.timestamp c.args.event.now) c.args.indices r.at r.may c.push-added.ensures.new
+    (is-done _ c.push-added.result c.if-eq.ensures) c.push-added.ensures.added in
+    let put = rw (c.len-index.ensures ∙ transfers-length c.self.invariant.consistent.hold) at
+    c.in_ok-insert_expiry.ensures.ok in
+    rw (← c.self.view_is, c.push_reserved.ensures.items, c.reserve.ensures.items)
+    (transfer-made c.self.inside.changes.items old c.self.invariant pushed
+    (c.apply.ensures c.args.timestamp pushed.step pushed.before) put).1
 
-pub store-requires-clause-at : goal.store-requires-clause-at
-store-requires-clause-at c = grind (arith, common_steps)
+pub invariant_of-self-else-eq : goal.invariant_of-self-else-eq
+invariant_of-self-else-eq c =
+    let old = contents_in c.self.inside in
+    let t = stamped c.args.timestamp c.args.event.now in
+    let index = c.len-index.ensures ∙ transfers-length c.self.invariant.consistent.hold in
+    let put = rw index at c.in_ok-insert_expiry.ensures.ok in
+    let taken = rw index at c.remove_expiry.ensures in
+    rw (c.push-added.ensures.same (isn't-done _ c.push-added.result c.if-eq.ensures), c.reserve.ensures.items)
+    (same-kept c.self.inside.changes.items old c.self.invariant
+    (λ m p. taken m p ∙ ap (λ b. not (its_pair (facts_of old) t m p) && b) (put m p)
+    ∙ stepping.refused old c.self.invariant.consistent t m p))
+
+pub returns-then-eq-clause-new : goal.returns-then-eq-clause-new
+returns-then-eq-clause-new c =
+    rw (← c.self.view_is) (rw (told-new c.self.invariant.consistent.hold c.args.event.now.id) at
+    c.push-added.ensures.new)
+
+pub returns-else-eq-clause-new : goal.returns-else-eq-clause-new
+returns-else-eq-clause-new c =
+    rw (← c.self.view_is) (rw (told-new c.self.invariant.consistent.hold c.args.event.now.id) at
+    c.push-added.ensures.new)

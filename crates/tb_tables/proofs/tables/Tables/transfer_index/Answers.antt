@@ -1,6 +1,7 @@
--- Found by the prover itself; on file since the check of an edit then costs less.
-use Rattle.std.proofs.Common.{rules}
+use Rattle.tb_tables.proofs.LookUps.{transfer-indexed_at}
 use Rattle.tb_tables.proofs.tables.Tables.transfer_index.Goals as goal
 
 pub returns : goal.returns
-returns c = search rules
+returns c =
+    rw (← c.self.view_is) (transfer-indexed_at c.self.invariant.consistent.hold c.args.id c.index_of.result
+    c.index_of.ensures)

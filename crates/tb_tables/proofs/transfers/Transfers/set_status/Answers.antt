@@ -5,13 +5,9 @@ use Rattle.tb_tables.proofs.transfers.Transfers.set_status.Goals as goal
 
 pub index_mut-requires : goal.index_mut-requires
 index_mut-requires c =
-    omega (
-      arith,
-      within c.self.inside.rows.entries c.self.inside.statuses.items c.args.index c.self.invariant
-          (rw (← c.self.view_is) at c.requires),
-      c.self.invariant,
-      c.self.inside.statuses.ok.0,
-    )
+    let there = rw (← c.self.view_is) at c.requires in
+    let inside = within c.self.inside.rows.entries c.self.inside.statuses.items c.args.index c.self.invariant there in
+    omega (arith, inside, c.self.invariant, c.self.inside.statuses.ok.0)
 
 pub pair_mut-stored-requires : goal.pair_mut-stored-requires
 pair_mut-stored-requires c =

@@ -4,14 +4,9 @@ use Rattle.tb_tables.proofs.transfers.Transfers.status.Goals as goal
 
 pub returns-in_err-index : goal.returns-in_err-index
 returns-in_err-index c =
-    rw (← c.self.view_is) (grind (
-      arith,
-      no-status-found c.args.id c.self.inside.rows.entries c.self.inside.statuses.items c.self.invariant,
-      c.in_err-index.ensures.index,
-      c.in_err-index.is,
-      c.in_err-index.was,
-      c.from_residual.ensures,
-    ))
+    let found = no-status-found c.args.id c.self.inside.rows.entries c.self.inside.statuses.items c.self.invariant in
+    let arm = c.in_err-index in
+    rw (← c.self.view_is) (grind (arith, found, arm.ensures.index, arm.is, arm.was, c.from_residual.ensures))
 
 pub returns : goal.returns
 returns c =

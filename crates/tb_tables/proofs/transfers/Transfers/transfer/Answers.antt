@@ -4,19 +4,11 @@ use Rattle.tb_tables.proofs.transfers.Transfers.transfer.Goals as goal
 
 pub returns-in_err-stored : goal.returns-in_err-stored
 returns-in_err-stored c =
-    rw (← c.self.view_is) (grind (
-      arith,
-      transfer-found c.args.id _ _ c.self.invariant,
-      c.in_err-stored.ensures.value,
-      c.in_err-stored.is,
-      c.from_residual.ensures,
-    ))
+    let found = transfer-found c.args.id _ _ c.self.invariant in
+    let none = c.from_residual.ensures in
+    rw (← c.self.view_is) (grind (arith, found, c.in_err-stored.ensures.value, c.in_err-stored.is, none))
 
 pub returns : goal.returns
 returns c =
-    rw (← c.self.view_is) (grind (
-      arith,
-      transfer-found c.args.id _ _ c.self.invariant,
-      c.in_ok-stored.ensures.value,
-      c.transfer.ensures,
-    ))
+    let found = transfer-found c.args.id _ _ c.self.invariant in
+    rw (← c.self.view_is) (grind (arith, found, c.in_ok-stored.ensures.value, c.transfer.ensures))

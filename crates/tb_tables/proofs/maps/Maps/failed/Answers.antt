@@ -1,6 +1,0 @@
--- Found by the prover itself; on file since the check of an edit then costs less.
-use Rattle.std.proofs.Common.{rules}
-use Rattle.tb_tables.proofs.maps.Maps.failed.Goals as goal
-
-pub returns : goal.returns
-returns c = search rules
