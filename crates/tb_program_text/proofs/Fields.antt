@@ -1,6 +1,6 @@
 -- A line spelled from the fields of an event adds the bytes that are written of it.
 use Rattle.std.proofs.Common.{◌≡◌, ℕ, zero, suc, ◌+◌, ◌-◌, ◌*◌, ◌/◌, ◌%◌, ◌^◌, ◌<◌, ◌≤◌, Bool, true, false, List, [], ◌∷◌, ◌++◌, length, take, drop, replicate, set, refl, sym, ap, ◌∙◌, arith, Some, Ok, Result, length-append, append_assoc, subst, lt-ltb}
-use Rattle.tb_program_text.proofs.Words.{◌==◌, ◌&&◌, All, map, codes, decimal, nat_le, nat_lt, slice_index, slice_index_or, is_some, not, list_all, byte_at, bytes_low_first, to_le_bytes, w128, drop-replicate, get_or-set_other, All-head, All-tail, list_all-append, and_parts, nat_tests, drop-append-add, take-append_seam, Fault, Draft, Layout, Keyword, Adds, SpelledAccountsAreLaidOut, SpelledTransfersAreLaidOut, SpelledIdsAreLaidOut, ParsedScript, may_stand, with_bytes, field, NamedNumber, IsOfItsSize, field_word, fields_line, line_of_words, named_of_account, named_of_transfer, ◌>>=◌}
+use Rattle.tb_program_text.proofs.Words.{◌==◌, ◌&&◌, All, map, codes, decimal, nat_le, nat_lt, slice_index_or, is_some, not, list_all, byte_at, bytes_low_first, to_le_bytes, w128, drop-replicate, get_or-set_other, All-head, All-tail, list_all-append, and_parts, nat_tests, drop-append-add, take-append_seam, Fault, Draft, Layout, Keyword, Adds, SpelledAccountsAreLaidOut, SpelledTransfersAreLaidOut, SpelledIdsAreLaidOut, ParsedScript, may_stand, with_bytes, field, NamedNumber, IsOfItsSize, field_word, fields_line, line_of_words, named_of_account, named_of_transfer, ◌>>=◌}
 use Rattle.std.proofs.Math.Nat.{div-div-eq-div-mul, div-one, pow-suc, pow-le-pow_right}
 use Rattle.tb_layout.specs.declared.account.Account.{Account}
 use Rattle.tb_layout.specs.declared.transfer.Transfer.{Transfer}
@@ -11,7 +11,7 @@ use Rattle.tb_program_text.specs.clauses.Keyword.{keyword_of}
 use Rattle.tb_program_text.specs.clauses.Script.{with_line}
 use Rattle.tb_program_text.specs.clauses.Event.{field_of, after_word, after_words, event_of}
 use Rattle.tb_program_text.proofs.Named.{sides_of_named}
-use Rattle.tb_program_text.proofs.Spelling.{is_word, is_word_byte, decimal_is_word, length-decimal, number_line, number_within-decimal, keyword_line}
+use Rattle.tb_program_text.proofs.Spelling.{is_word, is_word_byte, decimal_is_word, length-decimal, number_line, number_within-decimal, keyword_line, IsNamed, keyword_named}
 
 -- ---- bytes
 
@@ -96,54 +96,50 @@ NoneGivenFrom index given = (later : ℕ) → index ≤ later → slice_index_or
 fits : (size number : ℕ) → size ≤ 16 → number < 256 ^ size → number < 2 ^ 128
 fits size number small h = omega (arith, h, pow-le-pow_right {n = 256} (omega arith) small)
 
-one_field : (layout : Layout) (index size number : ℕ) (name front : List ℕ) (given : List Bool)
-    → IsFieldAt layout index (length front) size name →
-    number < 256 ^ size → slice_index_or given index false ≡ false → length front + size ≤ 128 →
-    after_word layout (drafted front given) (name ++ 61 ∷ decimal number)
-    ≡ Ok (drafted (front ++ bytes_of size number) (set given index true))
-unfolding after_word
-one_field layout index size number name front given is h unset room =
-    let small = fits size number (small_of is) h in
-    let tail : drop (length front + size) (front ++ replicate (128 - length front) 0)
-    ≡ replicate (128 - length (front ++ bytes_of size number)) 0 =
-    drop-append-add front (replicate (128 - length front) 0) size ∙ drop-replicate size (128 - length front) 0
-    ∙ ap (λ (count : ℕ). replicate count 0) (omega
-    (arith, length-append front (bytes_of size number), length-bytes_of size number)) in
-    rw (
-      sides_of_named name (decimal number) is.bare,
-      is.found,
-      unset,
-      number_within-decimal 0
-          (256 ^ size - 1) number (omega arith) (omega (arith, h)) small,
-    )
-    (rw (take-append_seam front (replicate (128 - length front) 0), lowest size number (small_of is), tail) refl)
+module _ (layout : Layout) where
+  one_field : {index : ℕ} (field : NamedNumber) (front : List ℕ) (given : List Bool)
+      → IsFieldAt layout index (length front) field.size field.name →
+      IsOfItsSize field → slice_index_or given index false ≡ false → length front + field.size ≤ 128 →
+      after_word layout (drafted front given) (field_word field)
+      ≡ Ok (drafted (front ++ bytes_of field.size field.number) (set given index true))
+  unfolding after_word
+  one_field field front given is h unset room =
+      let small = fits field.size field.number (small_of is) h in
+      let bytes = bytes_of field.size field.number in
+      let tail : drop (length front + field.size) (front ++ replicate (128 - length front) 0)
+      ≡ replicate (128 - length (front ++ bytes)) 0 =
+      drop-append-add front (replicate (128 - length front) 0) field.size ∙ drop-replicate field.size (128 - length front) 0
+      ∙ ap (λ (count : ℕ). replicate count 0) (omega
+      (arith, length-append front bytes, length-bytes_of field.size field.number)) in
+      rw (
+        sides_of_named field.name (decimal field.number) is.bare,
+        is.found,
+        unset,
+        number_within-decimal 0 (256 ^ field.size - 1) field.number (omega arith) (omega (arith, h)) small,
+      )
+      (rw (take-append_seam front (replicate (128 - length front) 0), lowest field.size field.number (small_of is), tail) refl)
 
-all_fields : (layout : Layout) (index : ℕ) (front : List ℕ) (given : List Bool) (fields : List NamedNumber)
-    → AreInTurn layout index (length front) fields →
-    All IsOfItsSize fields → NoneGivenFrom index given → length front + size_of_fields fields ≡ 128 →
-    bytes_after (after_words layout (drafted front given) (map field_word fields))
-    ≡ Ok (front ++ bytes_in_turn (map sized fields))
-unfolding after_words
-all_fields layout index front given [] turn h unset room =
-    let none : 128 - length front ≡ 0 = omega (arith, room) in
-    rw none refl
-all_fields layout index front given (field ∷ fields) turn h unset room =
-    let long : length (front ++ bytes_of field.size field.number)
-    ≡ length front + field.size =
-    omega (
-      arith,
-      length-append front (bytes_of field.size field.number),
-      length-bytes_of
-          field.size field.number,
-    ) in
-    let still : NoneGivenFrom (suc index) (set given index true) = λ later after.
-    get_or-set_other given index later true false (omega arith) ∙ unset later (omega arith) in
-    rw (one_field layout index field.size field.number field.name front given turn.0
-    (All-head IsOfItsSize field fields h) (unset index (omega arith)) (omega (arith, room)))
-    (all_fields layout (suc index) (front ++ bytes_of field.size field.number) (set given index true) fields
-    (subst (λ (offset : ℕ). AreInTurn layout (suc index) offset fields) (sym long) turn.1)
-    (All-tail IsOfItsSize field fields h) still (omega (arith, long, room))
-    ∙ ap Ok (append_assoc front (bytes_of field.size field.number) (bytes_in_turn (map sized fields))))
+  all_fields : (index : ℕ) (front : List ℕ) (given : List Bool) (fields : List NamedNumber)
+      → AreInTurn layout index (length front) fields →
+      All IsOfItsSize fields → NoneGivenFrom index given → length front + size_of_fields fields ≡ 128 →
+      bytes_after (after_words layout (drafted front given) (map field_word fields))
+      ≡ Ok (front ++ bytes_in_turn (map sized fields))
+  unfolding after_words
+  all_fields index front given [] turn h unset room =
+      let none : 128 - length front ≡ 0 = omega (arith, room) in
+      rw none refl
+  all_fields index front given (field ∷ fields) turn h unset room =
+      let bytes = bytes_of field.size field.number in
+      let long : length (front ++ bytes) ≡ length front + field.size =
+      omega (arith, length-append front bytes, length-bytes_of field.size field.number) in
+      let still : NoneGivenFrom (suc index) (set given index true) = λ later after.
+      get_or-set_other given index later true false (omega arith) ∙ unset later (omega arith) in
+      rw (one_field field front given turn.0
+      (All-head IsOfItsSize field fields h) (unset index (omega arith)) (omega (arith, room)))
+      (all_fields (suc index) (front ++ bytes) (set given index true) fields
+      (subst (λ (offset : ℕ). AreInTurn layout (suc index) offset fields) (sym long) turn.1)
+      (All-tail IsOfItsSize field fields h) still (omega (arith, long, room))
+      ∙ ap Ok (append_assoc front bytes (bytes_in_turn (map sized fields))))
 
 -- ---- lines
 
@@ -162,56 +158,56 @@ record AreGoodWords (keyword : List ℕ) (fields : List NamedNumber) : Type 0 wh
   words : list_all is_word (map field_word fields) ≡ true
   short : length (line_of_words (keyword ∷ map field_word fields)) ≤ length keyword + 65 * length fields
 
-good_words : (layout : Layout) (index offset : ℕ) (keyword : List ℕ) (fields : List NamedNumber)
-    → AreInTurn layout index offset fields → All IsOfItsSize fields →
-    AreGoodWords keyword fields
-good_words layout index offset keyword [] turn h = record { words = refl; short = omega arith }
-good_words layout index offset keyword (field ∷ fields) turn h =
-    let small = fits field.size field.number (small_of turn.0) (All-head IsOfItsSize field fields h) in
-    let rest = good_words layout (suc index) (offset + field.size) (field_word field) fields turn.1
-    (All-tail IsOfItsSize field fields h) in
-    record {
-      words = rw (field_is_word field.name field.number (word_of turn.0) small, rest.words) refl;
-      short = omega (
-        arith,
-        short_of turn.0,
-        rest.short,
-        length-decimal field.number small,
-        length-append field.name (61 ∷ decimal field.number),
-        length-append keyword (32 ∷ line_of_words (map field_word (field ∷ fields))),
-      );
-    }
-
 none_given : (count later : ℕ) → slice_index_or (replicate count false) later false ≡ false
 none_given zero later = refl
 none_given (suc count) zero = refl
 none_given (suc count) (suc later) = none_given count later
 
-event_is_laid_out : (layout : Layout) (fields : List NamedNumber) → AreInTurn layout 0 0 fields
-    → All IsOfItsSize fields → size_of_fields fields ≡ 128 →
-    event_of layout (map field_word fields) ≡ Ok (bytes_in_turn (map sized fields))
-unfolding event_of
-event_is_laid_out layout fields turn h size =
-    all_fields layout 0 [] (replicate 13 false) fields turn h
-    (λ later after. none_given 13 later) (omega (arith, size))
-
 -- the line of a keyword whose words make an event
 abbrev MakesEvents : Keyword → Layout → Type 0
 MakesEvents keyword layout =
-    (parsed : ParsedScript) (words : List (List ℕ)) → with_line parsed keyword words
-    ≡ (event_of layout words >>= λ bytes. Ok (with_bytes parsed bytes))
+    (parsed : ParsedScript) → (may_stand parsed keyword ≡ is_some parsed.packet)
+    × ((words : List (List ℕ)) → with_line parsed keyword words
+    ≡ (event_of layout words >>= λ bytes. Ok (with_bytes parsed bytes)))
 
-line_adds : (layout : Layout) (keyword : Keyword) (name : List ℕ) (fields : List NamedNumber)
-    → AreInTurn layout 0 0 fields → All IsOfItsSize fields →
-    size_of_fields fields ≡ 128 → length fields ≡ 13 → MakesEvents keyword layout → is_word name ≡ true
-    → length name ≤ 16 → (slice_index name 0 == 35) ≡ false →
-    keyword_of name ≡ Some keyword → ((parsed : ParsedScript) → may_stand parsed keyword ≡ is_some parsed.packet)
-    → Adds (fields_line name fields) (bytes_in_turn (map sized fields))
-line_adds layout keyword name fields turn h size count makes good short mark is index parsed begun =
-    let words = good_words layout 0 0 name fields turn h in
-    keyword_line parsed keyword name (map field_word fields) (rw (good, words.words) refl)
-    (omega (arith, words.short, short, count)) mark is (index parsed ∙ begun)
-    ∙ makes parsed (map field_word fields) ∙ rw (event_is_laid_out layout fields turn h size) refl
+-- the fields of a whole event
+abbrev AreWhole : Layout → List NamedNumber → Type 0
+AreWhole layout fields = AreInTurn layout 0 0 fields × (size_of_fields fields ≡ 128) × (length fields ≡ 13)
+
+module _ (layout : Layout) where
+  good_words : (index offset : ℕ) (keyword : List ℕ) (fields : List NamedNumber)
+      → AreInTurn layout index offset fields → All IsOfItsSize fields → AreGoodWords keyword fields
+  good_words index offset keyword [] turn h = record { words = refl; short = omega arith }
+  good_words index offset keyword (field ∷ fields) turn h =
+      let small = fits field.size field.number (small_of turn.0) (All-head IsOfItsSize field fields h) in
+      let rest = good_words (suc index) (offset + field.size) (field_word field) fields turn.1
+      (All-tail IsOfItsSize field fields h) in
+      record {
+        words = rw (field_is_word field.name field.number (word_of turn.0) small, rest.words) refl;
+        short = omega (
+          arith,
+          short_of turn.0,
+          rest.short,
+          length-decimal field.number small,
+          length-append field.name (61 ∷ decimal field.number),
+          length-append keyword (32 ∷ line_of_words (map field_word (field ∷ fields))),
+        );
+      }
+
+  event_is_laid_out : (fields : List NamedNumber) → AreWhole layout fields → All IsOfItsSize fields
+      → event_of layout (map field_word fields) ≡ Ok (bytes_in_turn (map sized fields))
+  unfolding event_of
+  event_is_laid_out fields whole h = all_fields layout 0 [] (replicate 13 false) fields whole.0 h
+      (λ later after. none_given 13 later) (omega (arith, whole.1))
+
+  line_adds : {keyword : Keyword} (name : List ℕ) (fields : List NamedNumber) → AreWhole layout fields
+      → All IsOfItsSize fields → MakesEvents keyword layout → IsNamed keyword name
+      → Adds (fields_line name fields) (bytes_in_turn (map sized fields))
+  line_adds name fields whole h makes named = λ parsed begun.
+      let words = good_words 0 0 name fields whole.0 h in
+      (keyword_line named parsed (map field_word fields) words.words (omega (arith, words.short, named.short, whole.2))
+      ((makes parsed).0 ∙ begun)
+      ((makes parsed).1 (map field_word fields) ∙ rw (event_is_laid_out fields whole h) refl)).read
 
 at : {layout : Layout} {index offset size : ℕ} {name : List ℕ} → field_of layout name ≡ Some (field index offset size) →
     list_all (λ byte. not (byte == 61)) name ≡ true
@@ -226,53 +222,33 @@ first ⨾ others = (first, others)
 accounts_in_turn : (account : Account) → AreInTurn layout.Account 0 0 (named_of_account account)
 unfolding field_of
 accounts_in_turn account =
-    at refl refl refl ⨾
-    at refl refl refl ⨾
-    at refl refl refl ⨾
-    at refl refl refl ⨾
-    at refl refl refl ⨾
-    at refl refl refl ⨾
-    at refl refl refl ⨾
-    at refl refl refl ⨾
-    at refl refl refl ⨾
-    at refl refl refl ⨾
-    at refl refl refl ⨾
-    at refl refl refl ⨾
-    at refl refl refl ⨾ tt
+    at refl refl refl ⨾ at refl refl refl ⨾ at refl refl refl ⨾ at refl refl refl ⨾ at refl refl refl ⨾
+    at refl refl refl ⨾ at refl refl refl ⨾ at refl refl refl ⨾ at refl refl refl ⨾ at refl refl refl ⨾
+    at refl refl refl ⨾ at refl refl refl ⨾ at refl refl refl ⨾ tt
 
 transfers_in_turn : (transfer : Transfer) → AreInTurn layout.Transfer 0 0 (named_of_transfer transfer)
 unfolding field_of
 transfers_in_turn transfer =
-    at refl refl refl ⨾
-    at refl refl refl ⨾
-    at refl refl refl ⨾
-    at refl refl refl ⨾
-    at refl refl refl ⨾
-    at refl refl refl ⨾
-    at refl refl refl ⨾
-    at refl refl refl ⨾
-    at refl refl refl ⨾
-    at refl refl refl ⨾
-    at refl refl refl ⨾
-    at refl refl refl ⨾
-    at refl refl refl ⨾ tt
+    at refl refl refl ⨾ at refl refl refl ⨾ at refl refl refl ⨾ at refl refl refl ⨾ at refl refl refl ⨾
+    at refl refl refl ⨾ at refl refl refl ⨾ at refl refl refl ⨾ at refl refl refl ⨾ at refl refl refl ⨾
+    at refl refl refl ⨾ at refl refl refl ⨾ at refl refl refl ⨾ tt
 
 pub accounts_are_laid_out : SpelledAccountsAreLaidOut
 unfolding keyword_of with_line
 accounts_are_laid_out account h =
-    line_adds layout.Account word.Account (codes "account") (named_of_account account)
-    (accounts_in_turn account) h refl refl (λ parsed words. refl) refl (omega arith) refl refl (λ parsed. refl)
+    line_adds layout.Account (codes "account") (named_of_account account) (accounts_in_turn account, refl, refl) h
+    (λ parsed. (refl, λ words. refl)) (keyword_named word.Account (codes "account") refl (omega arith) refl refl)
 
 pub transfers_are_laid_out : SpelledTransfersAreLaidOut
 unfolding keyword_of with_line
 transfers_are_laid_out transfer h =
-    line_adds layout.Transfer word.Transfer (codes "transfer") (named_of_transfer transfer)
-    (transfers_in_turn transfer) h refl refl (λ parsed words. refl) refl (omega arith) refl refl (λ parsed. refl)
+    line_adds layout.Transfer (codes "transfer") (named_of_transfer transfer) (transfers_in_turn transfer, refl, refl) h
+    (λ parsed. (refl, λ words. refl)) (keyword_named word.Transfer (codes "transfer") refl (omega arith) refl refl)
 
 pub ids_are_laid_out : SpelledIdsAreLaidOut
 unfolding keyword_of with_line
 ids_are_laid_out id h parsed begun =
     let all : to_le_bytes w128 id ≡ bytes_of 16 id = lowest 16 id (omega arith) in
-    let line = number_line parsed (λ n. with_bytes parsed (to_le_bytes w128 n)) word.Id (codes "id") 0 (2 ^ 128 - 1) id
-    refl (omega arith) refl refl begun (omega arith) (λ text. refl) (omega arith) (omega (arith, h)) in
+    let line = number_line (keyword_named word.Id (codes "id") refl (omega arith) refl refl) {parsed = parsed} 0 (2 ^ 128 - 1)
+    (λ n. with_bytes parsed (to_le_bytes w128 n)) id (begun, omega arith, λ text. refl) (omega arith) (omega (arith, h)) in
     line.read ∙ rw all refl

@@ -166,10 +166,11 @@ after_none layout draft line none = rw (empty_words line none) refl
 -- ---- some rows of a table
 
 told_by_row : (table rows : List (List ℕ × Field)) (name number : List ℕ) (row : Option Field)
-    (both : Field × List ℕ) → row ≡ look_up name rows → AreOwn table rows →
+    {both : Field × List ℕ} → row ≡ look_up name rows → AreOwn table rows →
     (found row >>= λ f. Ok (f, number)) ≡ Ok both → (found (look_up name table) >>= λ f. Ok (f, number)) ≡ Ok both
-told_by_row table rows name number None both e own h = absurd (search (rules, h))
-told_by_row table rows name number (Some f) both e own h = rw (found_row (λ word field. look_up word table ≡ Some field) rows name f own (sym e)) h
+told_by_row table rows name number None e own h = absurd (search (rules, h))
+told_by_row table rows name number (Some f) e own h =
+    rw (found_row (λ word field. look_up word table ≡ Some field) rows name f own (sym e)) h
 
 told_by_parts : (table rows : List (List ℕ × Field)) (sides : Result (List ℕ × List ℕ) Fault)
     (both : Field × List ℕ) → AreOwn table rows →
@@ -177,7 +178,7 @@ told_by_parts : (table rows : List (List ℕ × Field)) (sides : Result (List �
     → (sides >>= λ s. found (look_up s.0 table) >>= λ f. Ok (f, s.1)) ≡ Ok both
 told_by_parts table rows (Err fault) both own h = h
 told_by_parts table rows (Ok sides) both own h =
-    told_by_row table rows sides.0 sides.1 (look_up sides.0 rows) both refl own h
+    told_by_row table rows sides.0 sides.1 (look_up sides.0 rows) refl own h
 
 -- rows from an index on are rows of the same table
 pub rows_from : (layout : Layout) (rows : List (Bor (List ℕ) × Field)) (index size : ℕ) → size ≡ length rows

@@ -118,15 +118,16 @@ says_both parsed between next front back first second = record {
       ∙ second.read (number + length front);
 }
 
--- a line that begins with a keyword in its place
-pub keyword_line : (parsed : ParsedScript) (keyword : Keyword) (name : List ℕ) (words : List (List ℕ))
-    → list_all is_word (name ∷ words) ≡ true → length (line_of_words (name ∷ words)) ≤ 65536 →
-    (slice_index name 0 == 35) ≡ false → keyword_of name ≡ Some keyword → may_stand parsed keyword ≡ true
-    → after_line parsed (line_of_words (name ∷ words)) ≡ with_line parsed keyword words
-unfolding after_line
-keyword_line parsed keyword name words good short mark is index =
-    rw (le-ltb 65536 (length (line_of_words (name ∷ words))) short, is_text-line_of_words (name ∷ words) good)
-    (ap (with_words parsed) (words_of-line_of_words (name ∷ words) good) ∙ rw (mark, is, index) refl)
+-- a keyword and its name: a short word that begins no comment
+pub record IsNamed (keyword : Keyword) (name : List ℕ) : Type 0 where
+  pub word : is_word name ≡ true
+  pub short : length name ≤ 16
+  pub mark : (slice_index name 0 == 35) ≡ false
+  pub is : keyword_of name ≡ Some keyword
+
+pub keyword_named : (keyword : Keyword) (name : List ℕ) → is_word name ≡ true → length name ≤ 16
+    → (slice_index name 0 == 35) ≡ false → keyword_of name ≡ Some keyword → IsNamed keyword name
+keyword_named keyword name word short mark is = record { word = word; short = short; mark = mark; is = is }
 
 -- ---- numbers
 
@@ -169,22 +170,45 @@ number_within-decimal low high n above below h =
       is.value,
     ) (grind (arith, nat_tests))
 
--- a line of a keyword in its place and a number in its bounds
-pub number_line : (parsed : ParsedScript) (to : ℕ → ParsedScript) (keyword : Keyword) (name : List ℕ) (low high n : ℕ)
-    → is_word name ≡ true → length name ≤ 16 → (slice_index name 0 == 35) ≡ false → keyword_of name ≡ Some keyword
-    → may_stand parsed keyword ≡ true → high < 2 ^ 128 →
-    ((text : List ℕ) → with_line parsed keyword (text ∷ []) ≡ (number_within low high text >>= λ n. Ok (to n)))
-    → low ≤ n → n ≤ high → SaysLine parsed (line_of_words (name ∷ decimal n ∷ [])) (to n)
-number_line parsed to keyword name low high n good short mark is index fits makes above below =
-    let small : n < 2 ^ 128 = omega (arith, fits, below) in
-    let words : list_all is_word (name ∷ decimal n ∷ []) ≡ true = rw (good, decimal_is_word n small) refl in
-    let count : length (line_of_words (name ∷ decimal n ∷ []))
-    ≤ 65536 = omega (arith, short, length-append name (32 ∷ decimal n), length-decimal n small) in
-    record {
-      text = is_text-line_of_words (name ∷ decimal n ∷ []) words;
-      read = keyword_line parsed keyword name (decimal n ∷ []) words count mark is index ∙ makes (decimal n)
-          ∙ rw (number_within-decimal low high n above below small) refl;
-    }
+-- ---- lines that begin with a keyword
+
+-- a line of the keyword may stand here, and its number within bounds leads to a state
+abbrev TakesNumber : ParsedScript → Keyword → ℕ → ℕ → (ℕ → ParsedScript) → Type 0
+TakesNumber parsed keyword low high to =
+    (may_stand parsed keyword ≡ true) × (high < 2 ^ 128)
+    × ((text : List ℕ) → with_line parsed keyword (text ∷ []) ≡ (number_within low high text >>= λ n. Ok (to n)))
+
+module _ {keyword : Keyword} {name : List ℕ} (named : IsNamed keyword name) where
+  pub keyword_line : (parsed : ParsedScript) {next : ParsedScript} (words : List (List ℕ)) → list_all is_word words ≡ true
+      → length (line_of_words (name ∷ words)) ≤ 65536 → may_stand parsed keyword ≡ true
+      → with_line parsed keyword words ≡ Ok next → SaysLine parsed (line_of_words (name ∷ words)) next
+  unfolding after_line
+  keyword_line parsed words good short stands says =
+      let all : list_all is_word (name ∷ words) ≡ true = rw (named.word, good) refl in
+      record {
+        text = is_text-line_of_words (name ∷ words) all;
+        read = rw (le-ltb 65536 (length (line_of_words (name ∷ words))) short, is_text-line_of_words (name ∷ words) all)
+            (ap (with_words parsed) (words_of-line_of_words (name ∷ words) all)
+            ∙ rw (named.mark, named.is, stands) says);
+      }
+
+  -- of a number in its bounds
+  pub number_line : {parsed : ParsedScript} (low high : ℕ) (to : ℕ → ParsedScript) (n : ℕ)
+      → TakesNumber parsed keyword low high to → low ≤ n → n ≤ high
+      → SaysLine parsed (line_of_words (name ∷ decimal n ∷ [])) (to n)
+  number_line low high to n takes above below =
+      let small : n < 2 ^ 128 = omega (arith, takes.1, below) in
+      keyword_line _ (decimal n ∷ []) (rw (decimal_is_word n small) refl)
+      (omega (arith, named.short, length-append name (32 ∷ decimal n), length-decimal n small)) takes.0
+      (takes.2 (decimal n) ∙ rw (number_within-decimal low high n above below small) refl)
+
+  -- of a setting, if it is given
+  says_setting : (low high : ℕ) (to : Option ℕ → ParsedScript) (setting : Option ℕ)
+      → TakesNumber (to None) keyword low high (λ n. to (Some n)) → IsWithin low high setting
+      → Says (to None) (setting_lines name setting) (to setting)
+  says_setting low high to None takes within = says_nothing (to None)
+  says_setting low high to (Some n) takes within = says_line (to None) (to (Some n)) _
+      (number_line low high (λ m. to (Some m)) n takes within.0 within.1)
 
 -- ---- settings
 
@@ -196,31 +220,20 @@ given clock limit capacity credit submitters = record {
   shut = false;
 }
 
--- a setting's line, if it is given
-says_setting : (to : Option ℕ → ParsedScript) (keyword : Keyword) (name : List ℕ) (low high : ℕ) (setting : Option ℕ)
-    → is_word name ≡ true → length name ≤ 16 → (slice_index name 0 == 35) ≡ false → keyword_of name ≡ Some keyword
-    → may_stand (to None) keyword ≡ true → high < 2 ^ 128 →
-    ((text : List ℕ) → with_line (to None) keyword (text ∷ []) ≡ (number_within low high text >>= λ n. Ok (to (Some n))))
-    → IsWithin low high setting → Says (to None) (setting_lines name setting) (to setting)
-says_setting to keyword name low high None good short mark is index fits makes h = says_nothing (to None)
-says_setting to keyword name low high (Some n) good short mark is index fits makes h =
-    says_line (to None) (to (Some n)) _
-    (number_line (to None) (λ n. to (Some n)) keyword name low high n good short mark is index fits makes h.0 h.1)
-
 says_settings : (s : Settings) → CanBeSet s → Says nothing_parsed (settings_lines s)
     (given s.clock s.limit s.capacity s.credit s.submitters)
 unfolding with_line keyword_of
 says_settings s h =
-    says_both _ _ _ _ _ (says_setting (λ clock. given clock None None None None) word.Clock (codes "clock")
-    0 clock_max s.clock refl (omega arith) refl refl refl (omega arith) (λ text. refl) h.clock)
-    (says_both _ _ _ _ _ (says_setting (λ limit. given s.clock limit None None None) word.Limit (codes "limit")
-    1 batch_max s.limit refl (omega arith) refl refl refl (omega arith) (λ text. refl) h.limit)
-    (says_both _ _ _ _ _ (says_setting (λ capacity. given s.clock s.limit capacity None None) word.Capacity (codes "capacity")
-    1 capacity_max s.capacity refl (omega arith) refl refl refl (omega arith) (λ text. refl) h.capacity)
-    (says_both _ _ _ _ _ (says_setting (λ credit. given s.clock s.limit s.capacity credit None) word.Credit (codes "credit")
-    1 capacity_max s.credit refl (omega arith) refl refl refl (omega arith) (λ text. refl) h.credit)
-    (says_setting (λ submitters. given s.clock s.limit s.capacity s.credit submitters) word.Submitters (codes "submitters")
-    1 submitters_max s.submitters refl (omega arith) refl refl refl (omega arith) (λ text. refl) h.submitters))))
+    says_both _ _ _ _ _ (says_setting (keyword_named word.Clock (codes "clock") refl (omega arith) refl refl) 0 clock_max
+    (λ clock. given clock None None None None) s.clock (refl, omega arith, λ text. refl) h.clock)
+    (says_both _ _ _ _ _ (says_setting (keyword_named word.Limit (codes "limit") refl (omega arith) refl refl) 1 batch_max
+    (λ limit. given s.clock limit None None None) s.limit (refl, omega arith, λ text. refl) h.limit)
+    (says_both _ _ _ _ _ (says_setting (keyword_named word.Capacity (codes "capacity") refl (omega arith) refl refl) 1 capacity_max
+    (λ capacity. given s.clock s.limit capacity None None) s.capacity (refl, omega arith, λ text. refl) h.capacity)
+    (says_both _ _ _ _ _ (says_setting (keyword_named word.Credit (codes "credit") refl (omega arith) refl refl) 1 capacity_max
+    (λ credit. given s.clock s.limit s.capacity credit None) s.credit (refl, omega arith, λ text. refl) h.credit)
+    (says_setting (keyword_named word.Submitters (codes "submitters") refl (omega arith) refl refl) 1 submitters_max
+    (λ submitters. given s.clock s.limit s.capacity s.credit submitters) s.submitters (refl, omega arith, λ text. refl) h.submitters))))
 
 -- ---- packets
 
@@ -255,12 +268,8 @@ says_byte : (parsed : ParsedScript) (submitter : ℕ) (packet : packets.Packet) 
     (adding parsed submitter (record packet { bytes = packet.bytes ++ byte ∷ [] }))
 unfolding with_line keyword_of
 says_byte parsed submitter packet byte h =
-    let words : list_all is_word (codes "hex" ∷ encode_lower (byte ∷ []) ∷ []) ≡ true = rw (encoded_is_word byte h) refl in
-    record {
-      text = is_text-line_of_words (codes "hex" ∷ encode_lower (byte ∷ []) ∷ []) words;
-      read = keyword_line (adding parsed submitter packet) word.Hex (codes "hex") (encode_lower (byte ∷ []) ∷ [])
-          words (omega (arith, length-encoded byte)) refl refl refl ∙ rw (one_byte byte h) refl;
-    }
+    keyword_line (keyword_named word.Hex (codes "hex") refl (omega arith) refl refl) (adding parsed submitter packet)
+    (encode_lower (byte ∷ []) ∷ []) (rw (encoded_is_word byte h) refl) (omega (arith, length-encoded byte)) refl (rw (one_byte byte h) refl)
 
 says_bytes : (parsed : ParsedScript) (submitter : ℕ) (packet : packets.Packet) (bytes : List ℕ)
     → All (λ byte. byte < 256) bytes →
@@ -277,9 +286,6 @@ says_bytes parsed submitter packet (byte ∷ bytes) h =
     (append_assoc packet.bytes (byte ∷ []) bytes)
     (says_bytes parsed submitter more bytes (All-tail (λ b. b < 256) byte bytes h)))
 
-abbrev packet_words : ℕ → packets.Packet → List (List ℕ)
-packet_words submitter packet = codes "packet" ∷ decimal submitter ∷ decimal packet.operation ∷ []
-
 -- a packet's line begins the packet, and those of its bytes add them
 says_packet : (parsed : ParsedScript) (submitter : ℕ) (packet : packets.Packet) → submitters_of parsed.settings ≤ submitters_max
     → CanBeSubmitted (submitters_of parsed.settings) submitter packet →
@@ -289,42 +295,37 @@ says_packet parsed submitter packet few h =
     let empty = record packet { bytes = [] } in
     let first : submitter < 2 ^ 128 = omega (arith, h.known) in
     let second : packet.operation < 2 ^ 128 = omega (arith, h.operation) in
-    let words : list_all is_word (packet_words submitter packet) ≡ true =
-    rw (decimal_is_word submitter first, decimal_is_word packet.operation second) refl in
-    let short : length (line_of_words (packet_words submitter packet)) ≤ 65536 = omega (
+    let short : length (line_of_words (codes "packet" ∷ decimal submitter ∷ decimal packet.operation ∷ [])) ≤ 65536 = omega (
       arith,
       length-append (decimal submitter) (32 ∷ decimal packet.operation),
       length-decimal submitter first,
       length-decimal packet.operation second,
     ) in
-    says_more parsed (adding parsed submitter empty) (adding parsed submitter packet) _ (map byte_line packet.bytes) (record {
-      text = is_text-line_of_words (packet_words submitter packet) words;
-      read = keyword_line parsed word.Packet (codes "packet") (decimal submitter ∷ decimal packet.operation ∷ [])
-          words short refl refl refl
-          ∙ rw (
-            number_within-decimal 0 (submitters_of parsed.settings - 1) submitter (omega arith) (omega (arith, h.known)) first,
-            number_within-decimal 0 255 packet.operation (omega arith) (omega (arith, h.operation)) second,
-            h.user,
-          ) refl;
-    }) (says_bytes parsed submitter empty packet.bytes h.bytes)
+    says_more parsed (adding parsed submitter empty) (adding parsed submitter packet) _ (map byte_line packet.bytes)
+    (keyword_line (keyword_named word.Packet (codes "packet") refl (omega arith) refl refl) parsed
+    (decimal submitter ∷ decimal packet.operation ∷ []) (rw (decimal_is_word submitter first, decimal_is_word packet.operation second) refl) short refl
+    (rw (
+      number_within-decimal 0 (submitters_of parsed.settings - 1) submitter (omega arith) (omega (arith, h.known)) first,
+      number_within-decimal 0 255 packet.operation (omega arith) (omega (arith, h.operation)) second,
+      h.user,
+    ) refl))
+    (says_bytes parsed submitter empty packet.bytes h.bytes)
 
 -- a pulse's line says its pulse
 says_pulse : (parsed : ParsedScript) (moment : ℕ) → parsed.shut ≡ false → moment < 2 ^ 64
     → Says parsed (item_lines (Pulse moment)) (with_pulse parsed moment)
 unfolding with_line keyword_of
 says_pulse parsed moment unshut small =
-    says_line parsed (with_pulse parsed moment) _ (number_line parsed (with_pulse parsed) word.Pulse (codes "pulse")
-    0 (2 ^ 64 - 1) moment refl (omega arith) refl refl (rw unshut refl) (omega arith) (λ text. refl)
+    says_line parsed (with_pulse parsed moment) _
+    (number_line (keyword_named word.Pulse (codes "pulse") refl (omega arith) refl refl) 0 (2 ^ 64 - 1) (with_pulse parsed) moment (rw unshut refl, omega arith, λ text. refl)
     (omega arith) (omega (arith, small)))
 
 -- the line of the Close says it
 says_close : (parsed : ParsedScript) → parsed.shut ≡ false → Says parsed (item_lines Shut) (with_close parsed)
 unfolding with_line keyword_of
 says_close parsed unshut =
-    says_line parsed (with_close parsed) _ (record {
-      text = refl;
-      read = keyword_line parsed word.Shut (codes "shut") [] refl (omega arith) refl refl (rw unshut refl);
-    })
+    says_line parsed (with_close parsed) _
+    (keyword_line (keyword_named word.Shut (codes "shut") refl (omega arith) refl refl) parsed [] refl (omega arith) (rw unshut refl) refl)
 
 -- one item after those that were said
 abbrev with_item : ParsedScript → ScriptItem → ParsedScript

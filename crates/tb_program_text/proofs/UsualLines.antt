@@ -1,6 +1,6 @@
 -- Lines without fault are text, and what they say.
 use Rattle.std.proofs.Common.{◌≡◌, ℕ, ◌+◌, ◌<◌, ◌≤◌, Bool, true, false, cond, not, List, [], ◌∷◌, length, ◌++◌, take, drop, refl, sym, ap, ◌∙◌, arith, rules, inl, inr, Some, None, Option, Ok, Err, Result, suc, lt-ltb, le-ltb, le-leb, take-append-drop}
-use Rattle.tb_program_text.proofs.Words.{◌==◌, ◌&&◌, IfOk, codes, is_some, map, nat_le, slice_index, slice_index_or, after_first, before_first, list_all, onto_first, position_or_len, slice_split, is_ascii_digit, common_steps, list_all-append, and_parts, cases_lt, take-append_seam, drop-append_seam, Field, Draft, Layout, Account, Transfer, Fault, Keyword, blank, fields_of, greatest, new_field, sides_of, with_number, number_within, within, ParsedScript, is_text, line_max, may_stand, packet_numbers, with_bytes, with_event, with_words, ◌>>=◌, after_first_line, first_line}
+use Rattle.tb_program_text.proofs.Words.{◌==◌, ◌&&◌, IfOk, codes, is_some, map, nat_le, slice_index_or, after_first, before_first, list_all, onto_first, position_or_len, slice_split, is_ascii_digit, common_steps, list_all-append, and_parts, cases_lt, take-append_seam, drop-append_seam, Field, Draft, Layout, Account, Transfer, Fault, Keyword, blank, fields_of, greatest, new_field, sides_of, with_number, number_within, within, ParsedScript, is_text, line_max, may_stand, packet_numbers, with_bytes, with_event, with_words, ◌>>=◌, after_first_line, first_line}
 use Rattle.std.specs.Option.{MatchOption}
 use Rattle.tb_program_text.specs.declared.fault.Fault.TheVariants.{BadField, LineTooLong}
 use Rattle.tb_program_text.specs.declared.keyword.Keyword.TheVariants as word
@@ -11,6 +11,7 @@ use Rattle.tb_program_text.specs.clauses.Script.{after_line, with_line}
 use Rattle.tb_program_text.specs.clauses.Text.{words_of}
 use Rattle.tb_program_text.proofs.FirstLines.{begins_line, found_after, has_no_end}
 use Rattle.tb_program_text.proofs.Named.{parts_of}
+use Rattle.tb_program_text.proofs.Spelling.{IsNamed, keyword_named}
 use Rattle.tb_program_text.proofs.Tables.{found_row}
 use Rattle.tb_program_text.proofs.Texts.{all-implied, kept, line_end, list_all-implied, some_words, word_end, words_first, words_from_space}
 
@@ -152,19 +153,19 @@ word_is_text : (layout : Layout) (draft next : Draft) (word : List ℕ) → afte
 unfolding after_word
 word_is_text layout draft next word e = word_by_sides layout draft next word (sides_of word) refl e
 
-event_step : (layout : Layout) (draft next : Draft) (word : List ℕ) (words : List (List ℕ)) (r : Result Draft Fault)
+event_step : (layout : Layout) (draft : Draft) {next : Draft} (word : List ℕ) (words : List (List ℕ)) (r : Result Draft Fault)
     → after_word layout draft word ≡ r → (r >>= λ d. after_words layout d words) ≡ Ok next
     → ((d : Draft) → after_words layout d words ≡ Ok next → list_all is_text words ≡ true)
     → list_all is_text (word ∷ words) ≡ true
-event_step layout draft next word words (Err fault) is e later = absurd (search (rules, e))
-event_step layout draft next word words (Ok d) is e later = rw (word_is_text layout draft d word is, later d e) refl
+event_step layout draft word words (Err fault) is e later = absurd (search (rules, e))
+event_step layout draft word words (Ok d) is e later = rw (word_is_text layout draft d word is, later d e) refl
 
 pub event_is_text : (layout : Layout) (draft next : Draft) (words : List (List ℕ)) → after_words layout draft words ≡ Ok next
     → list_all is_text words ≡ true
 unfolding after_words
 event_is_text layout draft next [] e = refl
 event_is_text layout draft next (word ∷ words) e =
-    event_step layout draft next word words (after_word layout draft word) refl e
+    event_step layout draft word words (after_word layout draft word) refl e
     (λ d later. event_is_text layout d next words later)
 
 -- ---- numbers
@@ -213,16 +214,16 @@ keyword_first text name rest none bare some e =
     }
 
 -- such a line, if its words are text and in their place
-pub usual_line : (parsed next : ParsedScript) (text name rest : List ℕ) (keyword : Keyword) → KeywordFirst text name rest →
-    length (first_line text) ≤ line_max → is_text name ≡ true → is_text (first_line rest) ≡ true →
-    (slice_index name 0 == 35) ≡ false → keyword_of name ≡ Some keyword → may_stand parsed keyword ≡ true
+usual_line : (parsed : ParsedScript) {next : ParsedScript} {text name rest : List ℕ} {keyword : Keyword}
+    → KeywordFirst text name rest → IsNamed keyword name → is_text name ≡ true → is_text (first_line rest) ≡ true →
+    length (first_line text) ≤ line_max → may_stand parsed keyword ≡ true
     → with_line parsed keyword (words_of (first_line rest)) ≡ Ok next → after_line parsed (first_line text) ≡ Ok next
 unfolding after_line
-usual_line parsed next text name rest keyword first short named text_rest mark is stands e =
-    let is_whole : is_text (first_line text) ≡ true = ap is_text first.line ∙ list_all-append is_text_byte name (32 ∷ first_line rest)
-    ∙ rw (named, text_rest) refl in
-    rw (le-ltb line_max (length (first_line text)) short, is_whole)
-    (ap (with_words parsed) first.words ∙ rw (mark, is, stands) e)
+usual_line parsed {text} {name} {rest} first named text_name text_rest short stands e =
+    let whole : is_text (first_line text) ≡ true = ap is_text first.line
+    ∙ list_all-append is_text_byte name (32 ∷ first_line rest) ∙ rw (text_name, text_rest) refl in
+    rw (le-ltb line_max (length (first_line text)) short, whole)
+    (ap (with_words parsed) first.words ∙ rw (named.mark, named.is, stands) e)
 
 -- the fields of an event are text
 event_by : (parsed next : ParsedScript) (layout : Layout) (words : List (List ℕ)) (r : Result Draft Fault)
@@ -242,26 +243,26 @@ pub usual_transfer : (parsed next : ParsedScript) (text fields : List ℕ) → t
     → length (first_line text) ≤ line_max → after_line parsed (first_line text) ≡ Ok next
 unfolding keyword_of with_line
 usual_transfer parsed next text fields e event short =
-    usual_line parsed next text (codes "transfer") fields word.Transfer
-    (keyword_first text (codes "transfer") fields refl refl (omega arith) e) short refl
-    (fields_are_text parsed next Transfer (first_line fields) event.1) refl refl event.0 event.1
+    usual_line parsed (keyword_first text (codes "transfer") fields refl refl (omega arith) e)
+    (keyword_named word.Transfer (codes "transfer") refl (omega arith) refl refl) refl (fields_are_text parsed next Transfer (first_line fields) event.1)
+    short event.0 event.1
 
 pub usual_account : (parsed next : ParsedScript) (text fields : List ℕ) → text ≡ codes "account" ++ 32 ∷ fields →
     (is_some parsed.packet ≡ true) × (with_event parsed Account (words_of (first_line fields)) ≡ Ok next)
     → length (first_line text) ≤ line_max → after_line parsed (first_line text) ≡ Ok next
 unfolding keyword_of with_line
 usual_account parsed next text fields e event short =
-    usual_line parsed next text (codes "account") fields word.Account
-    (keyword_first text (codes "account") fields refl refl (omega arith) e) short refl
-    (fields_are_text parsed next Account (first_line fields) event.1) refl refl event.0 event.1
+    usual_line parsed (keyword_first text (codes "account") fields refl refl (omega arith) e)
+    (keyword_named word.Account (codes "account") refl (omega arith) refl refl) refl (fields_are_text parsed next Account (first_line fields) event.1)
+    short event.0 event.1
 
 pub usual_packet : (parsed next : ParsedScript) (text numbers : List ℕ) → text ≡ codes "packet" ++ 32 ∷ numbers →
     (is_text (first_line numbers) ≡ true) × (with_line parsed word.Packet (words_of (first_line numbers)) ≡ Ok next)
     → length (first_line text) ≤ line_max → after_line parsed (first_line text) ≡ Ok next
 unfolding keyword_of
 usual_packet parsed next text numbers e packet short =
-    usual_line parsed next text (codes "packet") numbers word.Packet
-    (keyword_first text (codes "packet") numbers refl refl (omega arith) e) short refl packet.0 refl refl refl packet.1
+    usual_line parsed (keyword_first text (codes "packet") numbers refl refl (omega arith) e)
+    (keyword_named word.Packet (codes "packet") refl (omega arith) refl refl) refl packet.0 short refl packet.1
 
 pub too_long : (parsed : ParsedScript) (line : List ℕ) → line_max < length line → after_line parsed line ≡ Err LineTooLong
 unfolding after_line
