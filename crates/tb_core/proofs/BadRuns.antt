@@ -101,9 +101,7 @@ invents_a_pulse run is (moment, (place, got), absent) =
 
 pub overtakes : Excludes Overtakes
 overtakes run is bad =
-    let risen = rises run is bad.submitter bad.known bad.place bad.later bad.number bad.number_later bad.events
-    bad.events_later bad.before bad.one bad.other in
-    omega (arith, risen, bad.overtaken)
+    omega (arith, rises is bad.submitter bad.known bad.place bad.later bad.before bad.one bad.other, bad.overtaken)
 
 pub gives_anothers_reply : Excludes GivesAnothersReply
 gives_anothers_reply run is (submitter, reply, (known, (index, replied)), apart) =

@@ -158,58 +158,59 @@ from-least submitter number (first ∷ jobs) all zero job got =
 from-least submitter number (first ∷ jobs) all (suc index) job got =
     let rest = from-least submitter (number + 1) jobs all.2 index job got in (rest.0, omega (arith, rest.1))
 
-pub rises-ahead : (submitter from : ℕ) (items : List Item) → AreFrom submitter from (jobs_of submitter items)
-    → (place later number number_later : ℕ) (events events_later : Events) → place < later
-    → slice_get (ahead items) place ≡ Some (Packet submitter number events)
-    → slice_get (ahead items) later ≡ Some (Packet submitter number_later events_later) → number < number_later
-rises-ahead submitter from [] all place later number number_later events events_later before one other = cc
-rises-ahead submitter from (item.Packet job ∷ items) all place later number number_later events events_later before one other =
-    by (job.submitter == submitter) place later refl all before one other (λ next from_next place later.
-    rises-ahead submitter next items from_next place later number number_later events events_later)
-  where
-    by : (own : Bool) (place later : ℕ) → (job.submitter == submitter) ≡ own
-        → AreFrom submitter from (jobs_with (job.submitter == submitter) job (jobs_of submitter items)) → place < later
-        → slice_get (input_of job ∷ ahead items) place ≡ Some (Packet submitter number events)
-        → slice_get (input_of job ∷ ahead items) later ≡ Some (Packet submitter number_later events_later) →
-        ((next : ℕ) → AreFrom submitter next (jobs_of submitter items) → (place later : ℕ) → place < later
-        → slice_get (ahead items) place ≡ Some (Packet submitter number events)
-        → slice_get (ahead items) later ≡ Some (Packet submitter number_later events_later) → number < number_later)
-        → number < number_later
-    by own place zero is all before one other others = absurd (omega (arith, before))
-    by true zero (suc later) is all before one other others =
-        let from_here = subst (λ b. AreFrom submitter from (jobs_with b job (jobs_of submitter items))) is all in
-        let found = job-ahead submitter number_later events_later items later other in
-        let least = from-least submitter (from + 1) (jobs_of submitter items) from_here.2 found.index found.job found.found in
-        let number_is : job.number ≡ number = cc in
-        let later_is : found.job.number ≡ number_later = cc in
-        omega (arith, least.1, from_here.1, number_is, later_is)
-    by false zero (suc later) is all before one other others =
-        let same : job.submitter ≡ submitter = cc in
-        absurd (true≢false (sym (eq-eqb job.submitter submitter same) ∙ is))
-    by true (suc place) (suc later) is all before one other others =
-        let from_here = subst (λ b. AreFrom submitter from (jobs_with b job (jobs_of submitter items))) is all in
-        others (from + 1) from_here.2 place later (omega (arith, before)) one other
-    by false (suc place) (suc later) is all before one other others =
-        let from_here = subst (λ b. AreFrom submitter from (jobs_with b job (jobs_of submitter items))) is all in
-        others from from_here place later (omega (arith, before)) one other
-rises-ahead submitter from (item.Pulse moment ∷ items) all zero later number number_later events events_later before one other = cc
-rises-ahead submitter from (item.Pulse moment ∷ items) all (suc place) zero number number_later events events_later before one other = cc
-rises-ahead submitter from (item.Pulse moment ∷ items) all (suc place) (suc later) number number_later events events_later before one other =
-    rises-ahead submitter from items all place later number number_later events events_later (omega (arith, before)) one other
-rises-ahead submitter from (item.End ∷ items) all place later number number_later events events_later before one other =
-    rises-ahead submitter from items all place later number number_later events events_later before one other
-rises-ahead submitter from (item.Close ∷ items) all place later number number_later events events_later before one other = cc
+module _ (submitter : ℕ) where
+  rises-ahead : {number number_later : ℕ} {events events_later : Events} (from : ℕ) (items : List Item)
+      → AreFrom submitter from (jobs_of submitter items) → (place later : ℕ) → place < later
+      → slice_get (ahead items) place ≡ Some (Packet submitter number events)
+      → slice_get (ahead items) later ≡ Some (Packet submitter number_later events_later) → number < number_later
+  rises-ahead from [] all place later before one other = cc
+  rises-ahead {number} {number_later} {events} {events_later} from (item.Packet job ∷ items) all place later before one other =
+      by (job.submitter == submitter) place later refl all before one other (λ next from_next place later.
+      rises-ahead next items from_next place later)
+    where
+      by : (own : Bool) (place later : ℕ) → (job.submitter == submitter) ≡ own
+          → AreFrom submitter from (jobs_with (job.submitter == submitter) job (jobs_of submitter items)) → place < later
+          → slice_get (input_of job ∷ ahead items) place ≡ Some (Packet submitter number events)
+          → slice_get (input_of job ∷ ahead items) later ≡ Some (Packet submitter number_later events_later) →
+          ((next : ℕ) → AreFrom submitter next (jobs_of submitter items) → (place later : ℕ) → place < later
+          → slice_get (ahead items) place ≡ Some (Packet submitter number events)
+          → slice_get (ahead items) later ≡ Some (Packet submitter number_later events_later) → number < number_later)
+          → number < number_later
+      by own place zero is all before one other others = absurd (omega (arith, before))
+      by true zero (suc later) is all before one other others =
+          let from_here = subst (λ b. AreFrom submitter from (jobs_with b job (jobs_of submitter items))) is all in
+          let found = job-ahead submitter number_later events_later items later other in
+          let least = from-least submitter (from + 1) (jobs_of submitter items) from_here.2 found.index found.job found.found in
+          let number_is : job.number ≡ number = cc in
+          let later_is : found.job.number ≡ number_later = cc in
+          omega (arith, least.1, from_here.1, number_is, later_is)
+      by false zero (suc later) is all before one other others =
+          let same : job.submitter ≡ submitter = cc in
+          absurd (true≢false (sym (eq-eqb job.submitter submitter same) ∙ is))
+      by true (suc place) (suc later) is all before one other others =
+          let from_here = subst (λ b. AreFrom submitter from (jobs_with b job (jobs_of submitter items))) is all in
+          others (from + 1) from_here.2 place later (omega (arith, before)) one other
+      by false (suc place) (suc later) is all before one other others =
+          let from_here = subst (λ b. AreFrom submitter from (jobs_with b job (jobs_of submitter items))) is all in
+          others from from_here place later (omega (arith, before)) one other
+  rises-ahead from (item.Pulse moment ∷ items) all zero later before one other = cc
+  rises-ahead from (item.Pulse moment ∷ items) all (suc place) zero before one other = cc
+  rises-ahead from (item.Pulse moment ∷ items) all (suc place) (suc later) before one other =
+      rises-ahead from items all place later (omega (arith, before)) one other
+  rises-ahead from (item.End ∷ items) all place later before one other =
+      rises-ahead from items all place later before one other
+  rises-ahead from (item.Close ∷ items) all place later before one other = cc
 
 -- a submitter's committed packets, by their places
-pub rises : (run : Run) → Headline run → (submitter : ℕ) → submitter < run.submitters
-    → (place later number number_later : ℕ) (events events_later : Events) → place < later
+pub rises : {run : Run} {number number_later : ℕ} {events events_later : Events} → Headline run → (submitter : ℕ)
+    → submitter < run.submitters → (place later : ℕ) → place < later
     → slice_get (committed_in run) place ≡ Some (Packet submitter number events)
     → slice_get (committed_in run) later ≡ Some (Packet submitter number_later events_later) → number < number_later
-rises run is submitter below place later number number_later events events_later before one other =
+rises {run} is submitter below place later before one other =
     rises-ahead submitter 0 (items_in run.queue)
     (subst (AreFrom submitter 0) (sym (jobs-queued run is.queued submitter below))
     (from-numbered submitter 0 (run.queued submitter) (is.queued.numbered submitter (omega (arith, below)))))
-    place later number number_later events events_later before
+    place later before
     (at-prefix (committed_in run) (ahead_in run) place _ is.committed one)
     (at-prefix (committed_in run) (ahead_in run) later _ is.committed other)
 
@@ -246,32 +247,32 @@ replied-ahead run is place submitter number events got =
       own = ap input_of reply.2 ∙ found.own;
     }
 
-same-place : (run : Run) → Headline run → (submitter : ℕ) → submitter < run.submitters → (place other number : ℕ)
-    (events : Events) → slice_get (committed_in run) place ≡ Some (Packet submitter number events)
+same-place : {number : ℕ} {events : Events} (run : Run) → Headline run → (submitter : ℕ) → submitter < run.submitters
+    → (place other : ℕ) → slice_get (committed_in run) place ≡ Some (Packet submitter number events)
     → slice_get (committed_in run) other ≡ Some (Packet submitter number events) → other ≡ place
-same-place run is submitter below place other number events one two =
+same-place run is submitter below place other one two =
     by (cases_order place other)
   where
     by : (place ≡ other) ⊎ ((place < other) ⊎ (other < place)) → other ≡ place
     by (inl same) = sym same
     by (inr (inl before)) =
-        absurd (omega (arith, rises run is submitter below place other number number events events before one two))
+        absurd (omega (arith, rises is submitter below place other before one two))
     by (inr (inr after)) =
-        absurd (omega (arith, rises run is submitter below other place number number events events after two one))
+        absurd (omega (arith, rises is submitter below other place after two one))
 
-committed_at : (run : Run) → Headline run → (place submitter number : ℕ) (events : Events)
+committed_at : {run : Run} {submitter number : ℕ} {events : Events} → Headline run → (place : ℕ)
     → slice_get (committed_in run) place ≡ Some (Packet submitter number events)
     → (reply : IsReplied run submitter number events) → (outcome : Outcome) → reply.reply.outcome ≡ outcome
     → IsTrueOf run reply.reply.packet outcome →
     (answer : Answer) × (reply.reply.outcome ≡ Committed (length run.before + place) answer)
-committed_at run is place submitter number events got reply (Committed its answer) says (index, at, there, alone) =
+committed_at {run} {submitter} {number} {events} is place got reply (Committed its answer) says (index, at, there, alone) =
     let other : slice_get (committed_in run) index ≡ Some (Packet submitter number events) =
     there ∙ ap (λ input. Some input) reply.own in
-    let same : index ≡ place = same-place run is submitter reply.known place index number events got other in
+    let same : index ≡ place = same-place run is submitter reply.known place index got other in
     (answer, says ∙ ap (λ p. Committed p answer) (at ∙ ap (λ n. length run.before + n) same))
-committed_at run is place submitter number events got reply Stopped says said =
+committed_at is place got reply Stopped says said =
     absurd (said.1 (place, got ∙ ap (λ input. Some input) (sym reply.own)))
-committed_at run is place submitter number events got reply Shutdown says said =
+committed_at {run} is place got reply Shutdown says said =
     absurd (said (
       place,
       at-prefix (committed_in run) (ahead_in run) place _ is.committed got
@@ -282,7 +283,7 @@ pub committed_are_answered : CommittedAreAnswered
 committed_are_answered run is place submitter number events got =
     let reply = replied-ahead run is place submitter number events
     (at-prefix (committed_in run) (ahead_in run) place _ is.committed got) in
-    let says = committed_at run is place submitter number events got reply reply.reply.outcome refl
+    let says = committed_at is place got reply reply.reply.outcome refl
     (is.answered submitter reply.index reply.reply reply.known reply.replied) in
     record {
       index = reply.index;

@@ -5,7 +5,7 @@ use Rattle.tb_machine.specs.claim.AnswerAt.{answer_to}
 use Rattle.tb_work.specs.declared.item.Item.TheVariants as item
 use Rattle.tb_core.specs.claim.Report.{ReportsHeadline}
 use Rattle.tb_core.proofs.Since.{get-drop}
-use Rattle.tb_core.proofs.Packets.{jobs_of, jobs_with, jobs-part, AreFrom, from-numbered, AreBelow, nowhere-below, below-longer, below-append, below-first}
+use Rattle.tb_core.proofs.Packets.{jobs_of, jobs_with, jobs-part, AreFrom, from-numbered, IsBelow, AreBelow, nowhere-below, below-longer, below-append, all-shorter}
 
 -- ---- prefixes
 
@@ -17,14 +17,11 @@ pub prefix-filter : {X : Type 0} (p : X → Bool) (front all : List X) → IsPre
 prefix-filter p front all (rest, is) = (filter p rest, sym (filter-append p front rest) ∙ ap (filter p) is)
 
 -- what is at the end of a list, and at the same place of its prefix
-pub at_place : {X : Type 0} (inputs rest before : List X) (x y : X) (others : List X) (place : ℕ)
-    → inputs ++ rest ≡ before ++ x ∷ others → place ≡ length before → slice_get inputs place ≡ Some y → y ≡ x
-at_place [] rest before x y others place is at got = cc
-at_place (w ∷ inputs) rest [] x y others zero is at got = cc
-at_place (w ∷ inputs) rest [] x y others (suc place) is at got = absurd (omega (arith, at))
-at_place (w ∷ inputs) rest (b ∷ before) x y others zero is at got = absurd (omega (arith, at))
-at_place (w ∷ inputs) rest (b ∷ before) x y others (suc place) is at got =
-    at_place inputs rest before x y others place (cc) (omega (arith, at)) got
+at_place : {X : Type 0} (inputs rest before : List X) (x y : X) (others : List X)
+    → inputs ++ rest ≡ before ++ x ∷ others → slice_get inputs (length before) ≡ Some y → y ≡ x
+at_place [] rest before x y others is got = cc
+at_place (w ∷ inputs) rest [] x y others is got = cc
+at_place (w ∷ inputs) rest (b ∷ before) x y others is got = at_place inputs rest before x y others (cc) got
 
 at-end : {X : Type 0} (before : List X) (x : X) (others : List X)
     → slice_get (before ++ x ∷ others) (length before) ≡ Some x
@@ -125,13 +122,13 @@ module _ (run : Run) (submitter : ℕ) (committed : IsPrefix (committed_in run) 
             λ found. subst (λ s. slice_get (committed_in run) found.0 ≢ Some (Packet s job.number (events_in job.packet)))
                 (sym own)
                 (nowhere-below submitter number (committed_in run) found.0 job.number (events_in job.packet)
-                (below-first submitter number (committed_in run) committed.0 before (input_of job) others
+                (all-shorter (IsBelow submitter number) (committed_in run) committed.0 before (input_of job ∷ others)
                 (committed.1 ∙ sym is) (here ∙ nowhere) below)
                 (omega (arith, numbered))) found.1,
           )
       by (Some input) found =
           let same : input ≡ input_of job = at_place (committed_in run) committed.0 before (input_of job) input others
-          (length before) (committed.1 ∙ sym is) refl (here ∙ found) in
+          (committed.1 ∙ sym is) (here ∙ found) in
           let stands : slice_get (inputs run.ledger) place ≡ Some (input_of job) = found ∙ ap (λ w. Some w) same in
           subst (IsTrueOf run job) (sym (ap outcome_of_found stands)) (length before, at, here ∙ stands, refl)
 
@@ -186,31 +183,30 @@ AreDue run =
     (submitter : ℕ) → submitter < run.submitters
     → run.replies submitter ≡ due run.ledger.opening (length run.before) run.queue (inputs run.ledger) submitter
 
--- the packets that a submitter queued are those of the queue that name it
-pub jobs-queued : (run : Run) → IsQueueOf run.submitters run.queue run.queued → (submitter : ℕ) → submitter < run.submitters
-    → jobs_of submitter (items_in run.queue) ≡ packets_queued (run.queued submitter)
-jobs-queued run filled submitter below =
-    sym (jobs-part run.submitters submitter run.queue filled.submitted)
-    ∙ ap packets_queued (filled.parts submitter (omega (arith, below)))
+module _ (run : Run) (filled : IsQueueOf run.submitters run.queue run.queued) where
+  -- the packets that a submitter queued are those of the queue that name it
+  pub jobs-queued : (submitter : ℕ) → submitter < run.submitters
+      → jobs_of submitter (items_in run.queue) ≡ packets_queued (run.queued submitter)
+  jobs-queued submitter below =
+      sym (jobs-part run.submitters submitter run.queue filled.submitted)
+      ∙ ap packets_queued (filled.parts submitter (omega (arith, below)))
 
-pub all-replied : (run : Run) → IsQueueOf run.submitters run.queue run.queued → AreDue run → (submitter : ℕ)
-    → submitter < run.submitters
-    → map (λ (reply : ReplyValue). reply.packet) (run.replies submitter) ≡ packets_queued (run.queued submitter)
-all-replied run filled are submitter below =
-    ap (map (λ (reply : ReplyValue). reply.packet)) (are submitter below)
-    ∙ one-each run.ledger.opening submitter (inputs run.ledger) (Ahead (length run.before)) (items_in run.queue)
-    ∙ jobs-queued run filled submitter below
+  pub all-replied : AreDue run → (submitter : ℕ) → submitter < run.submitters
+      → map (λ (reply : ReplyValue). reply.packet) (run.replies submitter) ≡ packets_queued (run.queued submitter)
+  all-replied are submitter below =
+      ap (map (λ (reply : ReplyValue). reply.packet)) (are submitter below)
+      ∙ one-each run.ledger.opening submitter (inputs run.ledger) (Ahead (length run.before)) (items_in run.queue)
+      ∙ jobs-queued submitter below
 
-pub all-true : (run : Run) → IsQueueOf run.submitters run.queue run.queued
-    → IsPrefix (committed_in run) (ahead_in run) → AreDue run → (submitter index : ℕ) (reply : ReplyValue)
-    → submitter < run.submitters → slice_get (run.replies submitter) index ≡ Some reply
-    → IsTrueOf run reply.packet reply.outcome
-all-true run filled committed are submitter index reply below got =
-    at-index run _ index reply
-    (true-ahead run submitter committed (length run.before) 0 [] (items_in run.queue) (omega arith) refl tt
-    (subst (AreFrom submitter 0) (sym (jobs-queued run filled submitter below))
-    (from-numbered submitter 0 (run.queued submitter) (filled.numbered submitter (omega (arith, below))))))
-    (sym (ap (λ rs. slice_get rs index) (are submitter below)) ∙ got)
+  pub all-true : IsPrefix (committed_in run) (ahead_in run) → AreDue run → (submitter index : ℕ) (reply : ReplyValue)
+      → submitter < run.submitters → slice_get (run.replies submitter) index ≡ Some reply
+      → IsTrueOf run reply.packet reply.outcome
+  all-true committed are submitter index reply below got =
+      at-index run _ index reply
+      (true-ahead run submitter committed (length run.before) 0 [] (items_in run.queue) (omega arith) refl tt
+      (subst (AreFrom submitter 0) (sym (jobs-queued submitter below))
+      (from-numbered submitter 0 (run.queued submitter) (filled.numbered submitter (omega (arith, below))))))
+      (sym (ap (λ rs. slice_get rs index) (are submitter below)) ∙ got)
 
 pub headline : ReportsHeadline
 headline run is =

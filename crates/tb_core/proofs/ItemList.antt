@@ -17,11 +17,10 @@ pub record IsUnderWay (start : LedgerState) (limit : ℕ) (items rest : List Ite
   pub run : IsRunning start limit done front ledger replies
 
 -- what was held is applied too
-pub through : (start : LedgerState) (limit : ℕ) (items : List Item) (front : FrontState) (ledger : LedgerState)
-    (replies : List ReplyValue) (now : LedgerState) (given : List ReplyValue)
-    → (run : IsRunning start limit items front ledger replies) →
+pub through : {start : LedgerState} {limit : ℕ} {items : List Item} {front : FrontState} {ledger now : LedgerState}
+    {replies given : List ReplyValue} (run : IsRunning start limit items front ledger replies) →
     HasNotStopped start limit (run.sent ++ held_by front) now given → IsDrained start limit items now given
-through start limit items front ledger replies now given run on = record {
+through {front} run on = record {
   ran = record {
     closed = front.closed;
     stopped = front.stopped;

@@ -12,25 +12,24 @@ group_joined : (limit : ℕ) (jobs : List Numbered) → HasPackets (parcel.Batch
 group_joined limit [] some is = absurd (omega (arith, some.0))
 group_joined limit (job ∷ jobs) some is = is
 
--- one group more
-group_more : (start ledger : LedgerState) (limit : ℕ) (group : List Input) → IsPrefix start.groups ledger.groups
-    → AreJoined limit (groups_since start ledger) → IsJoined limit group
-    → AreJoined limit (groups_since start (with_entry ledger group))
-group_more start ledger limit group on all joined =
-    subst (AreJoined limit) (sym (drop-more start.groups ledger.groups (group ∷ []) on))
-    (all-push (IsJoined limit) (groups_since start ledger) group all joined)
+-- a ledger whose groups since its start are lawful, after one parcel more
+module _ (start ledger : LedgerState) (limit : ℕ) (on : IsPrefix start.groups ledger.groups)
+    (all : AreJoined limit (groups_since start ledger)) where
+  group_more : (group : List Input) → IsJoined limit group → AreJoined limit (groups_since start (with_entry ledger group))
+  group_more group joined =
+      subst (AreJoined limit) (sym (drop-more start.groups ledger.groups (group ∷ []) on))
+      (all-push (IsJoined limit) (groups_since start ledger) group all joined)
 
-joined_more : (refused : Bool) (start ledger : LedgerState) (handed : Parcel) (limit : ℕ) → HasPackets handed
-    → IsPrefix start.groups ledger.groups → IsJoinedParcel limit handed → AreJoined limit (groups_since start ledger)
-    → AreJoined limit (groups_since start (apply_step refused ledger handed).ledger)
-joined_more refused start ledger (parcel.Batch jobs) limit some on joined all =
-    cond_both (must_stop refused ledger (length jobs)) _ _
-    (λ (a : Applied). AreJoined limit (groups_since start a.ledger)) (λ stops. all)
-    (λ goes. group_more start ledger limit (map input_of jobs) on all (group_joined limit jobs some joined))
-joined_more refused start ledger (parcel.Pulse moment) limit some on joined all =
-    cond_both (must_stop refused ledger 1) _ _ (λ (a : Applied). AreJoined limit (groups_since start a.ledger))
-    (λ stops. all) (λ goes. group_more start ledger limit (Pulse moment ∷ []) on all refl)
-joined_more refused start ledger p limit some on joined all = all
+  joined_more : (refused : Bool) (handed : Parcel) → HasPackets handed → IsJoinedParcel limit handed
+      → AreJoined limit (groups_since start (apply_step refused ledger handed).ledger)
+  joined_more refused (parcel.Batch jobs) some joined =
+      cond_both (must_stop refused ledger (length jobs)) _ _
+      (λ (a : Applied). AreJoined limit (groups_since start a.ledger)) (λ stops. all)
+      (λ goes. group_more (map input_of jobs) (group_joined limit jobs some joined))
+  joined_more refused (parcel.Pulse moment) some joined =
+      cond_both (must_stop refused ledger 1) _ _ (λ (a : Applied). AreJoined limit (groups_since start a.ledger))
+      (λ stops. all) (λ goes. group_more (Pulse moment ∷ []) refl)
+  joined_more refused p some joined = all
 
 has_jobs : (p : Parcel) → HasPackets p → HasJobs p
 has_jobs (parcel.Batch jobs) some = some.0
@@ -46,34 +45,32 @@ is_applied refused ledger next handed outcomes some is = record {
       (sym is) (commits_more start decisions ledger replies commits refused handed (has_jobs handed some));
   joined = λ start limit on joined all.
       subst (λ (a : Applied). AreJoined limit (groups_since start a.ledger)) (sym is)
-      (joined_more refused start ledger handed limit some on joined all);
+      (joined_more start ledger limit on all refused handed some joined);
 }
 
 -- a bare ledger that applied a parcel
-pub bare_applied : (refused : Bool) (bare : BareLedgerState) (handed : Parcel) (outcomes : Outcomes)
-    (entry : Option Entry) (next : BareLedgerState) → HasPackets handed → Records refused handed bare outcomes entry next
-    → Applying (IsWithJournal bare) handed outcomes (IsWithJournal next)
-bare_applied refused bare handed outcomes entry next some records old was =
-    let groups = old.groups ++ groups_in entry in
-    let made = records old.groups was.committed in (
-      with_journal next groups,
-      record { same = refl; committed = made.0 },
-      is_applied refused old (with_journal next groups) handed outcomes some
-          (made.1 ∙ ap (λ (ledger : LedgerState). apply_step refused ledger handed) (sym was.same)),
-    )
+module _ (refused : Bool) (bare : BareLedgerState) (handed : Parcel) (outcomes : Outcomes) (entry : Option Entry)
+    (next : BareLedgerState) (some : HasPackets handed) (records : Records refused handed bare outcomes entry next) where
+  pub bare_applied : Applying (IsWithJournal bare) handed outcomes (IsWithJournal next)
+  bare_applied old was =
+      let groups = old.groups ++ groups_in entry in
+      let made = records old.groups was.committed in (
+        with_journal next groups,
+        record { same = refl; committed = made.0 },
+        is_applied refused old (with_journal next groups) handed outcomes some
+            (made.1 ∙ ap (λ (ledger : LedgerState). apply_step refused ledger handed) (sym was.same)),
+      )
 
-pub sent_more : (refused : Bool) (bare : BareLedgerState) (handed : Parcel) (outcomes : Outcomes) (entry : Option Entry)
-    (next : BareLedgerState) → HasPackets handed → Records refused handed bare outcomes entry next →
-    (start : LedgerState) (limit : ℕ) (decisions : List Decision) (replies : List ReplyValue)
-    → IsJoinedParcel limit handed → HasSent start limit decisions bare replies
-    → HasSent start limit (decisions ++ decisions_in handed) next (replies ++ replies_in outcomes)
-sent_more refused bare handed outcomes entry next some records start limit decisions replies joined has =
-    let made = records has.groups has.committed in
-    let groups = has.groups ++ groups_in entry in
-    let applied = is_applied refused (with_journal bare has.groups) (with_journal next groups) handed outcomes some made.1 in
-    record {
-      groups = groups;
-      committed = made.0;
-      commits = applied.commits start decisions replies has.commits;
-      joined = applied.joined start limit has.commits.continues joined has.joined;
-    }
+  pub sent_more : (start : LedgerState) (limit : ℕ) (decisions : List Decision) (replies : List ReplyValue)
+      → IsJoinedParcel limit handed → HasSent start limit decisions bare replies
+      → HasSent start limit (decisions ++ decisions_in handed) next (replies ++ replies_in outcomes)
+  sent_more start limit decisions replies joined has =
+      let made = records has.groups has.committed in
+      let groups = has.groups ++ groups_in entry in
+      let applied = is_applied refused (with_journal bare has.groups) (with_journal next groups) handed outcomes some made.1 in
+      record {
+        groups = groups;
+        committed = made.0;
+        commits = applied.commits start decisions replies has.commits;
+        joined = applied.joined start limit has.commits.continues joined has.joined;
+      }

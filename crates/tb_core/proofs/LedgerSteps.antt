@@ -96,31 +96,31 @@ replies_from-stopped clock journal place (job ∷ jobs) h =
     (replies_from-stopped clock journal (place + 1) jobs (omega (arith, h)))
 
 -- packets that were just committed are answered by the machine, each in the state that those before it left
-pub replies_from-answers : (clock place : ℕ) (state : State) (journal before : List Input) (jobs : List Numbered)
-    → journal ≡ before ++ map input_of jobs → place ≡ length before → state ≡ replay clock before →
-    answers_from place state jobs ≡ replies_from clock journal place (map Admitted jobs)
-replies_from-answers clock place state journal before [] all place_is state_is = refl
-replies_from-answers clock place state journal before (job ∷ jobs) all place_is state_is =
+pub replies_from-answers : (clock place : ℕ) (journal before : List Input) (jobs : List Numbered)
+    → journal ≡ before ++ map input_of jobs → place ≡ length before →
+    answers_from place (replay clock before) jobs ≡ replies_from clock journal place (map Admitted jobs)
+replies_from-answers clock place journal before [] all place_is = refl
+replies_from-answers clock place journal before (job ∷ jobs) all place_is =
     let one = input_of job ∷ [] in
+    let state = replay clock before in
     let later = after_packet state (events_in job.packet) in
     ap (λ o. reply_with o job ∷ answers_from (place + 1) later jobs)
-    (sym (outcome_here clock place state before job (map input_of jobs) place_is state_is))
+    (sym (outcome_here clock place state before job (map input_of jobs) place_is refl))
     ∙ ap (λ ws. reply_with (outcome_at clock ws (Ahead place)) job ∷ answers_from (place + 1) later jobs) (sym all)
     ∙ ap (λ rs. reply_with (outcome_at clock journal (Ahead place)) job ∷ rs)
-    (replies_from-answers clock (place + 1) later journal (before ++ one) jobs
-    (all ∙ sym (append_assoc before one (map input_of jobs))) (omega (arith, place_is, length-append before one))
-    (ap (λ s. after_packet s (events_in job.packet)) state_is
-    ∙ sym (fold-append after_input (opening clock) before one)))
+    (ap (λ s. answers_from (place + 1) s jobs) (sym (fold-append after_input (opening clock) before one))
+    ∙ replies_from-answers clock (place + 1) journal (before ++ one) jobs
+    (all ∙ sym (append_assoc before one (map input_of jobs))) (omega (arith, place_is, length-append before one)))
 
 -- a batch that the machine took, as one group more, is applied
-pub batch_applied : (bare : BareLedgerState) (groups : List (List Input)) (places : ℕ) (state : State)
-    (jobs batch : List Numbered) (replies : List ReplyValue) → HasCommitted bare groups →
+pub batch_applied : {bare : BareLedgerState} {groups : List (List Input)} {state : State} {jobs batch : List Numbered}
+    {replies : List ReplyValue} → HasCommitted bare groups →
     state ≡ fold after_input bare.state (map input_of jobs) → jobs ≡ batch
     → replies ≡ replies_from bare.opening (flat_map (λ group. group) groups ++ map input_of jobs) bare.places
     (map Admitted jobs) → halts bare (length batch) ≡ false →
-    apply_result (with_journal (record bare { places = places; state = state }) (groups ++ map input_of jobs ∷ []))
+    apply_result (with_journal (record bare { state = state }) (groups ++ map input_of jobs ∷ []))
     (Cut replies) ≡ apply_step false (with_journal bare groups) (parcel.Batch batch)
-batch_applied bare groups places state jobs batch replies is state_is same replies_is goes =
+batch_applied {bare} {groups} {batch} is state_is same replies_is goes =
     rw (
       must_stop_is bare groups (length batch) is ∙ goes,
       state_is,

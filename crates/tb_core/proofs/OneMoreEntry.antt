@@ -42,13 +42,13 @@ pub must_stop_is : (bare : BareLedgerState) (groups : List (List Input)) (count 
 must_stop_is bare groups count is =
     ap (λ places. bare.stopped || nat_lt (2 ^ 63) (places + count)) (sym is.counted)
 
-pub batch_entered : (law : JoinInvisibly) (bare : BareLedgerState) (groups : List (List Input)) (next : State)
-    (parts : Parts) (count : ℕ) → HasCommitted bare groups → AreAnswered bare.state parts →
+pub batch_entered : {bare : BareLedgerState} {groups : List (List Input)} {next : State} {parts : Parts} {count : ℕ}
+    (law : JoinInvisibly) → HasCommitted bare groups → AreAnswered bare.state parts →
     next ≡ after_packet bare.state (events_of parts.operation parts.body.items)
     → count ≡ length parts.jobs.items →
     HasCommitted (record bare { places = bare.places + count; state = next })
     (groups ++ map input_of parts.jobs.items ∷ [])
-batch_entered law bare groups next parts count is answered next_is count_is =
+batch_entered {bare} {groups} {parts} law is answered next_is count_is =
     let group = map input_of parts.jobs.items in
     let before = flat_map (λ g. g) groups in
     let all = inputs-more groups group in

@@ -98,14 +98,10 @@ pub below-append : (submitter bound : ℕ) (inputs : List Input) (last : Input) 
 below-append submitter bound [] last all is = (is, tt)
 below-append submitter bound (input ∷ inputs) last all is = (all.0, below-append submitter bound inputs last all.1 is)
 
--- a list that ends before the place of an element of another has what precedes that element
-pub below-first : (submitter bound : ℕ) (inputs rest before : List Input) (x : Input) (others : List Input)
-    → inputs ++ rest ≡ before ++ x ∷ others → slice_get inputs (length before) ≡ None → AreBelow submitter bound before
-    → AreBelow submitter bound inputs
-below-first submitter bound [] rest before x others is none all = tt
-below-first submitter bound (w ∷ inputs) rest [] x others is none all = cc
-below-first submitter bound (w ∷ inputs) rest (b ∷ before) x others is none all =
-    let same : b ≡ w = cc in (
-      subst (IsBelow submitter bound) same all.0,
-      below-first submitter bound inputs rest before x others (cc) none all.1,
-    )
+-- of two first parts of a list what is so of each element of the longer one is so of those of the shorter one
+pub all-shorter : {X : Type 0} (P : X → Type 0) (short rest long others : List X) → short ++ rest ≡ long ++ others
+    → slice_get short (length long) ≡ None → AllByRecursion P long → AllByRecursion P short
+all-shorter P [] rest long others is none all = tt
+all-shorter P (x ∷ short) rest [] others is none all = cc
+all-shorter P (x ∷ short) rest (y ∷ long) others is none all =
+    let same : y ≡ x = cc in (subst P same all.0, all-shorter P short rest long others (cc) none all.1)

@@ -21,51 +21,45 @@ behind_close clock place stop journal (item.Packet job ∷ items) =
     items in (others.0, ap (λ rs. reply_with outcome.Shutdown job ∷ rs) others.1)
 behind_close clock place stop journal (x ∷ items) = behind_close clock place stop journal items
 
--- from the stop on each packet comes back, as one that the journal doesn't reach; `at` is the place in the journal, and `k`
--- counts what this front took
-from_stop : (clock place through k at : ℕ) (journal : List Input) (items : List Item)
-    → length journal ≤ at → through ≤ k →
-    (inputs_in (decisions_from (Some through) (Ahead k) items) ≡ [])
-    × (replies_from clock journal place (decisions_from (Some through) (Ahead k) items)
-    ≡ all_due_from clock journal (Ahead at) items)
-from_stop clock place through k at journal [] far h = (refl, refl)
-from_stop clock place through k at journal (item.Packet job ∷ items) far h =
-    let others = from_stop clock place through (k + 1) (at + 1) journal items (omega (arith, far)) (omega (arith, h)) in
-    rw (le-leb through k h) (
-      others.0,
-      rw (outcome_past clock at journal far) (ap (λ rs. reply_with outcome.Stopped job ∷ rs) others.1),
-    )
-from_stop clock place through k at journal (item.Pulse moment ∷ items) far h =
-    rw (le-leb through k h)
-    (from_stop clock place through (k + 1) (at + 1) journal items (omega (arith, far)) (omega (arith, h)))
-from_stop clock place through k at journal (item.End ∷ items) far h =
-    from_stop clock place through k at journal items far h
-from_stop clock place through k at journal (item.Close ∷ items) far h =
-    behind_close clock place (Some through) journal items
+-- what was let through until a stop, with a journal
+module _ (clock through : ℕ) (journal : List Input) where
+  -- from the stop on each packet comes back, as one that the journal doesn't reach; `at` is the place in the journal, and `k`
+  -- counts what this front took
+  from_stop : (place k at : ℕ) (items : List Item) → length journal ≤ at → through ≤ k →
+      (inputs_in (decisions_from (Some through) (Ahead k) items) ≡ [])
+      × (replies_from clock journal place (decisions_from (Some through) (Ahead k) items)
+      ≡ all_due_from clock journal (Ahead at) items)
+  from_stop place k at [] far h = (refl, refl)
+  from_stop place k at (item.Packet job ∷ items) far h =
+      let others = from_stop place (k + 1) (at + 1) items (omega (arith, far)) (omega (arith, h)) in
+      rw (le-leb through k h) (
+        others.0,
+        rw (outcome_past clock at journal far) (ap (λ rs. reply_with outcome.Stopped job ∷ rs) others.1),
+      )
+  from_stop place k at (item.Pulse moment ∷ items) far h =
+      rw (le-leb through k h) (from_stop place (k + 1) (at + 1) items (omega (arith, far)) (omega (arith, h)))
+  from_stop place k at (item.End ∷ items) far h = from_stop place k at items far h
+  from_stop place k at (item.Close ∷ items) far h = behind_close clock place (Some through) journal items
 
--- what was let through, at most this number, is the first part of what is ahead; and a journal that reaches no further
--- gives the replies that are due
-let_through : (clock most through k at : ℕ) (journal : List Input) (items : List Item)
-    → length journal ≤ at + most → through ≡ k + most →
-    (inputs_in (decisions_from (Some through) (Ahead k) items) ≡ take most (ahead items))
-    × (replies_from clock journal at (decisions_from (Some through) (Ahead k) items)
-    ≡ all_due_from clock journal (Ahead at) items)
-let_through clock zero through k at journal items far h =
-    from_stop clock at through k at journal items (omega (arith, far)) (omega (arith, h))
-let_through clock (suc most) through k at journal [] far h = (refl, refl)
-let_through clock (suc most) through k at journal (item.Packet job ∷ items) far h =
-    let others = let_through clock most through (k + 1) (at + 1) journal items (omega (arith, far)) (omega (arith, h)) in
-    rw (lt-leb through k (omega (arith, h))) (
-      ap (λ ws. input_of job ∷ ws) others.0,
-      ap (λ rs. reply_with (outcome_at clock journal (Ahead at)) job ∷ rs) others.1,
-    )
-let_through clock (suc most) through k at journal (item.Pulse moment ∷ items) far h =
-    let others = let_through clock most through (k + 1) (at + 1) journal items (omega (arith, far)) (omega (arith, h)) in
-    rw (lt-leb through k (omega (arith, h))) (ap (λ ws. input.Pulse moment ∷ ws) others.0, others.1)
-let_through clock (suc most) through k at journal (item.End ∷ items) far h =
-    let_through clock (suc most) through k at journal items far h
-let_through clock (suc most) through k at journal (item.Close ∷ items) far h =
-    behind_close clock at (Some through) journal items
+  -- what was let through, at most this number, is the first part of what is ahead; and a journal that reaches no further
+  -- gives the replies that are due
+  let_through : (most k at : ℕ) (items : List Item) → length journal ≤ at + most → through ≡ k + most →
+      (inputs_in (decisions_from (Some through) (Ahead k) items) ≡ take most (ahead items))
+      × (replies_from clock journal at (decisions_from (Some through) (Ahead k) items)
+      ≡ all_due_from clock journal (Ahead at) items)
+  let_through zero k at items far h = from_stop at k at items (omega (arith, far)) (omega (arith, h))
+  let_through (suc most) k at [] far h = (refl, refl)
+  let_through (suc most) k at (item.Packet job ∷ items) far h =
+      let others = let_through most (k + 1) (at + 1) items (omega (arith, far)) (omega (arith, h)) in
+      rw (lt-leb through k (omega (arith, h))) (
+        ap (λ ws. input_of job ∷ ws) others.0,
+        ap (λ rs. reply_with (outcome_at clock journal (Ahead at)) job ∷ rs) others.1,
+      )
+  let_through (suc most) k at (item.Pulse moment ∷ items) far h =
+      let others = let_through most (k + 1) (at + 1) items (omega (arith, far)) (omega (arith, h)) in
+      rw (lt-leb through k (omega (arith, h))) (ap (λ ws. input.Pulse moment ∷ ws) others.0, others.1)
+  let_through (suc most) k at (item.End ∷ items) far h = let_through (suc most) k at items far h
+  let_through (suc most) k at (item.Close ∷ items) far h = behind_close clock at (Some through) journal items
 
 -- how many were let through at most, if the front may have stopped
 abbrev most_of : Option ℕ → List Item → ℕ
@@ -78,9 +72,9 @@ passed_through : (clock before : ℕ) (stop : Option ℕ) (journal : List Input)
     × (replies_from clock journal before (decisions_of stop items) ≡ all_due clock before items journal)
 passed_through clock before None journal items far = let most =
     length (ahead items) in rw (never_stops 0 most items (omega arith))
-    (let_through clock most most 0 before journal items far (omega arith))
+    (let_through clock most journal most 0 before items far (omega arith))
 passed_through clock before (Some through) journal items far =
-    let_through clock through through 0 before journal items far (omega arith)
+    let_through clock through journal through 0 before items far (omega arith)
 
 -- ---- which submitters learn that the pipeline stopped
 
@@ -199,11 +193,11 @@ pub record SoFar (start : LedgerState) (items : List Item) (stopped : Bool) (led
   pub nothing_remains : way ≡ [] → ledger.stopped ≡ false → any_stopped answers ≡ false → remainder ≡ []
   pub nothing_stopped : remainder ≡ [] → (ledger.stopped ≡ false) × (any_stopped answers ≡ false)
 
-pub so_far : (start : LedgerState) (items : List Item) (closed stopped : Bool) (applied way : List Decision)
-    (ledger : LedgerState) (answers : List ReplyValue) → AreDecisions items closed stopped (applied ++ way)
-    → Commits start applied ledger answers →
-    SoFar start items stopped ledger answers way
-so_far start items closed stopped applied way ledger answers passes commits =
+pub so_far : {start : LedgerState} {items : List Item} {closed stopped : Bool} {applied : List Decision}
+    {ledger : LedgerState} {answers : List ReplyValue} (way : List Decision)
+    → AreDecisions items closed stopped (applied ++ way) → Commits start applied ledger answers
+    → SoFar start items stopped ledger answers way
+so_far {start} {items} {stopped} {applied} {ledger} {answers} way passes commits =
     record {
       remainder = (commits.remainder ++ inputs_in way) ++ rest;
       committed = sym (append_assoc since (commits.remainder ++ inputs_in way) rest)
@@ -332,11 +326,10 @@ so_far start items closed stopped applied way ledger answers passes commits =
         (ap (λ ws. ws ++ inputs_in way) (sym journal_parts) ∙ append_assoc (inputs start) since (inputs_in way)
         ∙ ap (λ ws. inputs start ++ ws) all_is) refl)
 
-run_so_far : (start : LedgerState) (items : List Item) (ledger : LedgerState) (answers : List ReplyValue)
+run_so_far : {start : LedgerState} {items : List Item} {ledger : LedgerState} {answers : List ReplyValue}
     (run : Ran start items ledger answers) → SoFar start items run.stopped ledger answers []
-run_so_far start items ledger answers run =
-    so_far start items run.closed run.stopped run.decisions [] ledger answers
-    (subst (AreDecisions items run.closed run.stopped) (sym (append-nil run.decisions)) run.passed) run.commits
+run_so_far {items} run =
+    so_far [] (subst (AreDecisions items run.closed run.stopped) (sym (append-nil run.decisions)) run.passed) run.commits
 
 none_after : {X : Type 0} (front rest : List X) → front ++ rest ≡ front → rest ≡ []
 none_after front rest is = nil_from_length rest (omega (arith, ap length is, length-append front rest))
@@ -344,7 +337,7 @@ none_after front rest is = nil_from_length rest (omega (arith, ap length is, len
 pub run_is_lawful : RunIsLawful
 run_is_lawful run start answers filled before_is ran theirs =
     let journal = inputs run.ledger in
-    let far = run_so_far start (items_in run.queue) run.ledger answers ran in
+    let far = run_so_far ran in
     let is_due : answers ≡ all_due run.ledger.opening (length run.before) (items_in run.queue) journal =
     far.replied refl
     ∙ ap (λ (ws : List Input). all_due start.opening (length ws) (items_in run.queue) journal) (sym before_is)
@@ -379,7 +372,7 @@ pub run_is_listed : (clock : ℕ) (items : List Item) (ledger : LedgerState) (an
     (run : Ran (new_ledger clock) items ledger answers) → ledger.stopped ≡ false → run.stopped ≡ false
     → IsListed clock items ledger answers
 run_is_listed clock items ledger answers run goes on =
-    let far = run_so_far (new_ledger clock) items ledger answers run in
+    let far = run_so_far run in
     let all = sym (append-nil (inputs ledger)) ∙ far.whole on goes in
     record {
       from = run.commits.from;

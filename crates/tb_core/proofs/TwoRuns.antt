@@ -1,13 +1,13 @@
 -- Two runs over one ledger are one run of it.
 use Rattle.std.proofs.Common.{refl, sym, ap, subst, ◌∙◌, ◌≡◌, ℕ, zero, suc, List, [], ◌∷◌, ◌++◌, take, length, append_assoc, Some}
-use Rattle.tb_core.proofs.Words.{slice_get, filter-append, Input, replay, answer_of, events_in, input_of, is_packet_of, Run, committed_in, Headline, IsTrueOf, LedgerState, inputs}
+use Rattle.tb_core.proofs.Words.{slice_get, filter-append, replay, answer_of, events_in, input_of, is_packet_of, Run, committed_in, IsPrefix, Headline, IsTrueOf, LedgerState, inputs}
 use Rattle.tb_core.specs.claim.TwoRuns.{AnswersStand, TwoRunsAreOne}
 use Rattle.tb_core.proofs.EachSubmitter.{at-prefix, committed_of_each_submitter}
 use Rattle.tb_core.proofs.Since.{prefix-drop, get-drop}
 
 -- what a run's replies say is true of its own ledger
 own_answers : (run : Run) → Headline run → AnswersStand run run.ledger
-own_answers run is submitter index reply place answer below got outcome =
+own_answers run is = λ submitter index reply place answer below got outcome.
     let said = subst (IsTrueOf run reply.packet) outcome (is.answered submitter index reply below got) in
     record {
       there = ap (slice_get (inputs run.ledger)) said.1
@@ -26,16 +26,16 @@ take_longer (y ∷ front) (z ∷ all) rest (suc n) x is got =
     ap (λ w. w ∷ take n all) same ∙ ap (λ ws. y ∷ ws) (take_longer front all rest n x (cc) got)
 
 -- and so what was answered stays true
-answers_longer : (run : Run) (ledger later : LedgerState) (rest : List Input) → later.opening ≡ ledger.opening
-    → inputs ledger ++ rest ≡ inputs later → AnswersStand run ledger → AnswersStand run later
-answers_longer run ledger later rest opening parts all submitter index reply place answer below got outcome =
+answers_longer : (run : Run) (ledger later : LedgerState) → later.opening ≡ ledger.opening
+    → IsPrefix (inputs ledger) (inputs later) → AnswersStand run ledger → AnswersStand run later
+answers_longer run ledger later opening grown all = λ submitter index reply place answer below got outcome.
     let is = all submitter index reply place answer below got outcome in
     let packet = reply.packet in
     record {
-      there = at-prefix (inputs ledger) (inputs later) place (input_of packet) (rest, parts) is.there;
+      there = at-prefix (inputs ledger) (inputs later) place (input_of packet) grown is.there;
       alone = is.alone
           ∙ ap (λ ws. answer_of (replay ledger.opening ws) (events_in packet.packet))
-          (sym (take_longer (inputs ledger) (inputs later) rest place (input_of packet) parts is.there))
+          (sym (take_longer (inputs ledger) (inputs later) grown.0 place (input_of packet) grown.1 is.there))
           ∙ ap (λ clock. answer_of (replay clock (take place (inputs later))) (events_in packet.packet)) (sym opening);
     }
 
@@ -53,7 +53,7 @@ two_runs_are_one first second first_is second_is on =
       packets = λ submitter. filter-append (is_packet_of submitter) (committed_in first) (committed_in second);
       of_first = committed_of_each_submitter first first_is;
       of_second = committed_of_each_submitter second second_is;
-      answers_of_first = answers_longer first first.ledger second.ledger (committed_in second) on.opening both
+      answers_of_first = answers_longer first first.ledger second.ledger on.opening (committed_in second, both)
           (own_answers first first_is);
       answers_of_second = own_answers second second_is;
     }

@@ -6,11 +6,11 @@ use Rattle.tb_embed.proofs.Queued.{IsNext, control_queued, packet_queued_as, pas
 use Rattle.tb_embed.proofs.Opened.{none_queued}
 
 -- one parcel applied
-pub parcel_sent : (was is : LedgerState → Type 0) (handed : Parcel) (given : Outcomes) (start : LedgerState) (limit : ℕ)
-    (sent : List Decision) (replies : List ReplyValue) → Applying was handed given is → AreJoinedParcels limit (handed ∷ [])
+pub parcel_sent : {start : LedgerState} {limit : ℕ} {sent : List Decision} {replies : List ReplyValue}
+    (was is : LedgerState → Type 0) (handed : Parcel) (given : Outcomes) → Applying was handed given is → AreJoinedParcels limit (handed ∷ [])
     → HasSentBy was start limit sent replies
     → HasSentBy is start limit (sent ++ all_decisions_in (handed ∷ [])) (replies ++ replies_in given)
-parcel_sent was is handed given start limit sent replies applying joined has =
+parcel_sent {start} {limit} {sent} {replies} was is handed given applying joined has =
     let step : (next : LedgerState) × is next × IsApplied has.ledger handed given next = applying has.ledger has.now in
     record {
       ledger = step.0;
@@ -21,9 +21,8 @@ parcel_sent was is handed given start limit sent replies applying joined has =
     }
 
 -- an engine in which nothing was queued
-pub opened_by : {L : Type 0} (is : L → LedgerState → Type 0) (ledger : L) (limit submitters : ℕ) (engine : AnyEngineState L)
-    (front : FrontState)
-    → engine ≡ record { front = front; ledger = ledger; unread = []; numbers = replicate 16 0; shut = false }
+pub opened_by : {L : Type 0} {ledger : L} {limit submitters : ℕ} {engine : AnyEngineState L} (is : L → LedgerState → Type 0)
+    (front : FrontState) → engine ≡ record { front = front; ledger = ledger; unread = []; numbers = replicate 16 0; shut = false }
     → front ≡ record {
       limit = limit;
       submitters = submitters;
@@ -35,7 +34,7 @@ pub opened_by : {L : Type 0} (is : L → LedgerState → Type 0) (ledger : L) (l
     → ((start : LedgerState) → is ledger start → start.stopped ≡ false → Commits start [] start [])
     → ((start : LedgerState) (limit : ℕ) → AreJoined limit (groups_since start start))
     → IsOpenedBy is ledger limit submitters engine
-opened_by is ledger limit submitters engine front engine_is front_is passes begins joined =
+opened_by is front engine_is front_is passes begins joined =
     rw engine_is (record {
       serves = λ start now goes. record {
         taken = record {
@@ -69,46 +68,49 @@ module _ {L : Type 0} (is : L → LedgerState → Type 0) (old new : AnyEngineSt
       → HasTakenBy (is old.ledger) start items (read ++ old.unread) old.front
       → HasTakenBy (is new.ledger) start (items ++ x ∷ []) (read ++ new.unread) new.front
 
-  -- one ticket more, with what its sender may queue next
-  more_by : (ticket : Ticket) (numbers : List ℕ) (shut : Bool) → TakesBy ticket.item → Steps old.front ticket new.front
-      → IsFront old.front → ticket.sender ≤ old.front.submitters → new.front.submitters ≡ old.front.submitters
+  -- a ticket went through both, which left alone what may be queued
+  pub record TookBy (ticket : Ticket) : Type 0 where
+    pub takes : TakesBy ticket.item
+    pub steps : Steps old.front ticket new.front
+    pub sound : IsFront old.front
+    pub same : (new.numbers ≡ old.numbers) × (new.shut ≡ old.shut) × (new.front.limit ≡ old.front.limit)
+        × (new.front.submitters ≡ old.front.submitters)
+
+  -- with what its sender may queue next
+  more_by : {ticket : Ticket} (numbers : List ℕ) (shut : Bool) → TookBy ticket → ticket.sender ≤ old.front.submitters
       → ((queue : List Ticket) → AreQueued old.front.submitters queue old.numbers old.shut
       → AreQueued old.front.submitters (queue ++ ticket ∷ []) numbers shut)
       → QueuesBy is old ticket (record new { numbers = numbers; shut = shut })
-  more_by ticket numbers shut takes steps sound among same more = record {
+  more_by {ticket} numbers shut took among more = record {
     adds = λ start queue read serves. record {
       taken = subst (λ (items : List Item). HasTakenBy (is new.ledger) start items (read ++ new.unread) new.front)
           (sym (map-append (λ (t : Ticket). t.item) queue (ticket ∷ [])))
-          (takes start (items_in queue) read serves.taken);
-      queued = subst (λ n. AreQueued n (queue ++ ticket ∷ []) numbers shut) (sym same) (more queue serves.queued);
-      unstopped = ap (λ (f : FrontState). f.stopped) steps
-          ∙ (has_taken false old.front ticket (take_step false old.front ticket.sender ticket.item) sound among refl).goes_on
+          (took.takes start (items_in queue) read serves.taken);
+      queued = subst (λ n. AreQueued n (queue ++ ticket ∷ []) numbers shut) (sym took.same.3) (more queue serves.queued);
+      unstopped = ap (λ (f : FrontState). f.stopped) took.steps
+          ∙ (has_taken false old.front ticket (take_step false old.front ticket.sender ticket.item) took.sound among refl).goes_on
           refl serves.unstopped;
     };
-    steps = steps;
+    steps = took.steps;
   }
 
   pub packet_by : (submitter number : ℕ) (packet : Packet) → get_or old.numbers submitter 0 ≡ number
-      → TakesBy (packet_ticket submitter number packet).item → Steps old.front (packet_ticket submitter number packet) new.front
-      → IsFront old.front → new.numbers ≡ old.numbers → new.shut ≡ old.shut
-      → new.front.submitters ≡ old.front.submitters → submitter < old.front.submitters
+      → TookBy (packet_ticket submitter number packet) → submitter < old.front.submitters
       → old.front.submitters ≤ length old.numbers →
       QueuesBy is old (packet_ticket submitter number packet)
       (record new { numbers = slice_set new.numbers submitter (number + 1) })
-  packet_by submitter number packet is_number takes steps sound numbers shut same among long =
-      more_by (packet_ticket submitter number packet) (slice_set new.numbers submitter (number + 1)) new.shut takes steps sound
-      (omega (arith, among)) same
-      (λ queue are. packet_queued_as new.numbers new.shut submitter number packet are is_number numbers shut among long)
+  packet_by submitter number packet is_number took among long =
+      more_by (slice_set new.numbers submitter (number + 1)) new.shut took (omega (arith, among))
+      (λ queue are. packet_queued_as submitter packet are is_number took.same.0 took.same.1 among long)
 
-  pub control_by : (x : Item) → TakesBy x → Steps old.front (ticket_of old.front.submitters x) new.front
-      → IsFront old.front → new.numbers ≡ old.numbers
-      → new.front.submitters ≡ old.front.submitters → IsSubmitted old.front.submitters old.front.submitters x
+  pub control_by : (x : Item) → TookBy (ticket_of old.front.submitters x)
+      → IsSubmitted old.front.submitters old.front.submitters x
       → IsNext old.front.submitters 0 x → 0 + packets_in (x ∷ []) ≡ 0 → old.shut ≡ false →
       QueuesBy is old (ticket_of old.front.submitters x) (record new { shut = is_end x })
-  control_by x takes steps sound numbers same own next none on =
+  control_by x took own next none on =
       let n = old.front.submitters in
-      more_by (ticket_of n x) new.numbers (is_end x) takes steps sound (omega arith) same (λ queue are.
-      subst (λ ns. AreQueued n (queue ++ ticket_of n x ∷ []) ns (is_end x)) (sym numbers)
+      more_by new.numbers (is_end x) took (omega arith) (λ queue are.
+      subst (λ ns. AreQueued n (queue ++ ticket_of n x ∷ []) ns (is_end x)) (sym took.same.0)
       (control_queued n queue old.numbers old.shut are x own next none on))
 
   -- the group held committed

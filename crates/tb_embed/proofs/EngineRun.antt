@@ -16,55 +16,56 @@ Takes old x new =
 abbrev pub Stops : EngineState → Ticket → EngineState → Type 0
 Stops old ticket new = has_stopped new ≡ halts old.ledger (places_of old.front ticket)
 
--- one ticket more, with what its sender may queue next
-serves_more : (old new : EngineState) (ticket : Ticket) (numbers : List ℕ) (shut : Bool) → Takes old ticket.item new
-    → Steps old.front ticket new.front → Stops old ticket new → IsFront old.front → ticket.sender ≤ old.front.submitters
-    → new.front.submitters ≡ old.front.submitters
-    → ((queue : List Ticket) → AreQueued old.front.submitters queue old.numbers old.shut
+-- a ticket went through the front and the ledger, which left alone what may be queued
+pub record Took (old : EngineState) (ticket : Ticket) (new : EngineState) : Type 0 where
+  pub takes : Takes old ticket.item new
+  pub steps : Steps old.front ticket new.front
+  pub stopped : Stops old ticket new
+  pub sound : IsFront old.front
+  pub same : (new.numbers ≡ old.numbers) × (new.shut ≡ old.shut) × (new.front.limit ≡ old.front.limit)
+      × (new.front.submitters ≡ old.front.submitters)
+
+-- with what its sender may queue next
+serves_more : {old new : EngineState} {ticket : Ticket} (numbers : List ℕ) (shut : Bool) → Took old ticket new
+    → ticket.sender ≤ old.front.submitters → ((queue : List Ticket)
+    → AreQueued old.front.submitters queue old.numbers old.shut
     → AreQueued old.front.submitters (queue ++ ticket ∷ []) numbers shut)
     → Queues old ticket (record new { numbers = numbers; shut = shut })
-serves_more old new ticket numbers shut takes steps stopped is among same more = record {
+serves_more {old} {new} {ticket} numbers shut took among more = record {
   adds = λ start queue read serves. record {
     taken = subst (λ (items : List Item). HasTaken start items (read ++ new.unread) new.front new.ledger)
         (sym (map-append (λ (t : Ticket). t.item) queue (ticket ∷ [])))
-        (takes start (items_in queue) read serves.taken);
-    queued = subst (λ n. AreQueued n (queue ++ ticket ∷ []) numbers shut) (sym same) (more queue serves.queued);
-    unstopped = ap (λ (f : FrontState). f.stopped) steps
-        ∙ (has_taken false old.front ticket (take_step false old.front ticket.sender ticket.item) is among refl).goes_on refl
-        serves.unstopped;
+        (took.takes start (items_in queue) read serves.taken);
+    queued = subst (λ n. AreQueued n (queue ++ ticket ∷ []) numbers shut) (sym took.same.3) (more queue serves.queued);
+    unstopped = ap (λ (f : FrontState). f.stopped) took.steps
+        ∙ (has_taken false old.front ticket (take_step false old.front ticket.sender ticket.item) took.sound among refl).goes_on
+        refl serves.unstopped;
     goes = λ places.
         let all = subst (HasPlaces start) (map-append (λ (t : Ticket). t.item) queue (ticket ∷ [])) places in
-        stopped ∙ ticket_goes start (items_in queue) (read ++ old.unread) old.front old.ledger ticket is among serves.taken
-        serves.unstopped (serves.goes (places_before start (items_in queue) (ticket.item ∷ []) all)) all;
+        took.stopped ∙ ticket_goes ticket took.sound among serves.taken serves.unstopped
+        (serves.goes (places_before start (items_in queue) (ticket.item ∷ []) all)) all;
   };
-  steps = steps;
-  stopped = stopped;
+  steps = took.steps;
+  stopped = took.stopped;
 }
 
-pub packet_serves : (old new : EngineState) (submitter number : ℕ) (packet : Packet)
-    → get_or old.numbers submitter 0 ≡ number
-    → Takes old (packet_ticket submitter number packet).item new
-    → Steps old.front (packet_ticket submitter number packet) new.front
-    → Stops old (packet_ticket submitter number packet) new → IsFront old.front → new.numbers ≡ old.numbers → new.shut ≡ old.shut
-    → new.front.submitters ≡ old.front.submitters → submitter < old.front.submitters
+pub packet_serves : {old new : EngineState} (submitter number : ℕ) (packet : Packet) → get_or old.numbers submitter 0 ≡ number
+    → Took old (packet_ticket submitter number packet) new → submitter < old.front.submitters
     → old.front.submitters ≤ length old.numbers →
     Queues old (packet_ticket submitter number packet)
     (record new { numbers = slice_set new.numbers submitter (number + 1) })
-packet_serves old new submitter number packet is takes steps stopped front numbers shut same among long =
-    serves_more old new (packet_ticket submitter number packet) (slice_set new.numbers submitter (number + 1)) new.shut takes
-    steps stopped front (omega (arith, among)) same
-    (λ queue are. packet_queued_as new.numbers new.shut submitter number packet are is numbers shut among long)
+packet_serves {new} submitter number packet is took among long =
+    serves_more (slice_set new.numbers submitter (number + 1)) new.shut took (omega (arith, among))
+    (λ queue are. packet_queued_as submitter packet are is took.same.0 took.same.1 among long)
 
-pub control_serves : (old new : EngineState) (x : Item) → Takes old x new
-    → Steps old.front (ticket_of old.front.submitters x) new.front → Stops old (ticket_of old.front.submitters x) new
-    → IsFront old.front → new.numbers ≡ old.numbers
-    → new.front.submitters ≡ old.front.submitters → IsSubmitted old.front.submitters old.front.submitters x
+pub control_serves : {old new : EngineState} (x : Item) → Took old (ticket_of old.front.submitters x) new
+    → IsSubmitted old.front.submitters old.front.submitters x
     → IsNext old.front.submitters 0 x → 0 + packets_in (x ∷ []) ≡ 0 → old.shut ≡ false →
     Queues old (ticket_of old.front.submitters x) (record new { shut = is_end x })
-control_serves old new x takes steps stopped front numbers same own next none on =
+control_serves {old} {new} x took own next none on =
     let n = old.front.submitters in
-    serves_more old new (ticket_of n x) new.numbers (is_end x) takes steps stopped front (omega arith) same (λ queue are.
-    subst (λ ns. AreQueued n (queue ++ ticket_of n x ∷ []) ns (is_end x)) (sym numbers)
+    serves_more new.numbers (is_end x) took (omega arith) (λ queue are.
+    subst (λ ns. AreQueued n (queue ++ ticket_of n x ∷ []) ns (is_end x)) (sym took.same.0)
     (control_queued n queue old.numbers old.shut are x own next none on))
 
 -- the group held committed
@@ -78,8 +79,7 @@ group_serves old new takes seals stopped numbers shut = record {
     taken = takes start (items_in queue) read serves.taken;
     queued = rw (seals, numbers, shut) serves.queued;
     unstopped = ap (λ (f : FrontState). f.stopped) seals ∙ serves.unstopped;
-    goes = λ places. stopped ∙ group_goes start (items_in queue) (read ++ old.unread) old.front old.ledger serves.taken
-        serves.unstopped (serves.goes places) places;
+    goes = λ places. stopped ∙ group_goes serves.taken serves.unstopped (serves.goes places) places;
   };
   seals = seals;
   stopped = stopped;

@@ -28,11 +28,11 @@ none_queued submitters =
       control = record { numbered = tt; counted = refl; ends = refl };
     }
 
-pub opened_over : (ledger : BareLedgerState) (limit submitters : ℕ) (engine : EngineState) (front : FrontState)
+pub opened_over : {ledger : BareLedgerState} {limit submitters : ℕ} {engine : EngineState} (front : FrontState)
     → engine ≡ record { front = front; ledger = ledger; unread = []; numbers = replicate 16 0; shut = false }
     → front.limit ≡ limit → front.submitters ≡ submitters → AreDecisions [] front.closed front.stopped (held_by front)
     → front.stopped ≡ false → ledger.stopped ≡ false → IsOpenedOver ledger limit submitters engine
-opened_over ledger limit submitters engine front is limited counted passes on goes =
+opened_over {ledger} front is limited counted passes on goes =
     rw is (record {
       serves = λ groups committed. record {
         taken = record {

@@ -19,10 +19,10 @@ abbrev pub Sends : (was is : ℕ → List Decision → Type 0) → ℕ → List 
 Sends was is limit parcels =
     (sent : List Decision) → AreJoinedParcels limit parcels → was limit sent → is limit (sent ++ all_decisions_in parcels)
 
-pub held_taken : (was is : ℕ → List Decision → Type 0) (items : List Item) (front : FrontState) (parcels : List Parcel)
+pub held_taken : {items : List Item} {front : FrontState} {parcels : List Parcel} (was is : ℕ → List Decision → Type 0)
     → parcels ≡ group_as_batch front.held → IsGroup front.limit front.held → Sends was is front.limit parcels
     → HasPassed (was front.limit) items front → HasPassed (is front.limit) items (with_group front [])
-held_taken was is items front parcels sealed group sends has = record {
+held_taken {items} {front} {parcels} was is sealed group sends has = record {
   sent = has.sent ++ all_decisions_in parcels;
   passed = subst (AreDecisions items front.closed front.stopped)
       (sym (append-nil (has.sent ++ all_decisions_in parcels) ∙ ap (λ ds. has.sent ++ ds) (ap all_decisions_in sealed
@@ -33,11 +33,11 @@ held_taken was is items front parcels sealed group sends has = record {
 
 -- ---- a ticket
 
-pub ticket_taken : (was is : ℕ → List Decision → Type 0) (items : List Item) (front next : FrontState) (ticket : Ticket)
-    (parcels : List Parcel) → IsFront front → ticket.sender ≤ front.submitters
+pub ticket_taken : {items : List Item} {front next : FrontState} {parcels : List Parcel}
+    (was is : ℕ → List Decision → Type 0) (ticket : Ticket) → IsFront front → ticket.sender ≤ front.submitters
     → take_result next parcels ≡ take_step false front ticket.sender ticket.item → Sends was is front.limit parcels
     → HasPassed (was front.limit) items front → HasPassed (is next.limit) (items ++ ticket.item ∷ []) next
-ticket_taken was is items front next ticket parcels sound among step sends has =
+ticket_taken {items} {front} {next} {parcels} was is ticket sound among step sends has =
     let taken = has_taken false front ticket (take_result next parcels) sound among step in
     let sent = has.sent ++ all_decisions_in parcels in
     record {

@@ -1,6 +1,6 @@
 -- An engine stops only if places are used up.
 use Rattle.std.proofs.Common.{◌≡◌, ◌≤◌, ◌+◌, refl, sym, ap, ◌∙◌, arith, ℕ, Bool, false, List, [], ◌∷◌, ◌++◌, map, length, length-append, Option, Some, None}
-use Rattle.tb_embed.proofs.Words.{is_some, nat_tests, Input, places_max, ahead, Numbered, ReplyValue, input_of, Item, Ticket, Parcel, Batch, Pulse, Return, Last, Ahead, Behind, FrontState, IsFront, all_decisions_in, held_by, take_step, Decision, Admitted, AreDecisions, decisions_from, decisions_of, inputs_in, BareLedgerState, HasSent, halts, with_journal, LedgerState, inputs, ahead-first, inputs_in-append, has_taken, HasPlaces, HasTaken, places_in, places_of}
+use Rattle.tb_embed.proofs.Words.{is_some, nat_tests, places_max, ahead, Numbered, ReplyValue, input_of, Item, Ticket, Parcel, Batch, Pulse, Return, Last, Ahead, Behind, FrontState, IsFront, all_decisions_in, held_by, take_step, Decision, Admitted, AreDecisions, decisions_from, decisions_of, inputs_in, BareLedgerState, HasSent, halts, with_journal, LedgerState, inputs, ahead-first, inputs_in-append, has_taken, HasPlaces, HasTaken, places_in, places_of}
 use Rattle.tb_layout.specs.claim.Events as input
 use Rattle.tb_work.specs.declared.item.Item.TheVariants as item
 
@@ -47,9 +47,9 @@ inputs_sent (Return job cause ∷ parcels) = inputs_sent parcels
 inputs_sent (Last ∷ parcels) = inputs_sent parcels
 
 -- a ledger that was sent these has at most as many places more
-places_sent : (start : LedgerState) (limit : ℕ) (sent : List Decision) (ledger : BareLedgerState) (replies : List ReplyValue)
+places_sent : {start : LedgerState} {limit : ℕ} {sent : List Decision} {ledger : BareLedgerState} {replies : List ReplyValue}
     → HasSent start limit sent ledger replies → ledger.places ≤ length (inputs start) + length (inputs_in sent)
-places_sent start limit sent ledger replies has =
+places_sent {start} {sent} {ledger} has =
     omega (
       arith,
       has.committed.counted,
@@ -70,25 +70,25 @@ places_before start items others places =
     omega (arith, places, ap length first.1, length-append (ahead items) first.0)
 
 -- as the group held is committed
-pub group_goes : (start : LedgerState) (items : List Item) (replies : List ReplyValue) (front : FrontState)
-    (ledger : BareLedgerState) → HasTaken start items replies front ledger → front.stopped ≡ false → ledger.stopped ≡ false
+pub group_goes : {start : LedgerState} {items : List Item} {replies : List ReplyValue} {front : FrontState}
+    {ledger : BareLedgerState} → HasTaken start items replies front ledger → front.stopped ≡ false → ledger.stopped ≡ false
     → HasPlaces start items → halts ledger (length front.held) ≡ false
-group_goes start items replies front ledger has on goes places =
+group_goes {items} {front} {ledger} has on goes places =
     goes_with ledger (length front.held) goes (omega (
       arith,
       ap length (all_ahead items front.closed front.stopped (has.sent ++ held_by front) has.passed on),
       inputs-append has.sent (held_by front),
       inputs_held front.held,
-      places_sent start front.limit has.sent ledger replies has.has_sent,
+      places_sent has.has_sent,
       places,
     ))
 
 -- as the front takes a ticket
-pub ticket_goes : (start : LedgerState) (items : List Item) (replies : List ReplyValue) (front : FrontState)
-    (ledger : BareLedgerState) (ticket : Ticket) → IsFront front → ticket.sender ≤ front.submitters
+pub ticket_goes : {start : LedgerState} {items : List Item} {replies : List ReplyValue} {front : FrontState}
+    {ledger : BareLedgerState} (ticket : Ticket) → IsFront front → ticket.sender ≤ front.submitters
     → HasTaken start items replies front ledger → front.stopped ≡ false → ledger.stopped ≡ false
     → HasPlaces start (items ++ ticket.item ∷ []) → halts ledger (places_of front ticket) ≡ false
-ticket_goes start items replies front ledger ticket is among has on goes places =
+ticket_goes {items} {front} {ledger} ticket is among has on goes places =
     let step = take_step false front ticket.sender ticket.item in
     let taken = has_taken false front ticket step is among refl in
     let sent = has.sent ++ all_decisions_in step.parcels in
@@ -99,6 +99,6 @@ ticket_goes start items replies front ledger ticket is among has on goes places 
       inputs-append sent (held_by step.front),
       inputs-append has.sent (all_decisions_in step.parcels),
       inputs_sent step.parcels,
-      places_sent start front.limit has.sent ledger replies has.has_sent,
+      places_sent has.has_sent,
       places,
     ))

@@ -114,11 +114,11 @@ module _ (submitters : ℕ) (queue : List Ticket) (numbers : List ℕ) (shut : B
   }
 
 -- a packet with its submitter's next number, by what a call left
-pub packet_queued_as : {submitters : ℕ} {queue : List Ticket} {old : List ℕ} {was : Bool} (numbers : List ℕ) (shut : Bool)
-    (submitter number : ℕ) (packet : Packet) → AreQueued submitters queue old was → get_or old submitter 0 ≡ number
+pub packet_queued_as : {submitters number : ℕ} {queue : List Ticket} {old numbers : List ℕ} {was shut : Bool}
+    (submitter : ℕ) (packet : Packet) → AreQueued submitters queue old was → get_or old submitter 0 ≡ number
     → numbers ≡ old → shut ≡ was → submitter < submitters → submitters ≤ length old →
     AreQueued submitters (queue ++ packet_ticket submitter number packet ∷ []) (slice_set numbers submitter (number + 1)) shut
-packet_queued_as {submitters} {queue} {old} {was} numbers shut submitter number packet are is numbers_are shut_is among long =
+packet_queued_as {submitters} {queue} {old} {was} submitter packet are is numbers_are shut_is among long =
     rw (numbers_are, shut_is, sym is) (packet_queued submitters queue old was are submitter packet among long)
 
 -- ---- a run that ends

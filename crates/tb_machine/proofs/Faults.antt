@@ -12,12 +12,11 @@ ne_from_eqb a b h =
     ⊎_elim (λ (y : (eqb a b ≡ true) × (a ≡ b)). absurd (cc (h, y.0)))
     (λ (n : (eqb a b ≡ false) × (a ≢ b)). n.1) (eqb_tells a b)
 
-chosen : {Event : Type 0} (is_ok : Bool) (code index end : ℕ) (event : Event) (rest : Option (ChainFault Event))
-    → (code == 0) ≡ is_ok → index < end →
-    LiesBelow end rest → LiesBelow end (if is_ok then rest
-    else Some (record { index = index; event = event; code = code }))
-chosen true code index end event rest e within below = below
-chosen false code index end event rest e within below = (within, ne_from_eqb code 0 e)
+chosen : {Event : Type 0} (is_ok : Bool) (end : ℕ) (fault : ChainFault Event) (rest : Option (ChainFault Event))
+    → (fault.code == 0) ≡ is_ok → fault.index < end → LiesBelow end rest
+    → LiesBelow end (if is_ok then rest else Some fault)
+chosen true end fault rest e within below = below
+chosen false end fault rest e within below = (within, ne_from_eqb fault.code 0 e)
 
 first_fault-below : {Event : Type 0} (operation : Operation Event) (index clock : ℕ) (facts : Facts)
     (events : List Event) (end : ℕ) → index + length events ≤ end →
@@ -25,7 +24,7 @@ first_fault-below : {Event : Type 0} (operation : Operation Event) (index clock 
 first_fault-below operation index clock facts [] end h = tt
 first_fault-below operation index clock facts (event ∷ events) end h =
     let code = verdict_at operation facts (next_timestamp clock) event in
-    chosen (code == 0) code index end event _ refl (omega arith)
+    chosen (code == 0) end (record { index = index; event = event; code = code }) _ refl (omega arith)
     (first_fault-below operation (index + 1) (clock_after clock 1)
     (facts_with operation facts (next_timestamp clock) event) events end (omega arith))
 

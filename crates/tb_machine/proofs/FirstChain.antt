@@ -126,33 +126,33 @@ events_results-first operation clock facts (event ∷ events) n h is =
 
 -- ---- the chains before event number i were taken, and the remainder decides the whole
 
-pub record IsLeft {Event : Type 0} (operation : Operation Event) (clock : ℕ) (old : Facts) (events : List Event)
-    (now : ℕ) (facts : Facts) (index : ℕ) (rest : List Event) (out : List Failure) : Type 0 where
-  pub facts_after : (events_results operation clock old events).facts ≡ (events_results operation now facts rest).facts
-  pub failures : failures_from 0 (events_results operation clock old events).results
-      ≡ out ++ failures_from index (events_results operation now facts rest).results
+pub record IsLeft {Event : Type 0} (operation : Operation Event) (whole : Results) (clock : ℕ) (facts : Facts)
+    (index : ℕ) (rest : List Event) (out : List Failure) : Type 0 where
+  pub facts_after : whole.facts ≡ (events_results operation clock facts rest).facts
+  pub failures : failures_from 0 whole.results
+      ≡ out ++ failures_from index (events_results operation clock facts rest).results
 
-left_more : {Event : Type 0} (operation : Operation Event) (clock : ℕ) (old : Facts) (events : List Event)
-    (now n index : ℕ) (facts next : Facts) (rest : List Event) (out more : List Failure) →
+left_more : {Event : Type 0} {operation : Operation Event} {whole : Results} {clock index n : ℕ} {facts next : Facts}
+    {rest : List Event} {out more : List Failure} →
     0 < length rest → n ≡ first_chain_length operation.is_linked rest →
-    next ≡ (chain_results operation now facts (take n rest)).facts →
-    more ≡ out ++ failures_from index (chain_results operation now facts (take n rest)).results →
-    IsLeft operation clock old events now facts index rest out
-    → IsLeft operation clock old events (clock_after now n) next (index + n) (drop n rest) more
-left_more operation clock old events now n index facts next rest out more some is next_is more_is left =
-    let first = chain_results operation now facts (take n rest) in
-    let later = events_results operation (clock_after now n) next (drop n rest) in
+    next ≡ (chain_results operation clock facts (take n rest)).facts →
+    more ≡ out ++ failures_from index (chain_results operation clock facts (take n rest)).results →
+    IsLeft operation whole clock facts index rest out
+    → IsLeft operation whole (clock_after clock n) next (index + n) (drop n rest) more
+left_more {operation} {whole} {clock} {index} {n} {facts} {next} {rest} {out} {more} some is next_is more_is left =
+    let first = chain_results operation clock facts (take n rest) in
+    let later = events_results operation (clock_after clock n) next (drop n rest) in
     let fits : n ≤ length rest = omega (arith, is, first_chain_length-le operation.is_linked rest) in
-    let whole : events_results operation now facts rest ≡ then_results first later =
-    events_results-first operation now facts rest n some is
-    ∙ ap (λ f. then_results first (events_results operation (clock_after now n) f (drop n rest)))
+    let both : events_results operation clock facts rest ≡ then_results first later =
+    events_results-first operation clock facts rest n some is
+    ∙ ap (λ f. then_results first (events_results operation (clock_after clock n) f (drop n rest)))
     (sym next_is) in
-    let size : length first.results ≡ n = length-chain_results operation now facts (take n rest)
+    let size : length first.results ≡ n = length-chain_results operation clock facts (take n rest)
     ∙ length-take-le n rest fits in
     record {
-      facts_after = left.facts_after ∙ ap (λ (o : Results). o.facts) whole;
+      facts_after = left.facts_after ∙ ap (λ (o : Results). o.facts) both;
       failures =
-          left.failures ∙ ap (λ (o : Results). out ++ failures_from index o.results) whole
+          left.failures ∙ ap (λ (o : Results). out ++ failures_from index o.results) both
           ∙ ap (λ fs. out ++ fs) (failures_from-append index first.results later.results)
           ∙ sym (append_assoc out (failures_from index first.results)
           (failures_from (index + length first.results) later.results))
@@ -160,28 +160,20 @@ left_more operation clock old events now n index facts next rest out more some i
           ∙ ap (λ k. more ++ failures_from (index + k) later.results) size;
     }
 
--- the same for events that chunks of bytes hold, with a name for what is left of the chunks
-pub left_more_chunks : {Chunk Event : Type 0} (operation : Operation Event) (f : Chunk → Event) (clock : ℕ)
-    (old : Facts) (chunks rest : List Chunk) (now after n index : ℕ) (facts next : Facts)
-    (out more : List Failure) →
-    rest ≡ take (length chunks - index) (drop index chunks) → after ≡ clock_after now n → index < length chunks
-    → n ≡ first_chain_length operation.is_linked (map f rest) →
-    next ≡ (chain_results operation now facts (map f (take n rest))).facts →
-    more ≡ out ++ failures_from index (chain_results operation now facts (map f (take n rest))).results →
-    IsLeft operation clock old (map f chunks) now facts index (map f (drop index chunks)) out
-    → IsLeft operation clock old (map f chunks) after next (index + n) (map f (drop (index + n) chunks)) more
-left_more_chunks {Chunk} operation f clock old chunks rest now after n index facts next out more rest_is after_is h
-    is next_is more_is left =
-    let same : rest ≡ drop index chunks = rest_is ∙ take_rest chunks index in
-    let first : map f (take n rest) ≡ take n (map f (drop index chunks)) = ap
-    (λ (rs : List Chunk). map f (take n rs)) same ∙ sym (take-map f n (drop index chunks)) in
-    let some : 0 < length (map f (drop index chunks)) = omega
-    (arith, length-map (drop index chunks) f, length-drop index chunks) in
-    let dropped : drop n (map f (drop index chunks))
-    ≡ map f (drop (index + n) chunks) =
+-- the same for events that chunks of bytes hold
+pub left_more_chunks : {Chunk Event : Type 0} {operation : Operation Event} {whole : Results}
+    {clock after index n : ℕ} {facts next : Facts} {out more : List Failure} (f : Chunk → Event)
+    (chunks : List Chunk) → let rest = take (length chunks - index) (drop index chunks) in
+    after ≡ clock_after clock n → index < length chunks → n ≡ first_chain_length operation.is_linked (map f rest) →
+    next ≡ (chain_results operation clock facts (map f (take n rest))).facts →
+    more ≡ out ++ failures_from index (chain_results operation clock facts (map f (take n rest))).results →
+    IsLeft operation whole clock facts index (map f (drop index chunks)) out
+    → IsLeft operation whole after next (index + n) (map f (drop (index + n) chunks)) more
+left_more_chunks {index = index} {n = n} f chunks after_is h is next_is more_is left =
+    let events = map f (drop index chunks) in
+    let some : 0 < length events = omega (arith, length-map (drop index chunks) f, length-drop index chunks) in
+    let dropped : drop n events ≡ map f (drop (index + n) chunks) =
     drop-map f n (drop index chunks) ∙ ap (map f) (drop-drop n index chunks) in
     rw (after_is, ← dropped)
-    (left_more operation clock old (map f chunks) now n index facts next (map f (drop index chunks)) out more some
-    (is ∙ ap (λ rs. first_chain_length operation.is_linked (map f rs)) same)
-    (next_is ∙ ap (λ es. (chain_results operation now facts es).facts) first)
-    (more_is ∙ ap (λ es. out ++ failures_from index (chain_results operation now facts es).results) first) left)
+    (left_more some (rw take_rest at is) (rw (take_rest, ← take-map) at next_is)
+    (rw (take_rest, ← take-map) at more_is) left)

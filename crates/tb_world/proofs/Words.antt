@@ -1,5 +1,5 @@
 -- The words that these proofs speak in.
-pub use Rattle.std.proofs.lemmas.Bool.{cases_eq, eq-eqb, ne_eqb, and_parts, eqb-true, leb-true, ltb-true, not-true, le-ltb, or_parts, cases_lt}
+pub use Rattle.std.proofs.lemmas.Bool.{cond_both, cases_eq, eq-eqb, ne_eqb, and_parts, eqb-true, leb-true, ltb-true, not-true, le-ltb, or_parts, cases_lt, cond_both}
 pub use Rattle.std.proofs.lemmas.Grind.{flat_map-append, common_steps}
 pub use Rattle.std.proofs.lemmas.List.{get_or-set_same, map-append, get_or-replicate, length-replicate, length-map, set_past, get_or_past, nil_from_length}
 pub use Rattle.std.proofs.lemmas.List.Elements.{filter-append, All-tail, All-push}

@@ -42,79 +42,62 @@ goes_on ledger p goes room = by p room
     by (parcel.Pulse moment) room = committed 1 _ _ room goes
     by p room = goes
 
-pub parcel_goes : (Unrefused : Type 0) (refused : Bool) (start : LedgerState) (n : ℕ) (pushed : List Ticket)
-    (w : WorldState) → (Unrefused → refused ≡ false) → (Unrefused → HasPlaces start pushed)
-    → Holds Unrefused start n pushed w → NextIsApplied Unrefused refused w
-parcel_goes Unrefused refused start n pushed w u room h = λ is p batches e.
-    let on_way = on_the_way w.front w.parcels w.batches in
-    let rest = on_the_way w.front w.parcels batches in
-    let way : inputs_in on_way ≡ inputs_in (decisions_in p)
-    ++ inputs_in rest =
-    rw e (ap inputs_in (append_assoc (decisions_in p) _ _) ∙ inputs_in-append (decisions_in p) rest) in
-    let far = so_far start (items_in h.taken) w.front.closed w.front.stopped h.applied on_way w.ledger h.answers
-    h.sent.passes h.commits in
-    let all = far.whole (h.goes is).front (h.goes is).ledger in
-    let few : HasPlaces start h.taken = fewer_places start h.taken w.queue
-    (subst (HasPlaces start) h.split (room is)) in
-    let since = inputs_since start w.ledger in
-    let places : length (inputs w.ledger) + length (inputs_in (decisions_in p))
-    ≤ 2 ^ 63 =
-    omega (
-      arith,
-      few,
-      ap length (inputs-parts start w.ledger h.commits.continues),
-      length-append (inputs start) since,
-      ap length way,
-      length-append (inputs_in (decisions_in p)) (inputs_in rest),
-      ap length all,
-      length-append since (inputs_in on_way),
-    ) in
-    subst (λ b. (apply_step b w.ledger p).ledger.stopped ≡ false) (sym (u is))
-    (goes_on w.ledger p (h.goes is).ledger places)
+module _ {U : Type 0} {start : LedgerState} {n : ℕ} {pushed : List Ticket} {w : WorldState}
+    (h : Holds U start n pushed w) (room : U → HasPlaces start pushed) where
+  parcel_goes : (refused : Bool) → (U → refused ≡ false) → NextIsApplied U refused w
+  parcel_goes refused u = λ is p batches e.
+      let on_way = on_the_way w.front w.parcels w.batches in
+      let rest = on_the_way w.front w.parcels batches in
+      let way : inputs_in on_way ≡ inputs_in (decisions_in p)
+      ++ inputs_in rest =
+      rw e (ap inputs_in (append_assoc (decisions_in p) _ _) ∙ inputs_in-append (decisions_in p) rest) in
+      let far = so_far on_way h.sent.passes h.commits in
+      let all = far.whole (h.goes is).front (h.goes is).ledger in
+      let few : HasPlaces start h.taken = fewer_places start h.taken w.queue
+      (subst (HasPlaces start) h.split (room is)) in
+      let since = inputs_since start w.ledger in
+      let places : length (inputs w.ledger) + length (inputs_in (decisions_in p))
+      ≤ 2 ^ 63 =
+      omega (
+        arith,
+        few,
+        ap length (inputs-parts start w.ledger h.commits.continues),
+        length-append (inputs start) since,
+        ap length way,
+        length-append (inputs_in (decisions_in p)) (inputs_in rest),
+        ap length all,
+        length-append since (inputs_in on_way),
+      ) in
+      subst (λ b. (apply_step b w.ledger p).ledger.stopped ≡ false) (sym (u is))
+      (goes_on w.ledger p (h.goes is).ledger places)
 
--- ---- one event
-
-none_more : (Unrefused : Type 0) (start : LedgerState) (n : ℕ) (pushed : List Ticket) (w : WorldState)
-    → Holds Unrefused start n pushed w → Holds Unrefused start n (pushed ++ []) w
-none_more Unrefused start n pushed w h = subst (λ l. Holds Unrefused start n l w) (sym (append-nil pushed)) h
-
-event_holds : (Unrefused : Type 0) (start : LedgerState) (n : ℕ) (pushed : List Ticket) (w : WorldState) (e : Event)
-    → (Unrefused → is_refused e ≡ false) → (Unrefused → HasPlaces start pushed) → Holds Unrefused start n pushed w →
-    Holds Unrefused start n (pushed ++ pushed_at w e) (after_event w e)
-event_holds U start n pushed w (Push ticket) u room h =
-    push_holds U start n pushed w ticket (is_lawful w ticket) refl h
-event_holds U start n pushed w (Pop refused) u room h =
-    none_more U start n pushed _ (pop_holds U refused start n pushed w w.parcels w.queue refl refl u h)
-event_holds U start n pushed w BatchPush u room h =
-    none_more U start n pushed _ (batch_push_holds U start n pushed w w.parcels w.front.held refl refl h)
-event_holds U start n pushed w (BatchPop refused) u room h =
-    none_more U start n pushed _ (batch_pop_holds U refused start n pushed w w.outcome w.batches refl refl
-    (parcel_goes U refused start n pushed w u room h) h)
-event_holds U start n pushed w OutcomePush u room h =
-    none_more U start n pushed _ (outcome_push_holds U start n pushed w w.outcome refl h)
-event_holds U start n pushed w OutcomePop u room h =
-    none_more U start n pushed _ (outcome_pop_holds U start n pushed w w.replies w.outcomes refl refl h)
-event_holds U start n pushed w ReplyPush u room h =
-    none_more U start n pushed _ (reply_push_holds U start n pushed w w.replies refl h)
-event_holds U start n pushed w (ReplyPop own) u room h =
-    none_more U start n pushed _ (reply_pop_holds U start n pushed w own (mailbox_at w.mailboxes own).ring refl h)
+  event_holds : (e : Event) → (U → is_refused e ≡ false) → Holds U start n (pushed ++ pushed_at w e) (after_event w e)
+  event_holds (Push ticket) u = push_holds h ticket (is_lawful w ticket) refl
+  event_holds (Pop refused) u = rw append-nil (pop_holds h refused w.parcels w.queue refl refl u)
+  event_holds BatchPush u = rw append-nil (batch_push_holds h w.parcels w.front.held refl refl)
+  event_holds (BatchPop refused) u =
+      rw append-nil (batch_pop_holds h refused w.outcome w.batches refl refl (parcel_goes refused u))
+  event_holds OutcomePush u = rw append-nil (outcome_push_holds h w.outcome refl)
+  event_holds OutcomePop u = rw append-nil (outcome_pop_holds h w.replies w.outcomes refl refl)
+  event_holds ReplyPush u = rw append-nil (reply_push_holds h w.replies refl)
+  event_holds (ReplyPop own) u = rw append-nil (reply_pop_holds h own (mailbox_at w.mailboxes own).ring refl)
 
 -- ---- a list of events
 
-run_holds : (U : Type 0) (start : LedgerState) (n : ℕ) (pushed : List Ticket) (w : WorldState) (es : List Event)
+run_holds : {U : Type 0} {start : LedgerState} {n : ℕ} (pushed : List Ticket) (w : WorldState) (es : List Event)
     → (U → list_any is_refused es ≡ false) → (U → HasPlaces start (pushed ++ history w es)) →
     Holds U start n pushed w → Holds U start n (pushed ++ history w es) (run w es)
-run_holds U start n pushed w [] u room h = none_more U start n pushed w h
-run_holds U start n pushed w (e ∷ es) u room h =
+run_holds pushed w [] u room h = rw append-nil h
+run_holds {U} {start} {n} pushed w (e ∷ es) u room h =
     let others = history (after_event w e) es in
     let list : (pushed ++ pushed_at w e) ++ others
     ≡ pushed ++ (pushed_at w e ++ others) = append_assoc pushed (pushed_at w e) others in
     subst (λ l. Holds U start n l (run (after_event w e) es)) list
-    (run_holds U start n (pushed ++ pushed_at w e) (after_event w e) es
+    (run_holds (pushed ++ pushed_at w e) (after_event w e) es
     (λ is. (or_parts (is_refused e) (list_any is_refused es) (u is)).1)
     (λ is. subst (HasPlaces start) (sym list) (room is))
-    (event_holds U start n pushed w e (λ is. (or_parts (is_refused e) (list_any is_refused es) (u is)).0)
-    (λ is. fewer_places start pushed (pushed_at w e ++ others) (room is)) h))
+    (event_holds h (λ is. fewer_places start pushed (pushed_at w e ++ others) (room is)) e
+    (λ is. (or_parts (is_refused e) (list_any is_refused es) (u is)).0)))
 
 pub length-ahead : (items : List Item) → length (ahead items) ≤ length items
 length-ahead [] = omega arith
@@ -179,4 +162,4 @@ pub all_holds : (start : LedgerState) (limit n : ℕ) (es : List Event) → Comm
     (history (world_over start limit n) es) (run (world_over start limit n) es)
 all_holds start limit n es began =
     let U = GoesOn start es (history (world_over start limit n) es) in
-    run_holds U start n [] (world_over start limit n) es (λ is. is.0) (λ is. is.1) (opened_holds U start limit n began)
+    run_holds [] (world_over start limit n) es (λ is. is.0) (λ is. is.1) (opened_holds U start limit n began)

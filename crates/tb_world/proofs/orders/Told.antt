@@ -20,13 +20,12 @@ due-prefix clock journal place (x ∷ items) others =
 
 -- ---- so far
 
-module _ (U : Type 0) (start : LedgerState) (n : ℕ) (pushed : List Ticket) (w : WorldState) (h : Holds U start n pushed w) where
+module _ {U : Type 0} {start : LedgerState} {n : ℕ} {pushed : List Ticket} {w : WorldState} (h : Holds U start n pushed w) where
   abbrev way : List Decision
   way = on_the_way w.front w.parcels w.batches
 
   far : SoFar start (items_in h.taken) w.front.stopped w.ledger h.answers way
-  far = so_far start (items_in h.taken) w.front.closed w.front.stopped h.applied way w.ledger
-      h.answers h.sent.passes h.commits
+  far = so_far way h.sent.passes h.commits
 
   items_are : items_in pushed ≡ items_in h.taken ++ items_in w.queue
   items_are = ap items_in h.split ∙ map-append (λ (ticket : Ticket). ticket.item) h.taken w.queue
@@ -133,7 +132,7 @@ empty_at_rest w rest =
       rings = λ own. no_ring w own (mailbox_at w.mailboxes own) (mailbox_at w.mailboxes own).ring (rest (ReplyPop own) refl);
     }
 
-module _ (U : Type 0) (start : LedgerState) (n : ℕ) (pushed : List Ticket) (w : WorldState)
+module _ {U : Type 0} {start : LedgerState} {n : ℕ} {pushed : List Ticket} {w : WorldState}
     (h : Holds U start n pushed w) (e : IsEmpty w) where
   taken_all : h.taken ≡ pushed
   taken_all = sym (h.split ∙ ap (λ l. h.taken ++ l) e.queue ∙ append-nil h.taken)
@@ -160,7 +159,7 @@ module _ (U : Type 0) (start : LedgerState) (n : ℕ) (pushed : List Ticket) (w 
   rests : IsLawfulAtRest start n pushed w
   rests =
       let all : h.answers ≡ all_due start.opening (length (inputs start)) (items_in pushed) (inputs w.ledger) =
-      (far U start n pushed w h).replied e.way ∙ ap
+      (far h).replied e.way ∙ ap
       (λ (queue : List Ticket). all_due start.opening (length (inputs start)) (items_in queue) (inputs w.ledger)) taken_all in
       record {
         received = λ submitter among. received_all submitter among ∙ ap (λ rs. replies_to rs submitter) all;
@@ -170,7 +169,7 @@ module _ (U : Type 0) (start : LedgerState) (n : ℕ) (pushed : List Ticket) (w 
 
   whole : Goes w.front w.ledger → inputs_since start w.ledger ≡ ahead (items_in pushed)
   whole goes =
-      let is = far U start n pushed w h in
+      let is = far h in
       sym (append-nil (inputs_since start w.ledger))
       ∙ ap (λ (l : List Decision). inputs_since start w.ledger ++ inputs_in l) (sym e.way)
       ∙ is.whole goes.front goes.ledger ∙ ap (λ (queue : List Ticket). ahead (items_in queue)) taken_all
@@ -198,10 +197,10 @@ has_run start limit n events world began is = subst (HasRun start limit n events
         record {
           began = began;
           is = refl;
-          so_far = is_lawful_so_far U start n pushed end holds;
-          no_stop_seen = λ unrefused room. none_stopped U start n pushed end holds (holds.goes (unrefused, room));
-          at_rest = λ rest. rests U start n pushed end holds (empty_at_rest end rest);
-          whole = λ unrefused room rest. whole U start n pushed end holds (empty_at_rest end rest)
+          so_far = is_lawful_so_far holds;
+          no_stop_seen = λ unrefused room. none_stopped holds (holds.goes (unrefused, room));
+          at_rest = λ rest. rests holds (empty_at_rest end rest);
+          whole = λ unrefused room rest. whole holds (empty_at_rest end rest)
               (holds.goes (unrefused, room));
         }
 

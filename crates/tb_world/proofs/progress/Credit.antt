@@ -1,13 +1,13 @@
 -- Within the credit a reply ring has room for each reply.
 use Rattle.std.proofs.Common.{refl, sym, ap, subst, ◌∙◌, arith, ◌≡◌, ◌≢◌, ⊎_elim, ℕ, ◌+◌, ◌-◌, ◌<◌, ◌≤◌, ◌==◌, Bool, true, false, List, [], ◌∷◌, ◌++◌, length, length-append, set, Option, Some, None, unwrap_or, ltb-true, lt-ltb, eq-eqb, get_or-set_other}
-use Rattle.tb_world.proofs.Words.{if◌then◌else◌, nat_lt, cases_eq, cases_lt, length-map, get_or-set_same, set_past, get_or-replicate, get_or_past, length-replicate, Input, ReplyValue, items_in, items_from, AreSubmitted, Item, Ticket, all_due, replies_to, Ahead, IsPrefix, LedgerState, inputs, prefix-filter, one-each, Event, Push, WorldSender, newcomer, sender_after, empty_mailbox, mailbox_at, WorldState, sender_at, is_lawful, senders_after, received_of, moved, after_event, run, world_over, history, unread, in_flight, has_credit, uses_credit, UseCredit, has_reply_slot, CreditLeavesRoom}
+use Rattle.tb_world.proofs.Words.{if◌then◌else◌, nat_lt, cases_eq, cases_lt, length-map, get_or-set_same, set_past, get_or-replicate, get_or_past, length-replicate, Input, ReplyValue, items_in, items_from, AreSubmitted, Item, Ticket, all_due, replies_to, Ahead, IsPrefix, LedgerState, inputs, prefix-filter, one-each, Event, Push, WorldSender, newcomer, sender_after, empty_mailbox, mailbox_at, WorldState, sender_at, is_lawful, senders_after, received_of, moved, after_event, run, world_over, unread, in_flight, has_credit, uses_credit, UseCredit, has_reply_slot, CreditLeavesRoom}
 use Rattle.tb_work.specs.declared.item.Item.TheVariants as item
 use Rattle.tb_core.specs.claim.Headline.{packets_queued}
 use Rattle.tb_core.proofs.Packets.{jobs-part}
 use Rattle.tb_world.proofs.progress.Steps.{Steps, steps}
 use Rattle.tb_world.proofs.orders.Pushed.{packets_in}
 use Rattle.tb_world.proofs.orders.Holding.{unrouted, Holds}
-use Rattle.tb_world.proofs.orders.Runs.{GoesOn, all_holds}
+use Rattle.tb_world.proofs.orders.Runs.{all_holds}
 use Rattle.tb_world.proofs.orders.Told.{far_prefix}
 
 -- ---- what is in flight stays within the credit
@@ -22,14 +22,13 @@ by_step credit w (Some next) step h =
     λ s. omega (arith, h s, step.received s, ap (λ (all : List WorldSender). (sender_at all s).pushed) step.senders)
 
 -- a sender has pushed at most one more
-pushed_more : (credit flying pushed received : ℕ) (sender : WorldSender) (x : Item) → sender.pushed ≤ received + credit
-    → flying ≡ sender.pushed - received → has_credit credit flying x ≡ true
-    → (sender_after sender x).pushed ≤ received + credit
-pushed_more credit flying pushed received sender (item.Packet job) few flies is =
-    omega (arith, few, flies, ltb-true flying credit is)
-pushed_more credit flying pushed received sender (item.Pulse moment) few flies is = few
-pushed_more credit flying pushed received sender item.End few flies is = few
-pushed_more credit flying pushed received sender item.Close few flies is = few
+pushed_more : (credit received : ℕ) (sender : WorldSender) (x : Item) → sender.pushed ≤ received + credit
+    → has_credit credit (sender.pushed - received) x ≡ true → (sender_after sender x).pushed ≤ received + credit
+pushed_more credit received sender (item.Packet job) few is =
+    omega (arith, few, ltb-true (sender.pushed - received) credit is)
+pushed_more credit received sender (item.Pulse moment) few is = few
+pushed_more credit received sender item.End few is = few
+pushed_more credit received sender item.Close few is = few
 
 set_sender : (senders : List WorldSender) (own s most : ℕ) (new : WorldSender) → (own ≡ s → new.pushed ≤ most)
     → (sender_at senders s).pushed ≤ most → (sender_at (set senders own new) s).pushed ≤ most
@@ -65,8 +64,7 @@ push_keeps credit w ticket true is h = λ s.
     let own = ticket.sender in
     let new = sender_after (sender_at w.senders own) ticket.item in
     let most : new.pushed ≤ length (received_of w own) + credit =
-    pushed_more credit (in_flight w own) 0 (length (received_of w own)) (sender_at w.senders own) ticket.item (h own) refl
-    is in
+    pushed_more credit (length (received_of w own)) (sender_at w.senders own) ticket.item (h own) is in
     set_sender w.senders own s (length (received_of w s) + credit) new
     (λ same. subst (λ k. new.pushed ≤ length (received_of w k) + credit) same most) (h s)
 
@@ -119,17 +117,17 @@ fewer : {X : Type 0} (xs ys : List X) → IsPrefix xs ys → length xs ≤ lengt
 fewer xs ys (rest, is) = omega (arith, length-append xs rest, ap length is)
 
 -- what a submitter received, what is in its ring, and its own of those on the way, are no more than it pushed
-unread_few : (U : Type 0) (start : LedgerState) (n : ℕ) (pushed : List Ticket) (w : WorldState) → Holds U start n pushed w
-    → (s : ℕ) → s < n →
+unread_few : {U : Type 0} {start : LedgerState} {n : ℕ} {pushed : List Ticket} {w : WorldState}
+    → Holds U start n pushed w → (s : ℕ) → s < n →
     length (received_of w s) + (unread (mailbox_at w.mailboxes s)
     + length (replies_to (unrouted w.replies w.outcomes w.outcome) s)) ≤ (sender_at w.senders s).pushed
-unread_few U start n pushed w h s among =
+unread_few {start} {n} {pushed} {w} h s among =
     let mailbox = mailbox_at w.mailboxes s in
     let way = replies_to (unrouted w.replies w.outcomes w.outcome) s in
     let all = all_due start.opening (length (inputs start)) (items_in pushed) (inputs w.ledger) in
     let mine : IsPrefix (replies_to h.answers s) (replies_to all s) =
     prefix-filter (λ (reply : ReplyValue). reply.packet.submitter == s) h.answers all
-    (far_prefix U start n pushed w h) in
+    (far_prefix h) in
     omega (
       arith,
       ap length (h.routed.each s among),
@@ -140,15 +138,15 @@ unread_few U start n pushed w h s among =
       (h.senders.each s (omega (arith, among))).counted,
     )
 
-room_for : (U : Type 0) (credit : ℕ) (start : LedgerState) (n : ℕ) (pushed : List Ticket) (w : WorldState) → Holds U start n pushed w
-    → InCredit credit w → 0 < credit → (replies : List ReplyValue) → w.replies ≡ replies →
-    has_reply_slot credit w replies ≡ true
-room_for U credit start n pushed w h in_credit some [] r = refl
-room_for U credit start n pushed w h in_credit some (reply ∷ replies) r =
+room_for : {U : Type 0} {start : LedgerState} {n : ℕ} {pushed : List Ticket} {w : WorldState}
+    → Holds U start n pushed w → (credit : ℕ) → InCredit credit w → 0 < credit → (replies : List ReplyValue)
+    → w.replies ≡ replies → has_reply_slot credit w replies ≡ true
+room_for h credit in_credit some [] r = refl
+room_for {n} {w} h credit in_credit some (reply ∷ replies) r =
     let s = reply.packet.submitter in
     let less : unread (mailbox_at w.mailboxes s) < credit =
     ⊎_elim
-    (λ (among : s < n). omega (arith, in_credit s, unread_few U start n pushed w h s among, one_more))
+    (λ (among : s < n). omega (arith, in_credit s, unread_few h s among, one_more))
     (λ (past : n ≤ s). omega (
       arith,
       some,
@@ -168,7 +166,5 @@ room_for U credit start n pushed w h in_credit some (reply ∷ replies) r =
 pub credit_leaves_room : CreditLeavesRoom
 credit_leaves_room start limit n credit slots events began some uses =
     let begin = world_over start limit n in
-    let world = run begin events in
-    let queue = history begin events in
-    room_for (GoesOn start events queue) credit start n queue world (all_holds start limit n events began)
-    (run_keeps credit begin events uses (new_keeps credit start limit n)) some world.replies refl
+    room_for (all_holds start limit n events began) credit
+    (run_keeps credit begin events uses (new_keeps credit start limit n)) some (run begin events).replies refl

@@ -1,6 +1,6 @@
 -- Each step that is no push takes at least one from what is left, and a push adds seven.
 use Rattle.std.proofs.Common.{refl, sym, ap, subst, arith, ◌≡◌, ◌≢◌, ⊎_elim, ℕ, ◌+◌, ◌*◌, ◌<◌, ◌≤◌, Bool, true, false, ◌&&◌, ◌||◌, not, List, [], ◌∷◌, ◌++◌, map, length, length-append, length-set, get_or-set_other, sum_by, set, Option, Some, None}
-use Rattle.tb_world.proofs.Words.{if◌then◌else◌, IfSome, cases_eq, cases_lt, length-map, get_or-set_same, set_past, get_or_past, sum_by-cons, sum_by-append, sum_by-set, Numbered, ReplyValue, input_of, Item, Ticket, Outcomes, Parcel, Input, Admitted, replies_from, FrontState, Taken, take_result, with_group, with_end, all_ended, group_as_batch, step_of_packet, step_of_pulse, take_step, LedgerState, inputs, Applied, apply_result, must_stop, with_stop, with_entry, step_of_batch, apply_step, replies_in, Event, Push, Pop, BatchPush, BatchPop, OutcomePush, OutcomePop, ReplyPush, ReplyPop, Mailbox, empty_mailbox, mailbox_at, with_reply, mailboxes_with, after_pop_of, WorldState, received_of, pop, batch_push, pending_of, batch_pop, outcome_push, outcome_pop, reply_push, reply_pop, moved, is_push, owed, left_of_parcel, left_of_pushed, left_of_last, left_of_outcome, left_of_outcomes, unread, left_of_batcher, left}
+use Rattle.tb_world.proofs.Words.{if◌then◌else◌, IfSome, cond_both, cases_eq, cases_lt, length-map, get_or-set_same, set_past, get_or_past, sum_by-cons, sum_by-append, sum_by-set, Numbered, ReplyValue, input_of, Item, Ticket, Outcomes, Parcel, Input, Admitted, replies_from, FrontState, Taken, take_result, with_group, with_end, all_ended, group_as_batch, step_of_packet, step_of_pulse, take_step, LedgerState, inputs, Applied, apply_result, must_stop, with_stop, with_entry, step_of_batch, apply_step, replies_in, Event, Push, Pop, BatchPush, BatchPop, OutcomePush, OutcomePop, ReplyPush, ReplyPop, Mailbox, empty_mailbox, mailbox_at, with_reply, mailboxes_with, after_pop_of, WorldState, received_of, pop, batch_push, pending_of, batch_pop, outcome_push, outcome_pop, reply_push, reply_pop, moved, is_push, owed, left_of_parcel, left_of_pushed, left_of_last, left_of_outcome, left_of_outcomes, unread, left_of_batcher, left}
 use Rattle.tb_work.specs.claim.Answer.{reply_with}
 use Rattle.tb_work.specs.declared.item.Item.TheVariants as item
 use Rattle.tb_work.specs.declared.outcome.Outcome.TheVariants as outcome
@@ -37,17 +37,6 @@ of_stage w next senders mailboxes fewer =
 abbrev left_then : Taken → Bool → ℕ
 left_then taken sent = left_of_batcher taken.parcels taken.front.held (all_ended taken.front && not sent)
 
-abbrev front_of : ℕ → ℕ → List Numbered → Bool → Bool → List Bool → FrontState
-front_of limit submitters held closed stopped ended =
-    record {
-      limit = limit;
-      submitters = submitters;
-      held = held;
-      closed = closed;
-      stopped = stopped;
-      ended = ended;
-    }
-
 last_few : (b : Bool) → left_of_last b ≤ 4
 last_few true = omega arith
 last_few false = omega arith
@@ -61,16 +50,15 @@ joined : (held : List Numbered) (job : Numbered) → sum_by left_of_parcel (grou
 joined [] job = omega arith
 joined (first ∷ held) job = omega (arith, length-append held (job ∷ []))
 
-packet : (refused joins : Bool) (limit submitters : ℕ) (held : List Numbered) (closed stopped : Bool)
-    (ended : List Bool) (job : Numbered) (sent : Bool) → is_taken limit held job ≡ joins →
-    left_then (step_of_packet refused (front_of limit submitters held closed stopped ended) job) sent
-    ≤ 6 + left_of_batcher [] held (all_ended (front_of limit submitters held closed stopped ended) && not sent)
-packet refused joins limit submitters held true stopped ended job sent is = omega arith
-packet refused joins limit submitters held false true ended job sent is = omega arith
-packet true joins limit submitters held false false ended job sent is =
-    omega (arith, group_and held (parcel.Return job Stopped ∷ []))
-packet false true limit submitters held false false ended job sent is = rw is (omega (arith, joined held job))
-packet false false limit submitters held false false ended job sent is = rw is (omega arith)
+packet : (refused : Bool) (front : FrontState) (job : Numbered) (sent : Bool) →
+    left_then (step_of_packet refused front job) sent ≤ 6 + left_of_batcher [] front.held (all_ended front && not sent)
+packet refused front job sent =
+    let Few : Taken → Type 0 = λ taken. left_then taken sent
+    ≤ 6 + left_of_batcher [] front.held (all_ended front && not sent) in
+    cond_both front.closed _ _ Few (λ _. omega arith) (λ _. cond_both front.stopped _ _ Few (λ _. omega arith)
+    (λ _. cond_both refused _ _ Few (λ _. omega (arith, group_and front.held (parcel.Return job Stopped ∷ [])))
+    (λ _. cond_both (is_taken front.limit front.held job) _ _ Few (λ _. omega (arith, joined front.held job))
+    (λ _. omega arith))))
 
 pulse : (b : Bool) (front : FrontState) (moment : ℕ) (sent : Bool) → (front.closed || front.stopped) ≡ b →
     left_then (step_of_pulse front moment) sent ≤ 6 + left_of_batcher [] front.held (all_ended front && not sent)
@@ -88,8 +76,7 @@ taken_left : (refused : Bool) (front : FrontState) (sender : ℕ) (x : Item) (se
     left_then (take_step refused front sender x) sent
     ≤ 6 + left_of_batcher [] front.held (all_ended front && not sent)
 taken_left refused front sender (item.Packet job) sent =
-    packet refused (is_taken front.limit front.held job) front.limit front.submitters front.held front.closed
-    front.stopped front.ended job sent refl
+    packet refused front job sent
 taken_left refused front sender (item.Pulse moment) sent =
     pulse (front.closed || front.stopped) front moment sent refl
 taken_left refused front sender item.End sent = end (all_ended (with_end front sender)) front sender sent

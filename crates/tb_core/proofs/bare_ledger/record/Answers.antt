@@ -35,4 +35,4 @@ returns-clause-replies c = λ clock before at answered.
     } in
     c.new.ensures ∙ rw c.answer-answer.ensures (recorded law c.args.place
     (replay clock before) c.args.parts c.requires.fits answered).replies
-    ∙ replies_from-answers clock c.args.place (replay clock before) _ before c.args.parts.jobs.items refl at refl
+    ∙ replies_from-answers clock c.args.place _ before c.args.parts.jobs.items refl at

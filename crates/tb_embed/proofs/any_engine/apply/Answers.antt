@@ -13,5 +13,5 @@ returns-in-Some-clause-sent g c = λ start limit sent read joined has.
     rw (c.in-Some.is, c.push.ensures.replies)
     (subst (HasSentBy may_be start limit (sent ++ all_decisions_in (handed ∷ [])))
     (append_assoc read before (replies_in given))
-    (parcel_sent was may_be handed given start limit sent (read ++ before) c.apply-outcomes.ensures.applied
+    (parcel_sent was may_be handed given c.apply-outcomes.ensures.applied
     (subst (λ parcel. AreJoinedParcels limit (option_to_list parcel)) c.in-Some.is joined) has))

@@ -1,5 +1,5 @@
 use Rattle.std.proofs.Common.{◌++◌}
-use Rattle.tb_embed.proofs.Words.{option_to_list, HasSentBy}
+use Rattle.tb_embed.proofs.Words.{HasSentBy}
 use Rattle.tb_embed.proofs.Parcels.{held_taken}
 use Rattle.tb_embed.proofs.any_engine.commit_held.Goals as goal
 
@@ -10,5 +10,5 @@ returns-clause-taken g c = λ start items read has.
     rw c.seal.ensures.left (held_taken
     (λ limit sent. HasSentBy (may_be c.args.ledger.now) start limit sent (read ++ c.args.unread.now.replies))
     (λ limit sent. HasSentBy (may_be c.apply.new.ledger) start limit sent (read ++ c.apply.new.unread.replies))
-    items front (option_to_list c.seal.result) c.seal.ensures.parcel c.seal.ensures.front.group
+    c.seal.ensures.parcel c.seal.ensures.front.group
     (λ sent joined had. c.apply.ensures.sent start front.limit sent read joined had) has)

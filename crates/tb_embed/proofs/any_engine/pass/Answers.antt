@@ -1,5 +1,5 @@
 use Rattle.std.proofs.Common.{◌++◌}
-use Rattle.tb_embed.proofs.Words.{option_to_list, HasSentBy}
+use Rattle.tb_embed.proofs.Words.{HasSentBy}
 use Rattle.tb_embed.proofs.Parcels.{ticket_taken}
 use Rattle.tb_embed.proofs.any_engine.pass.Goals as goal
 
@@ -10,6 +10,5 @@ returns-clause-taken g c = λ start items read has.
     ticket_taken
     (λ limit sent. HasSentBy (may_be c.args.ledger.now) start limit sent (read ++ c.args.unread.now.replies))
     (λ limit sent. HasSentBy (may_be c.apply.new.ledger) start limit sent (read ++ c.apply.new.unread.replies))
-    items front c.offer.new.front c.args.ticket (option_to_list c.in_ok-parcel.parcel) c.offer.ensures.front
-    c.requires.sender c.in_ok-parcel.ensures.ok
+    c.args.ticket c.offer.ensures.front c.requires.sender c.in_ok-parcel.ensures.ok
     (λ sent joined had. c.apply.ensures.sent start front.limit sent read joined had) has

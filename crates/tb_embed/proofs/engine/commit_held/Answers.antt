@@ -1,5 +1,5 @@
 use Rattle.std.proofs.Common.{◌++◌}
-use Rattle.tb_embed.proofs.Words.{option_to_list, HasSent}
+use Rattle.tb_embed.proofs.Words.{HasSent}
 use Rattle.tb_embed.proofs.Parcels.{held_taken}
 use Rattle.tb_embed.proofs.engine.commit_held.Goals as goal
 
@@ -9,5 +9,5 @@ returns-in-Ok-clause-taken c = λ start items read has.
     rw c.seal.ensures.left (held_taken
     (λ limit sent. HasSent start limit sent c.args.ledger.now (read ++ c.args.unread.now.replies))
     (λ limit sent. HasSent start limit sent c.apply.new.ledger (read ++ c.apply.new.unread.replies))
-    items front (option_to_list c.seal.result) c.seal.ensures.parcel c.seal.ensures.front.group
+    c.seal.ensures.parcel c.seal.ensures.front.group
     (λ sent joined had. c.in-Ok.ensures.sent start front.limit sent read joined had) has)

@@ -9,8 +9,7 @@ returns-in-Ok-apply-clause-taken c = λ start items read has.
     let front = c.args.front.now in
     ticket_taken (λ limit sent. HasSent start limit sent c.args.ledger.now (read ++ c.args.unread.now.replies))
     (λ limit sent. HasSent start limit sent c.apply.new.ledger (read ++ c.apply.new.unread.replies))
-    items front c.offer.new.front c.args.ticket (option_to_list c.in-Ok.parcel) c.offer.ensures.front
-    c.requires.sender c.in-Ok.ensures.ok
+    c.args.ticket c.offer.ensures.front c.requires.sender c.in-Ok.ensures.ok
     (λ sent joined had. c.in-Ok-apply.ensures.sent start front.limit sent read joined had) has
 
 pub take_back-requires-clause-group : goal.take_back-requires-clause-group

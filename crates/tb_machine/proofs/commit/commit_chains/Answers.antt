@@ -12,7 +12,7 @@ loop-start-preserved g c =
       len = search rules;
       capacity = search rules;
       left = rw c.next-start.ensures.index
-          (left_more_chunks g.E.CreateEvent.operation g.E.CreateEvent.event_of _ _ _ _ _ _ _ _ _ _ _ _ refl
-          c.next-start.ensures.clock c.loop-start-test.true c.in_ok-count.ensures.count
-          c.in_ok-count.ensures.facts c.in_ok-count.ensures.failures c.loop-start.invariant.left);
+          (left_more_chunks g.E.CreateEvent.event_of _ c.next-start.ensures.clock c.loop-start-test.true
+          c.in_ok-count.ensures.count c.in_ok-count.ensures.facts c.in_ok-count.ensures.failures
+          c.loop-start.invariant.left);
     }

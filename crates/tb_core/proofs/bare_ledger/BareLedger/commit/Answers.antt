@@ -1,4 +1,4 @@
-use Rattle.std.proofs.Common.{◌∙◌, ap, sym, subst, ◌+◌, length}
+use Rattle.std.proofs.Common.{◌∙◌, ap, sym, subst, length}
 use Rattle.tb_core.proofs.Words.{BareLedgerState, halts, AreAnswered}
 use Rattle.tb_core.proofs.Batches.{JoinInvisibly}
 use Rattle.tb_core.proofs.LedgerSteps.{batch_applied}
@@ -15,8 +15,6 @@ returns-clause-ok c = rw (← c.self.view_is) (λ groups is.
       stopped = inside.stopped;
     } in
     let parts = c.take_batch.new.parts in
-    let count = length c.jobs-count.result.now in
-    let machine = c.take_batch.new.machine in
     let succeeded = sym c.is_err.ensures.value ∙ c.if-is_err.false in
     let answered = given c.take_batch.result _ succeeded c.take_batch.ensures.answered in
     let next = given c.take_batch.result _ succeeded c.take_batch.ensures.state in
@@ -29,10 +27,8 @@ returns-clause-ok c = rw (← c.self.view_is) (λ groups is.
     ∙ ap (λ jobs. halts c.args.self.now (length jobs)) (sym c.jobs-count.ensures.jobs)
     ∙ sym c.halts_at.ensures ∙ c.if-halts_at.false in
     rw c.record-replies.ensures.entry.0 (
-      batch_entered law bare groups machine parts count is answered next
-          (ap length (c.jobs-count.ensures.jobs ∙ sym same)),
-      batch_applied bare groups (inside.places + count) machine parts.jobs.items c.args.batch
-          c.record-replies.result.replies is (next ∙ batch_state law inside.machine parts answered) same
+      batch_entered law is answered next (ap length (c.jobs-count.ensures.jobs ∙ sym same)),
+      batch_applied is (next ∙ batch_state law inside.machine parts answered) same
           (c.record-replies.ensures.replies inside.opening _ is.counted
           (subst (λ state. AreAnswered state parts) is.machine answered)) goes,
     ))

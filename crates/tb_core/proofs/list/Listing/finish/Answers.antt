@@ -9,14 +9,10 @@ returns-in-Some c = λ start limit items run.
     let now = c.apply.new.ledger in
     let given = c.apply.new.replies.items in
     on_ok_weaker c.apply.result
-    (λ on. through start limit items c.args.self.now.front c.args.self.now.ledger c.args.self.now.replies.items now
-    given run (subst (λ jobs. HasNotStopped start limit (run.sent ++ map Admitted jobs) now given) held on))
+    (λ on. through run (subst (λ jobs. HasNotStopped start limit (run.sent ++ map Admitted jobs) now given) held on))
     (c.apply.ensures start limit run.sent (subst (IsGroup limit) (sym held)
     (subst (λ n. IsGroup n c.args.self.now.front.held) run.under c.in-Some.ensures.lawful)) run.goes_on)
 
 pub returns-in-None : goal.returns-in-None
 returns-in-None c = λ start limit items run.
-    let ledger = c.args.self.now.ledger in
-    let replies = c.args.self.now.replies.items in
-    through start limit items c.args.self.now.front ledger replies ledger replies run
-    (rw (c.in-None.ensures.none, append-nil) run.goes_on)
+    through run (rw (c.in-None.ensures.none, append-nil) run.goes_on)

@@ -4,5 +4,5 @@ use Rattle.tb_embed.proofs.any_engine.AnyEngine.over.Goals as goal
 
 pub returns-clause-opened : goal.returns-clause-opened
 returns-clause-opened g c =
-    opened_by g.L.AnyLedger.is c.args.ledger c.args.limit c.args.submitters _ c.in-Ok.front (rw c.new-2.ensures refl)
+    opened_by g.L.AnyLedger.is c.in-Ok.front (rw c.new-2.ensures refl)
     c.in-Ok.ensures.front c.in-Ok.ensures.passes c.stopped.ensures.begins c.stopped.ensures.joined

@@ -1,7 +1,7 @@
 use Rattle.std.proofs.Common.{refl, sym, subst, ap, ◌∙◌}
 use Rattle.tb_work.specs.declared.item.Item.TheVariants as item
-use Rattle.tb_embed.proofs.Words.{AnyEngineState, QueuesBy, Steps, ticket_of}
-use Rattle.tb_embed.proofs.AnyRun.{TakesBy, control_by}
+use Rattle.tb_embed.proofs.Words.{AnyEngineState, QueuesBy, ticket_of}
+use Rattle.tb_embed.proofs.AnyRun.{TookBy, control_by}
 use Rattle.tb_embed.proofs.any_engine.AnyEngine.pulse.Goals as goal
 
 pub returns-clause-ok : goal.returns-clause-ok
@@ -14,6 +14,5 @@ returns-clause-ok g c =
     let open_yet = ap (λ (s : AnyEngineState _). s.shut) (sym c.self.view_is) ∙ c.if-self.false in
     subst (λ b. QueuesBy may_be old (ticket_of old.front.submitters x) (record new { shut = b })) (sym (done.same.1 ∙ open_yet))
     (control_by may_be old new x
-    (subst (λ moment. TakesBy may_be old new (item.Pulse moment)) c.new.ensures done.taken)
-    (subst (λ moment. Steps old.front (ticket_of old.front.submitters (item.Pulse moment)) new.front) c.new.ensures done.steps)
-    done.front done.same.0 done.same.3 refl tt refl open_yet)
+    (subst (λ moment. TookBy may_be old new (ticket_of old.front.submitters (item.Pulse moment))) c.new.ensures
+    (record { takes = done.taken; steps = done.steps; sound = done.front; same = done.same })) refl tt refl open_yet)

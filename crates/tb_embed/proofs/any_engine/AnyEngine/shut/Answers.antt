@@ -11,5 +11,5 @@ returns-clause-ok g c =
     let done = c.in_ok-take_control.ensures in
     let open_yet = ap (λ (s : AnyEngineState _). s.shut) (sym c.self.view_is) ∙ c.if-self.false in
     subst (λ (s : AnyEngineState _). QueuesBy may_be old (ticket_of old.front.submitters item.Close) (record s { shut = true }))
-    (sym c.self-2.view_is) (control_by may_be old c.take_control.new.self item.Close done.taken done.steps done.front
-    done.same.0 done.same.3 refl tt refl open_yet)
+    (sym c.self-2.view_is) (control_by may_be old c.take_control.new.self item.Close
+    (record { takes = done.taken; steps = done.steps; sound = done.front; same = done.same }) refl tt refl open_yet)

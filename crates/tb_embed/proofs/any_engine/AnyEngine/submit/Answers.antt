@@ -1,7 +1,7 @@
 use Rattle.std.proofs.Common.{sym, subst, ap, arith, ◌+◌, ◌≤◌, get_or, length}
-use Rattle.tb_embed.proofs.Words.{slice_set, Numbered, AnyEngineState, QueuesBy, Steps, packet_ticket, ticket_of}
+use Rattle.tb_embed.proofs.Words.{slice_set, Numbered, AnyEngineState, QueuesBy, packet_ticket, ticket_of}
 use Rattle.tb_work.specs.declared.item.Item.TheVariants as item
-use Rattle.tb_embed.proofs.AnyRun.{TakesBy, packet_by}
+use Rattle.tb_embed.proofs.AnyRun.{TookBy, packet_by}
 use Rattle.tb_embed.proofs.any_engine.AnyEngine.submit.Goals as goal
 
 pub returns-in-Ok-clause-ok : goal.returns-in-Ok-clause-ok
@@ -11,16 +11,14 @@ returns-in-Ok-clause-ok g c =
     let new = c.take.new.self in
     let submitter = c.args.submitter in
     let number = get_or c.self.inside.numbers submitter 0 in
-    let same = c.in-Ok.ensures.same in
+    let done = c.in-Ok.ensures in
     let known = c.self.invariant in
     subst (λ (s : AnyEngineState _). QueuesBy may_be old (packet_ticket submitter number c.args.packet)
     (record s { numbers = slice_set s.numbers submitter (number + 1) }))
     (sym c.self-2.view_is)
     (packet_by may_be old new submitter number c.args.packet
     (ap (λ (s : AnyEngineState _). get_or s.numbers submitter 0) (sym c.self.view_is))
-    (subst (λ (job : Numbered). TakesBy may_be old new (item.Packet job)) c.in_ok-job.ensures.job c.in-Ok.ensures.taken)
-    (subst (λ (job : Numbered). Steps old.front (ticket_of submitter (item.Packet job)) new.front)
-    c.in_ok-job.ensures.job c.in-Ok.ensures.steps)
-    c.in-Ok.ensures.front same.0 same.1 same.3 c.in_default.ensures.among
+    (subst (λ (job : Numbered). TookBy may_be old new (ticket_of submitter (item.Packet job))) c.in_ok-job.ensures.job
+    (record { takes = done.taken; steps = done.steps; sound = done.front; same = done.same })) c.in_default.ensures.among
     (subst (λ (s : AnyEngineState _). s.front.submitters ≤ length s.numbers) c.self.view_is
     (omega (arith, known.counted, known.among, known.each))))

@@ -7,10 +7,8 @@ use Rattle.tb_embed.proofs.engine.Engine.shut.Goals as goal
 pub returns-clause-ok : goal.returns-clause-ok
 returns-clause-ok c =
     let old = c.args.self.now in
-    let same = c.in_ok-take_control.ensures.same in
+    let done = c.in_ok-take_control.ensures in
     let open_yet = ap (λ (e : EngineState). e.shut) (sym c.self.view_is) ∙ c.if-self.false in
     subst (λ (s : EngineState). Queues old (ticket_of old.front.submitters item.Close) (record s { shut = true }))
-    (sym c.self-2.view_is) (control_serves old c.take_control.new.self item.Close c.in_ok-take_control.ensures.taken
-    c.in_ok-take_control.ensures.steps c.in_ok-take_control.ensures.stopped
-    c.in_ok-take_control.ensures.front
-    same.0 same.3 refl tt refl open_yet)
+    (sym c.self-2.view_is) (control_serves item.Close
+    (record { takes = done.taken; steps = done.steps; stopped = done.stopped; sound = done.front; same = done.same }) refl tt refl open_yet)

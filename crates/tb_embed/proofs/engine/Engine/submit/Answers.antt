@@ -1,7 +1,7 @@
 use Rattle.std.proofs.Common.{sym, subst, ap, ◌∙◌, arith, ◌+◌, ◌≤◌, get_or, length}
-use Rattle.tb_embed.proofs.Words.{slice_set, Numbered, EngineState, Queues, Steps, packet_ticket, ticket_of}
+use Rattle.tb_embed.proofs.Words.{slice_set, Numbered, EngineState, Queues, packet_ticket, ticket_of}
 use Rattle.tb_work.specs.declared.item.Item.TheVariants as item
-use Rattle.tb_embed.proofs.EngineRun.{Stops, Takes, packet_serves, is_among}
+use Rattle.tb_embed.proofs.EngineRun.{Took, packet_serves, is_among}
 use Rattle.tb_embed.proofs.engine.Engine.submit.Goals as goal
 
 pub returns-in-Ok-clause-ok : goal.returns-in-Ok-clause-ok
@@ -10,19 +10,15 @@ returns-in-Ok-clause-ok c =
     let new = c.take.new.self in
     let submitter = c.args.submitter in
     let number = get_or c.self.inside.numbers submitter 0 in
-    let same = c.in-Ok.ensures.same in
+    let done = c.in-Ok.ensures in
     let known = c.self.invariant in
     subst (λ (s : EngineState). Queues old (packet_ticket submitter number c.args.packet)
     (record s { numbers = slice_set s.numbers submitter (number + 1) }))
     (sym c.self-2.view_is)
-    (packet_serves old new submitter number c.args.packet
+    (packet_serves submitter number c.args.packet
     (ap (λ (s : EngineState). get_or s.numbers submitter 0) (sym c.self.view_is))
-    (subst (λ (job : Numbered). Takes old (item.Packet job) new) c.in_ok-job.ensures.job c.in-Ok.ensures.taken)
-    (subst (λ (job : Numbered). Steps old.front (ticket_of submitter (item.Packet job)) new.front)
-    c.in_ok-job.ensures.job c.in-Ok.ensures.steps)
-    (subst (λ (job : Numbered). Stops old (ticket_of submitter (item.Packet job)) new)
-    c.in_ok-job.ensures.job c.in-Ok.ensures.stopped) c.in-Ok.ensures.front
-    same.0 same.1 same.3
+    (subst (λ (job : Numbered). Took old (ticket_of submitter (item.Packet job)) new) c.in_ok-job.ensures.job
+    (record { takes = done.taken; steps = done.steps; stopped = done.stopped; sound = done.front; same = done.same }))
     (is_among old submitter (sym c.refusal.ensures ∙ c.in_default.is))
     (subst (λ (s : EngineState). s.front.submitters ≤ length s.numbers) c.self.view_is
     (omega (arith, known.counted, known.among, known.each))))

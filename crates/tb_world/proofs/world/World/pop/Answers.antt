@@ -3,11 +3,11 @@ use Rattle.tb_world.proofs.Words.{common_steps, All-tail, Ticket, Parcel, FrontS
 use Rattle.tb_world.proofs.world.World.pop.Goals as goal
 
 -- a ticket was taken off the queue
-taken_off : (refused : Bool) (submitters : ℕ) (old new : FrontState) (ticket : Ticket) (queue rest : List Ticket)
-    (senders : List WorldSender) (parcels : List Parcel) → IsWorld submitters old queue senders → IsFront old →
-    queue ≡ ticket ∷ rest → take_result new parcels ≡ take_step refused old ticket.sender ticket.item
+taken_off : {submitters : ℕ} {old new : FrontState} {ticket : Ticket} {queue rest : List Ticket}
+    {senders : List WorldSender} {parcels : List Parcel} (refused : Bool) → IsWorld submitters old queue senders
+    → IsFront old → queue ≡ ticket ∷ rest → take_result new parcels ≡ take_step refused old ticket.sender ticket.item
     → IsWorld submitters new rest senders
-taken_off refused submitters old new ticket queue rest senders parcels is front queue_is took =
+taken_off {submitters} {old} {ticket} {rest} refused is front queue_is took =
     let Among : Ticket → Type 0 = λ ticket. ticket.sender ≤ submitters in
     let step = is_step (λ parcel. Unit {0}) (λ moment. tt) (λ job cause. tt) refused old ticket.sender ticket.item
     (λ job jobs held. tt) front.clear in
@@ -20,17 +20,11 @@ taken_off refused submitters old new ticket queue rest senders parcels is front 
 
 pub invariant_of-self-then-refused : goal.invariant_of-self-then-refused
 invariant_of-self-then-refused c =
-    taken_off true c.self.inside.submitters c.self.inside.front c.step_refused.new.self c.in-Some.ticket
-    c.self.inside.queue.items c.pop_front.new.self.items c.self.inside.senders.items
-    c.step_refused.new.parcels.items
-    c.self.invariant c.step_refused.ensures.front c.in-Some.ensures.items c.step_refused.ensures.took
+    taken_off true c.self.invariant c.step_refused.ensures.front c.in-Some.ensures.items c.step_refused.ensures.took
 
 pub invariant_of-self-in-Ok : goal.invariant_of-self-in-Ok
 invariant_of-self-in-Ok c =
-    taken_off false c.self.inside.submitters c.self.inside.front c.try_take.new.self c.in-Some.ticket
-    c.self.inside.queue.items c.pop_front.new.self.items c.self.inside.senders.items
-    c.try_take.new.parcels.items
-    c.self.invariant c.try_take.ensures.front c.in-Some.ensures.items c.in-Ok.ensures.ok
+    taken_off false c.self.invariant c.try_take.ensures.front c.in-Some.ensures.items c.in-Ok.ensures.ok
 
 pub returns-then-refused-clause-ok : goal.returns-then-refused-clause-ok
 returns-then-refused-clause-ok c = search rules
