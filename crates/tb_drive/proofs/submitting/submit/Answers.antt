@@ -4,7 +4,7 @@ use Rattle.tb_drive.proofs.submitting.submit.Goals as goal
 
 pub loop-preserved : goal.loop-preserved
 loop-preserved g c =
-    let kept : (c.match-this.packet ≡ c.loop.packet) × (c.submit_once.new.submitter ≡ c.loop.submitter) = search rules in
+    let kept : (c.in-Err-default-InFlight.back ≡ c.loop.packet) × (c.submit_once.new.submitter ≡ c.loop.submitter) = search rules in
     record {
       own = c.read_or_wait.ensures.own ∙ c.submit_once.ensures.own ∙ c.loop.invariant.own;
       front = c.read_or_wait.ensures.front ∙ ap (λ (one : SubmitterState). one.queued) kept.1 ∙ c.loop.invariant.front;
