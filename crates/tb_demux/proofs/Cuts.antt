@@ -1,5 +1,5 @@
 -- Cutting off one packet's failures.
-use Rattle.std.proofs.Common.{inl, inr, refl, sym, ap, ◌∙◌, arith, ◌≡◌, ℕ, suc, ◌+◌, ◌<◌, ◌≤◌, Bool, true, false, not, nat_le, nat_lt, ◌&&◌, List, [], ◌∷◌, length, map, filter, take, drop}
+use Rattle.std.proofs.Common.{inl, inr, refl, sym, ap, ◌∙◌, arith, ◌≡◌, ℕ, ◌+◌, ◌<◌, ◌≤◌, Bool, true, false, not, nat_le, nat_lt, ◌&&◌, List, [], ◌∷◌, length, map, filter, take, drop}
 use Rattle.std.specs.Prelude.{◌⊎◌, if◌then◌else◌}
 use Rattle.std.specs.List.{list_all}
 use Rattle.std.proofs.lemmas.Bool.{and_parts}
@@ -34,33 +34,25 @@ not_at_least a b h = grind (arith, nat_tests)
 
 -- ---- the leading failures of a rising list
 
-rise_own-if : (low high end : ℕ) (failure : Failure) (failures : List Failure) (b : Bool)
-    → nat_lt failure.index end ≡ b → RiseWithin low high (failure ∷ failures) →
-    RiseWithin (failure.index + 1) end (take (count_below end failures) failures)
-    → RiseWithin low end (take (if b then suc (count_below end failures) else 0) (failure ∷ failures))
-rise_own-if low high end failure failures true is rise own = (rise.0, below failure.index end is, own)
-rise_own-if low high end failure failures false is rise own = tt
+by_test : {A : Type 0} (G : A → Type 0) (test : Bool) (x y : A) → (test ≡ true → G x) → (test ≡ false → G y)
+    → G (if test then x else y)
+by_test G true x y is other = is refl
+by_test G false x y is other = other refl
 
 pub rise_own : (low high end : ℕ) (failures : List Failure) → RiseWithin low high failures
     → RiseWithin low end (take (count_below end failures) failures)
 rise_own low high end [] rise = tt
 rise_own low high end (failure ∷ failures) rise =
-    rise_own-if low high end failure failures (nat_lt failure.index end) refl rise
-    (rise_own (failure.index + 1) high end failures rise.2)
-
-rise_after-if : (low high end : ℕ) (failure : Failure) (failures : List Failure) (b : Bool)
-    → nat_lt failure.index end ≡ b → RiseWithin low high (failure ∷ failures) →
-    RiseWithin end high (drop (count_below end failures) failures)
-    → RiseWithin end high (drop (if b then suc (count_below end failures) else 0) (failure ∷ failures))
-rise_after-if low high end failure failures true is rise remainder = remainder
-rise_after-if low high end failure failures false is rise remainder = (not_below failure.index end is, rise.1, rise.2)
+    by_test (λ n. RiseWithin low end (take n (failure ∷ failures))) (nat_lt failure.index end) _ _
+    (λ is. (rise.0, below failure.index end is, rise_own (failure.index + 1) high end failures rise.2)) (λ is. tt)
 
 pub rise_after : (low high end : ℕ) (failures : List Failure) → RiseWithin low high failures
     → RiseWithin end high (drop (count_below end failures) failures)
 rise_after low high end [] rise = tt
 rise_after low high end (failure ∷ failures) rise =
-    rise_after-if low high end failure failures (nat_lt failure.index end) refl rise
-    (rise_after (failure.index + 1) high end failures rise.2)
+    by_test (λ n. RiseWithin end high (drop n (failure ∷ failures))) (nat_lt failure.index end) _ _
+    (λ is. rise_after (failure.index + 1) high end failures rise.2)
+    (λ is. (not_below failure.index end is, rise.1, rise.2))
 
 skip : (a b : Bool) (failure : Failure) (failures : List Failure) → b ≡ false
     → (if a && b then failure ∷ failures else failures) ≡ failures
@@ -77,23 +69,16 @@ none_within offset count low high (failure ∷ failures) past rise =
     (filter (is_within offset count) failures) out
     ∙ none_within offset count (failure.index + 1) high failures (omega (arith, rise.0)) rise.2
 
-own-if : (offset count low high : ℕ) (failure : Failure) (failures : List Failure) (b : Bool)
-    → nat_lt failure.index (offset + count) ≡ b → offset ≤ low → RiseWithin low high (failure ∷ failures) →
-    filter (is_within offset count) failures ≡ take (count_below (offset + count) failures) failures →
-    filter (is_within offset count) (failure ∷ failures)
-    ≡ take (if b then suc (count_below (offset + count) failures) else 0) (failure ∷ failures)
-own-if offset count low high failure failures true is from rise own =
-    rw (at_least offset failure.index (omega (arith, rise.0)), is) (ap (λ fs. failure ∷ fs) own)
-own-if offset count low high failure failures false is from rise own =
-    none_within offset count failure.index high (failure ∷ failures) (not_below failure.index (offset + count) is)
-    (omega arith, rise.1, rise.2)
-
 own : (offset count low high : ℕ) (failures : List Failure) → offset ≤ low → RiseWithin low high failures
     → filter (is_within offset count) failures ≡ take (count_below (offset + count) failures) failures
 own offset count low high [] from rise = refl
 own offset count low high (failure ∷ failures) from rise =
-    own-if offset count low high failure failures (nat_lt failure.index (offset + count)) refl from rise
-    (own offset count (failure.index + 1) high failures (omega (arith, rise.0)) rise.2)
+    by_test (λ n. filter (is_within offset count) (failure ∷ failures) ≡ take n (failure ∷ failures))
+    (nat_lt failure.index (offset + count)) _ _
+    (λ is. rw (at_least offset failure.index (omega (arith, rise.0)), is) (ap (λ fs. failure ∷ fs)
+    (own offset count (failure.index + 1) high failures (omega (arith, rise.0)) rise.2)))
+    (λ is. none_within offset count failure.index high (failure ∷ failures)
+    (not_below failure.index (offset + count) is) (omega arith, rise.1, rise.2))
 
 -- a packet's own failures are the leading ones
 pub cut_leading : (offset count high : ℕ) (failures : List Failure) → RiseWithin offset high failures
@@ -104,24 +89,16 @@ cut_leading offset count high failures rise =
 
 -- ---- the packets after the first
 
-skipped-if : (end offset count : ℕ) (failure : Failure) (failures : List Failure) (b : Bool)
-    → nat_lt failure.index end ≡ b → end ≤ offset →
-    filter (is_within offset count) failures ≡ filter (is_within offset count)
-    (drop (count_below end failures) failures) →
-    filter (is_within offset count) (failure ∷ failures)
-    ≡ filter (is_within offset count) (drop (if b then suc (count_below end failures)
-    else 0) (failure ∷ failures))
-skipped-if end offset count failure failures true is past same =
-    rw (not_at_least offset failure.index (omega (arith, below failure.index end is))) same
-skipped-if end offset count failure failures false is past same = refl
-
 skipped : (end offset count : ℕ) (failures : List Failure) → end ≤ offset
     → filter (is_within offset count) failures ≡ filter (is_within offset count)
     (drop (count_below end failures) failures)
 skipped end offset count [] past = refl
 skipped end offset count (failure ∷ failures) past =
-    skipped-if end offset count failure failures (nat_lt failure.index end) refl past
-    (skipped end offset count failures past)
+    by_test (λ n. filter (is_within offset count) (failure ∷ failures)
+    ≡ filter (is_within offset count) (drop n (failure ∷ failures))) (nat_lt failure.index end) _ _
+    (λ is. rw (not_at_least offset failure.index (omega (arith, below failure.index end is)))
+    (skipped end offset count failures past))
+    (λ is. refl)
 
 replies_after : (end place offset : ℕ) (failures : List Failure) (jobs : List Numbered) → end ≤ offset
     → cut_replies_from place offset failures jobs ≡ cut_replies_from place offset
@@ -150,12 +127,13 @@ rise_remaining offset other high failures end rise is (inl same) = rw (same, sym
 rise_remaining offset other high failures end rise is (inr empty) = rw empty tt
 
 -- what is left is that of the packets after it
-pub next_remaining : (old new : RemainingFailures) (job : Numbered) (jobs : List Numbered) → AreRemaining old (job ∷ jobs)
+pub next_remaining : {old : RemainingFailures} (new : RemainingFailures) {job : Numbered} {jobs : List Numbered}
+    → AreRemaining old (job ∷ jobs)
     → failures_remaining new ≡ drop (count_below (old.offset + count_of job.packet) (failures_remaining old))
     (failures_remaining old) →
     new.taken ≤ length new.failures → (new.offset ≡ old.offset + count_of job.packet) ⊎ (failures_remaining new ≡ [])
     → new.place ≡ old.place + 1 → AreRemaining new jobs
-next_remaining old new job jobs h is taken offset place =
+next_remaining {old} new {job} {jobs} h is taken offset place =
     let end = old.offset + count_of job.packet in
     let high = old.offset + (count_of job.packet + count_of_all jobs) in
     let remainder : RiseWithin end high (failures_remaining new) = rw is

@@ -15,7 +15,7 @@ invariant_of-self-2 c =
     (subst (λ jobs. IsSourceOf c.self.inside.source jobs) c.in_ok-job.ensures.items c.self.invariant) in
     elim c.match-self.branch [
       | in-Failures w ↦ let left =
-          w.reply.ensures in rw w.self-inside-is (next_remaining w.in-Failures.remaining_failures w.reply.new.self job rest
+          w.reply.ensures in rw w.self-inside-is (next_remaining w.reply.new.self
           (known _ w.in-Failures.is) left.left left.taken left.offset left.place)
       | in-Lookup w ↦ rw w.self-inside-is (none_left w.in-Lookup.outcome w.replace.new.dest job rest
           (known _ w.in-Lookup.is))
