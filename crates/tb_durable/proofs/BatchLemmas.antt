@@ -58,12 +58,12 @@ module _ (job : Numbered) (more : List ℕ) (operation : ℕ) (stub : Stub) (bod
       (is ∙ first_bytes)
 
 -- a packet that was cut off the front of a batch's columns
-pub cut_off : (stub : Stub) (operation size : ℕ) (bytes more body : List ℕ) → Some size ≡ event_size operation → 0 < size
+pub cut_off : {stub : Stub} {operation size : ℕ} {bytes more body : List ℕ} → Some size ≡ event_size operation → 0 < size
     → IsOk (admission_of 8190 (record { operation = operation; bytes = bytes; user = 0 })) → length bytes ≡ stub.count * size
     → body ≡ bytes ++ more
     → BeginsWith (numbered_packet stub.submitter stub.number (record { operation = operation; bytes = bytes; user = 0 })) more
     operation stub body
-cut_off stub operation size bytes more body known some ok long is =
+cut_off {stub} {operation} {size} {bytes} known some ok long is =
     let count : stub.count ≡ count_of_size bytes (event_size operation) =
     sym (ap (count_of_size bytes) (sym known) ∙ ap (λ n. n / size) long ∙ mul-div_cancel stub.count some) in
     record {
@@ -213,10 +213,10 @@ module _ (operation : ℕ) (stubs : List Stub) (body : List ℕ) (left : List St
   }
 
 -- all packets of the columns
-pub columns_read : (operation : ℕ) (stubs body : List ℕ) (cut : List (List ℕ)) (jobs : List Numbered) (rest : List ℕ)
+pub columns_read : {operation : ℕ} {stubs body rest : List ℕ} {cut : List (List ℕ)} {jobs : List Numbered}
     → AreRead operation (map stub_at cut) body [] rest jobs → rest ≡ [] → 0 < length jobs → cut ≡ chunks 16 stubs
     → length stubs % 16 ≡ 0 → AreColumnsOf jobs operation stubs body
-columns_read operation stubs body cut jobs rest are none some is whole = record {
+columns_read {jobs} are none some is whole = record {
   lawful = are.lawful some;
   whole = whole;
   own_stubs = ap (map stub_at) (sym is) ∙ sym are.own_stubs ∙ append-nil (map stub_of jobs);

@@ -5,29 +5,29 @@ use Rattle.tb_durable.specs.declared.fault.OpenFault.TheVariants as fault
 use Rattle.tb_durable.proofs.StoreLemmas.{left_is}
 
 -- a row after those of a journal
-pub next_fault : (rows read left : List Row) (row : Row) (bare : BareLedgerState) → IsJournal read bare
+next_fault : {rows read : List Row} {bare : BareLedgerState} (row : Row) (left : List Row) → IsJournal read bare
     → rows ≡ read ++ row ∷ left → (error : OpenFault) → IsRowFault bare.places row error → IsCause rows error
-next_fault rows read left row bare j all fault.NoMemory is = tt
-next_fault rows read left row bare j all (fault.Store error) is = tt
-next_fault rows read left row bare j all (fault.File error) is = tt
-next_fault rows read left row bare j all fault.NotALedger is = tt
-next_fault rows read left row bare j all fault.BadSettings is = tt
-next_fault rows read left row bare j all (fault.OtherVersion version) is = absurd is
-next_fault rows read left row bare j all (fault.OutOfPlace place) is = (
+next_fault row left j all fault.NoMemory is = tt
+next_fault row left j all (fault.Store error) is = tt
+next_fault row left j all (fault.File error) is = tt
+next_fault row left j all fault.NotALedger is = tt
+next_fault row left j all fault.BadSettings is = tt
+next_fault row left j all (fault.OtherVersion version) is = absurd is
+next_fault {read} {bare} row left j all (fault.OutOfPlace place) is = (
   row,
   record { read = read; left = left; bare = bare; all = all; journal = j; next = sym is.0 },
   subst (λ p. rowid row ≢ Int (pos p)) (sym is.0) is.1,
 )
-next_fault rows read left row bare j all (fault.BadEntry place) is = (
+next_fault {read} {bare} row left j all (fault.BadEntry place) is = (
   row,
   record { read = read; left = left; bare = bare; all = all; journal = j; next = sym is.0 },
   subst (λ p. rowid row ≡ Int (pos p)) (sym is.0) is.1,
 )
 
 -- the row that a cursor gave after those of a journal
-pub row_fault : (old new : View) (read : List Row) (row : Row) (bare : BareLedgerState) → IsReading old read
+pub row_fault : {old new : View} {read : List Row} {row : Row} {bare : BareLedgerState} → IsReading old read
     → Advances old new 0 row true → IsJournal read bare → (error : OpenFault) → IsRowFault bare.places row error
     → IsCause (old.committed 0) error
-row_fault old new read row bare reading next j error is =
-    next_fault (old.committed 0) read next.0 row bare j
+row_fault {old} {new} {read} {row} reading next j error is =
+    next_fault row next.0 j
     (reading.all ∙ ap (λ rows. read ++ rows) (left_is old new read reading (row ∷ next.0) next.1)) error is

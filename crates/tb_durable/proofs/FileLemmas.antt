@@ -94,9 +94,9 @@ flat_groups [] = refl
 flat_groups (row ∷ rows) = ap (λ more. group_in row ++ more) (flat_groups rows)
 
 -- the row of an entry at the next place keeps a file a file
-file_push : (rows : List Row) (bare : BareLedgerState) (before after : PacketCounts) (row : Row) → IsJournal rows bare
+file_push : {rows : List Row} {bare : BareLedgerState} {before after : PacketCounts} {row : Row} → IsJournal rows bare
     → IsLedgerFile rows before → IsEntryRow bare.places before row after → IsLedgerFile (rows ++ row ∷ []) after
-file_push rows bare before after row j file entry =
+file_push {bare} {before} {after} {row} j file entry =
     let all : IsLedgerFile (j.first ∷ j.entries) before = subst (λ rs. IsLedgerFile rs before) j.is file in
     let place : bare.places ≡ 0 + length (flat_map group_in j.entries)
     = j.committed.counted ∙ ap length (flat_groups j.entries) ∙ omega arith in
@@ -106,29 +106,29 @@ file_push rows bare before after row j file entry =
     )
 
 -- whatever a crash leaves can be opened if the row that is being stored is an entry's at the next place
-pub crash_opens : (old : View) (row : Row) (bare : BareLedgerState) (before after : PacketCounts) (was now : Trees → Type 0)
+pub crash_opens : {old : View} {row : Row} {bare : BareLedgerState} {before after : PacketCounts} {was now : Trees → Type 0}
     → IsStored old bare → HasEntries old bare before → bare.stopped ≡ false → IsEntryRow bare.places before row after
     → ((db : Trees) → now db → was db ⊎ IsAdded old row db) → CanBeOpened was → CanBeOpened now
-crash_opens old row bare before after was now stored has goes_on entry crash opens db left =
+crash_opens {row} {bare} {before} {after} stored has goes_on entry crash opens db left =
     elim (crash db left) [
       | inl there ↦ opens db there
       | inr added ↦
           let at_rest = stored added.clean goes_on in
           let at = entry_place bare.places before after row entry in (
             after,
-            subst (λ rows. IsLedgerFile rows after) (sym (left_last old row bare at_rest.0 at_rest.1 at db added))
-                (file_push (old.committed 0) bare before after row at_rest.1 (has added.clean goes_on) entry),
+            subst (λ rows. IsLedgerFile rows after) (sym (left_last row at_rest.0 at_rest.1 at db added))
+                (file_push at_rest.1 (has added.clean goes_on) entry),
           )
     ]
 
 -- the table has the row after the others
-pub stored_file : (old new : View) (row : Row) (bare : BareLedgerState) (before after : PacketCounts) → IsSettled old
+pub stored_file : {old new : View} {row : Row} {bare : BareLedgerState} {before after : PacketCounts} → IsSettled old
     → IsJournal (old.committed 0) bare → IsLedgerFile (old.committed 0) before → IsEntryRow bare.places before row after
     → Adds old new row → IsLedgerFile (new.committed 0) after
-stored_file old new row bare before after at_rest journal file entry adds =
+stored_file {new} {row} {bare} {before} {after} at_rest journal file entry adds =
     subst (λ rows. IsLedgerFile rows after)
-    (sym (added_last old row bare at_rest journal (entry_place bare.places before after row entry) new adds))
-    (file_push (old.committed 0) bare before after row journal file entry)
+    (sym (added_last row at_rest journal (entry_place bare.places before after row entry) new adds))
+    (file_push journal file entry)
 
 -- ---- rows that were accepted
 
@@ -143,14 +143,14 @@ first_file view row clock bare reading first is new = record {
 }
 
 -- with one entry more it still is one
-pub read_file_on : (old new : View) (bare grown : BareLedgerState) (before after : PacketCounts) (row : Row)
+pub read_file_on : {old new : View} {bare grown : BareLedgerState} {before after : PacketCounts} {row : Row}
     → HasReadFile old bare before → Advances old new 0 row true → IsEntryRow bare.places before row after
     → AddsGroup bare grown (group_in row) → 0 < length (group_in row) → HasReadFile new grown after
-read_file_on old new bare grown before after row has next entry adds some = record {
+read_file_on {old} {new} {bare} {grown} {before} {after} {row} has next entry adds some = record {
   read = has.read ++ row ∷ [];
   reading = reads_one old new has.read has.reading row next;
   journal = one_more has.read row bare grown has.journal adds some (entry_place bare.places before after row entry);
-  file = file_push has.read bare before after row has.journal has.file entry;
+  file = file_push has.journal has.file entry;
 }
 
 -- all rows were read

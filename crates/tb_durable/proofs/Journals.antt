@@ -69,7 +69,7 @@ groups_more rows more first entries is =
 
 -- ---- over a store
 
-module _ (old : View) (row : Row) (before : BareLedgerState) (at_rest : IsSettled old)
+module _ {old : View} {before : BareLedgerState} (row : Row) (at_rest : IsSettled old)
     (j : IsJournal (old.committed 0) before) (at : rowid row ≡ Int (pos before.places)) where
   last : put_row row (old.trees 0) ≡ old.committed 0 ++ row ∷ []
   last = ap (λ (t : Trees). put_row row (t 0)) at_rest.same ∙ put_row-last row before.places (old.committed 0) at j.below
@@ -91,26 +91,24 @@ module _ (old : View) (row : Row) (before : BareLedgerState) (at_rest : IsSettle
   left_last db added = added.rows ∙ last
 
 -- a crash leaves the row after the others, or what it could leave before
-pub leaves_with_row : (old : View) (row : Row) (before : BareLedgerState) → IsStored old before
-    → before.stopped ≡ false → rowid row ≡ Int (pos before.places) → (was now : Trees → Type 0)
+pub leaves_with_row : {old : View} {before : BareLedgerState} {was now : Trees → Type 0} (row : Row) → IsStored old before
+    → before.stopped ≡ false → rowid row ≡ Int (pos before.places)
     → ((db : Trees) → now db → was db ⊎ IsAdded old row db) → LeavesWith was now (old.committed 0) (row ∷ [])
-leaves_with_row old row before has goes_on at was now crash db left =
+leaves_with_row row has goes_on at crash db left =
     elim (crash db left) [
       | inl there ↦ inl there
       | inr added ↦
           let at_rest = has added.clean goes_on in
-          inr (left_last old row before at_rest.0 at_rest.1 at db added)
+          inr (left_last row at_rest.0 at_rest.1 at db added)
     ]
 
 -- a batch was stored and applied
-pub batch_stored : (old new : View) (before middle after : BareLedgerState) (outcomes : Outcomes) (jobs batch : List Numbered)
-    → IsSettled old → IsJournal (old.committed 0) before → middle ≡ before → batch ≡ jobs → 0 < length jobs
+pub batch_stored : {old new : View} {before after : BareLedgerState} {outcomes : Outcomes} (jobs : List Numbered)
+    → IsSettled old → IsJournal (old.committed 0) before → 0 < length jobs
     → Adds old new (jobs_row before.places jobs) → group_in (jobs_row before.places jobs) ≡ map input_of jobs
-    → Applies (parcel.Batch batch) middle outcomes after → after.stopped ≡ false
+    → Applies (parcel.Batch jobs) before outcomes after → after.stopped ≡ false
     → IsSettled new × IsJournal (new.committed 0) after
-batch_stored old new before middle after outcomes jobs batch at_rest j same is some adds says applied on =
-    let group : AddsGroup before after (map input_of batch) = subst (λ was. AddsGroup was after (map input_of batch)) same
-    (adds_batch middle after outcomes batch applied on) in
-    stored_more old (jobs_row before.places jobs) before at_rest j refl new after adds
-    (subst (AddsGroup before after) (ap (map input_of) is ∙ sym says) group)
+batch_stored {new} {before} {after} {outcomes} jobs at_rest j some adds says applied on =
+    stored_more (jobs_row before.places jobs) at_rest j refl new after adds
+    (subst (AddsGroup before after) (sym says) (adds_batch before after outcomes jobs applied on))
     (subst (λ inputs. 0 < length inputs) (sym says) (omega (arith, some, length-map jobs input_of)))

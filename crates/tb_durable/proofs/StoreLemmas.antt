@@ -33,10 +33,10 @@ adds old mid new row shut set commit shape =
       };
     }
 
-pub added : (old mid : View) (row : Row) (db : Trees) → (mid.is_open ≡ false → IsTrue mid.is_broken)
+pub added : {old : View} {row : Row} {db : Trees} (mid : View) → (mid.is_open ≡ false → IsTrue mid.is_broken)
     → (mid.is_clean ≡ false → mid.is_open ≡ false) → doubt old.is_clean ≤ doubt mid.is_clean
     → (IsClean mid → SetsTree old mid 0 (put_row row)) → mid.is_broken ≡ false → db ≡ mid.trees → IsAdded old row db
-added old mid row db shut dirty falls set sound is =
+added mid shut dirty falls set sound is =
     let clean : doubt mid.is_clean ≡ 0 = clean_if_sound mid shut sound dirty in
     let it = set clean in
     record {

@@ -23,8 +23,7 @@ returns-in_err-row-clause-fault g c = λ clean replaying.
     let found : c.in_ok-next.field-0 ≡ true = search rules in
     let row = c.next.new.self.row in
     let cause : IsCause ((g.S.Store.view c.args.table.now.store).committed 0) c.in_err-row.field-0.0
-    = row_fault (g.S.Store.view c.args.table.now.store) (g.S.Store.view c.next.new.self.store) replaying.0 row
-    c.args.replaying.now.ledger replaying.1
+    = row_fault replaying.1
     (subst (Advances (g.S.Store.view c.args.table.now.store) (g.S.Store.view c.next.new.self.store) 0 row) found
     (c.in_ok-next.ensures.ok clean)) replaying.2 c.in_err-row.field-0.0 c.in_err-row.ensures.fault in
     search rules
@@ -65,9 +64,7 @@ returns-clause-entry g c = λ is clean has.
     let row = c.next.new.self.row in
     let old = g.S.Store.view c.args.table.now.store in
     let new = g.S.Store.view c.next.new.self.store in
-    let before = c.args.replaying.now in
-    read_file_on old new before.ledger c.row.new.self.ledger before.counts c.row.new.self.counts row has
-    (subst (Advances old new 0 row) found (c.in_ok-next.ensures.ok clean)) c.in_ok-row.ensures.entry
+    read_file_on has (subst (Advances old new 0 row) found (c.in_ok-next.ensures.ok clean)) c.in_ok-row.ensures.entry
     c.in_ok-row.ensures.group c.in_ok-row.ensures.some
 
 pub returns-then-not-branch-clause-file : goal.returns-then-not-branch-clause-file

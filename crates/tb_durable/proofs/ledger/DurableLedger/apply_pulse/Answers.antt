@@ -13,8 +13,7 @@ returns-in-Ok-clause-kept g c = λ has clean goes_on.
     let stored : IsClean (g.S.Store.view c.put_pulse.new.self.store) = ap (λ t. doubt (g.S.Store.view t.store).is_clean) (sym c.follow.ensures.table) ∙ clean in
     let was : IsClean (g.S.Store.view c.args.self.now.table.store) = omega (arith, c.put_pulse.ensures.clean) in
     let at_rest = has was (sym c.stopped.ensures ∙ c.if-stopped.false) in
-    let it = stored_more (g.S.Store.view c.args.self.now.table.store) (pulse_row c.places-place.result c.args.moment)
-    c.args.self.now.bare at_rest.0 at_rest.1 (ap (λ p. Int (pos p)) c.places-place.ensures)
+    let it = stored_more (pulse_row c.places-place.result c.args.moment) at_rest.0 at_rest.1 (ap (λ p. Int (pos p)) c.places-place.ensures)
     (g.S.Store.view c.put_pulse.new.self.store) c.follow.new.self.bare (c.in-Ok.ensures.ok stored)
     (adds_pulse c.args.self.now.bare c.follow.new.self.bare c.follow.result c.args.moment c.follow.ensures.applied goes_on)
     (omega arith) in
@@ -27,8 +26,7 @@ returns-in-Ok-clause-added g c = λ has clean goes_on.
     let was : IsClean (g.S.Store.view c.args.self.now.table.store) = omega (arith, c.put_pulse.ensures.clean) in
     let at_rest = has was (sym c.stopped.ensures ∙ c.if-stopped.false) in
     ap (λ t. (g.S.Store.view t.store).committed 0) c.follow.ensures.table
-    ∙ added_last (g.S.Store.view c.args.self.now.table.store) (pulse_row c.places-place.result c.args.moment)
-    c.args.self.now.bare at_rest.0 at_rest.1 (ap (λ p. Int (pos p)) c.places-place.ensures)
+    ∙ added_last (pulse_row c.places-place.result c.args.moment) at_rest.0 at_rest.1 (ap (λ p. Int (pos p)) c.places-place.ensures)
     (g.S.Store.view c.put_pulse.new.self.store) (c.in-Ok.ensures.ok stored)
     ∙ ap (λ p. (g.S.Store.view c.args.self.now.table.store).committed 0 ++ pulse_row p c.args.moment ∷ []) c.places-place.ensures
 
@@ -37,9 +35,8 @@ returns-in-Ok-clause-crash g c = λ has db left.
     subst (λ p. g.S.Store.recovers c.args.self.now.table.store db
     ⊎ (db 0 ≡ (g.S.Store.view c.args.self.now.table.store).committed 0 ++ pulse_row p c.args.moment ∷ []))
     c.places-place.ensures
-    (leaves_with_row (g.S.Store.view c.args.self.now.table.store) (pulse_row c.places-place.result c.args.moment)
-    c.args.self.now.bare has (sym c.stopped.ensures ∙ c.if-stopped.false) (ap (λ p. Int (pos p)) c.places-place.ensures)
-    (g.S.Store.recovers c.args.self.now.table.store) (g.S.Store.recovers c.put_pulse.new.self.store)
+    (leaves_with_row (pulse_row c.places-place.result c.args.moment) has
+    (sym c.stopped.ensures ∙ c.if-stopped.false) (ap (λ p. Int (pos p)) c.places-place.ensures)
     c.put_pulse.ensures.crash db (subst (λ t. g.S.Store.recovers t.store db) c.follow.ensures.table left))
 
 pub returns-in-Err-clause-crash : goal.returns-in-Err-clause-crash
@@ -47,9 +44,8 @@ returns-in-Err-clause-crash g c = λ has db left.
     subst (λ p. g.S.Store.recovers c.args.self.now.table.store db
     ⊎ (db 0 ≡ (g.S.Store.view c.args.self.now.table.store).committed 0 ++ pulse_row p c.args.moment ∷ []))
     c.places-place.ensures
-    (leaves_with_row (g.S.Store.view c.args.self.now.table.store) (pulse_row c.places-place.result c.args.moment)
-    c.args.self.now.bare has (sym c.stopped.ensures ∙ c.if-stopped.false) (ap (λ p. Int (pos p)) c.places-place.ensures)
-    (g.S.Store.recovers c.args.self.now.table.store) (g.S.Store.recovers c.put_pulse.new.self.store)
+    (leaves_with_row (pulse_row c.places-place.result c.args.moment) has
+    (sym c.stopped.ensures ∙ c.if-stopped.false) (ap (λ p. Int (pos p)) c.places-place.ensures)
     c.put_pulse.ensures.crash db (subst (λ t. g.S.Store.recovers t.store db) c.stop.ensures.table left))
 
 pub returns-in-Ok-clause-entries : goal.returns-in-Ok-clause-entries
@@ -58,13 +54,10 @@ returns-in-Ok-clause-entries g c = λ has entries clean goes_on.
     let was : IsClean (g.S.Store.view c.args.self.now.table.store) = omega (arith, c.put_pulse.ensures.clean) in
     let on = sym c.stopped.ensures ∙ c.if-stopped.false in
     let at_rest = has was on in
-    let before = c.args.self.now.bare in
     let counts = c.args.self.now.counts in
     let entry = subst (λ p. IsEntryRow p counts (pulse_row c.places-place.result c.args.moment) counts) c.places-place.ensures
     (pulse_entry c.places-place.result c.args.moment counts c.put_pulse.ensures.bound) in
-    let all = stored_file (g.S.Store.view c.args.self.now.table.store) (g.S.Store.view c.put_pulse.new.self.store)
-    (pulse_row c.places-place.result c.args.moment) before counts counts at_rest.0 at_rest.1
-    (entries was on) entry (c.in-Ok.ensures.ok stored) in
+    let all = stored_file at_rest.0 at_rest.1 (entries was on) entry (c.in-Ok.ensures.ok stored) in
     rw (c.follow.ensures.counts, c.follow.ensures.table) all
 
 pub returns-in-Ok-clause-openable : goal.returns-in-Ok-clause-openable
@@ -72,9 +65,7 @@ returns-in-Ok-clause-openable g c = λ has entries opens db left.
     let counts = c.args.self.now.counts in
     let entry = subst (λ p. IsEntryRow p counts (pulse_row c.places-place.result c.args.moment) counts) c.places-place.ensures
     (pulse_entry c.places-place.result c.args.moment counts c.put_pulse.ensures.bound) in
-    crash_opens (g.S.Store.view c.args.self.now.table.store) (pulse_row c.places-place.result c.args.moment)
-    c.args.self.now.bare counts counts (g.S.Store.recovers c.args.self.now.table.store)
-    (g.S.Store.recovers c.put_pulse.new.self.store) has entries (sym c.stopped.ensures ∙ c.if-stopped.false) entry
+    crash_opens has entries (sym c.stopped.ensures ∙ c.if-stopped.false) entry
     c.put_pulse.ensures.crash opens db (subst (λ t. g.S.Store.recovers t.store db) c.follow.ensures.table left)
 
 pub returns-in-Err-clause-openable : goal.returns-in-Err-clause-openable
@@ -82,7 +73,5 @@ returns-in-Err-clause-openable g c = λ has entries opens db left.
     let counts = c.args.self.now.counts in
     let entry = subst (λ p. IsEntryRow p counts (pulse_row c.places-place.result c.args.moment) counts) c.places-place.ensures
     (pulse_entry c.places-place.result c.args.moment counts c.put_pulse.ensures.bound) in
-    crash_opens (g.S.Store.view c.args.self.now.table.store) (pulse_row c.places-place.result c.args.moment)
-    c.args.self.now.bare counts counts (g.S.Store.recovers c.args.self.now.table.store)
-    (g.S.Store.recovers c.put_pulse.new.self.store) has entries (sym c.stopped.ensures ∙ c.if-stopped.false) entry
+    crash_opens has entries (sym c.stopped.ensures ∙ c.if-stopped.false) entry
     c.put_pulse.ensures.crash opens db (subst (λ t. g.S.Store.recovers t.store db) c.stop.ensures.table left)

@@ -119,5 +119,4 @@ returns-in-Some-clause-are c =
     sym c.as_chunks.ensures.back_len ∙ eqb-true (length c.as_chunks.result.1.now) 0 (sym c.if-is_empty.ensures) in
     let none : l.body.now ≡ [] = nil_from_length l.body.now (eqb-true (length l.body.now) 0 (sym c.if-is_empty-2.ensures)) in
     subst (λ jobs. AreColumnsOf jobs operation c.args.columns.stubs.now body) (sym c.in-Some.ensures.some.0)
-    (columns_read operation c.args.columns.stubs.now body chunks l.batcher.jobs l.body.now all none c.in-Some.ensures.some.1
-    c.as_chunks.ensures.front whole)
+    (columns_read all none c.in-Some.ensures.some.1 c.as_chunks.ensures.front whole)

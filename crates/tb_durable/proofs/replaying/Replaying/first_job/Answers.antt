@@ -34,5 +34,4 @@ returns-clause-cut c =
     ∙ ap (λ front. front ++ drop (stub.count * size) body) (sym (same ∙ cut.1))
     ∙ ap (λ rest. bytes ++ rest) (sym cut.2) in
     subst (λ job. BeginsWith job c.in-Some-split_at_checked.rest.now c.args.operation stub body) (sym c.in_ok-job.ensures.job)
-    (cut_off stub c.args.operation size bytes c.in-Some-split_at_checked.rest.now body c.in-Some.ensures.exact
-    c.in-Some.ensures.bound.0 c.in_ok-job.ensures.whole (ap length same ∙ cut.3) whole)
+    (cut_off c.in-Some.ensures.exact c.in-Some.ensures.bound.0 c.in_ok-job.ensures.whole (ap length same ∙ cut.3) whole)

@@ -5,7 +5,7 @@ use Rattle.tb_durable.proofs.table.Table.commit_row.Goals as goal
 pub returns-in-Ok-clause-crash : goal.returns-in-Ok-clause-crash
 returns-in-Ok-clause-crash g c = λ db left.
     elim (c.commit.ensures.crash db left) [
-      | inl new ↦ inr (added (g.S.Store.view c.args.self.now.store) (g.S.Store.view c.put.new.self) c.args.self.now.row db
+      | inl new ↦ inr (added (g.S.Store.view c.put.new.self)
           (g.met.S.Store.broken_if_shut c.put.new.self) (g.met.S.Store.shut_if_dirty c.put.new.self)
           c.put.ensures.quiet.clean c.in_default.ensures.ok new.0 new.1)
       | inr before ↦ inl (c.put.ensures.quiet.outcomes db before)
@@ -14,7 +14,7 @@ returns-in-Ok-clause-crash g c = λ db left.
 pub returns-in-Err-commit-clause-crash : goal.returns-in-Err-commit-clause-crash
 returns-in-Err-commit-clause-crash g c = λ db left.
     elim (c.commit.ensures.crash db left) [
-      | inl new ↦ inr (added (g.S.Store.view c.args.self.now.store) (g.S.Store.view c.put.new.self) c.args.self.now.row db
+      | inl new ↦ inr (added (g.S.Store.view c.put.new.self)
           (g.met.S.Store.broken_if_shut c.put.new.self) (g.met.S.Store.shut_if_dirty c.put.new.self)
           c.put.ensures.quiet.clean c.in_default.ensures.ok new.0 new.1)
       | inr before ↦ inl (c.put.ensures.quiet.outcomes db before)
