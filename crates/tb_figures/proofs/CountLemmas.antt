@@ -38,31 +38,24 @@ split_more stubs i d {a} {b} {c} below is long added = record {
   submitters = λ k few. by k few ((get_or stubs i d).submitter == k) refl;
 }
   where
-    same : (k : ℕ) → k < 16 → slice_index c.submitters k ≡ slice_index b.submitters k → is_of k (get_or stubs i d) ≡ false
-        → slice_index c.submitters k ≡ capped (slice_index a.submitters k + count_by (is_of k) (take (i + 1) stubs))
-    same k few kept not = kept ∙ is.submitters k few
-        ∙ ap (λ n. capped (slice_index a.submitters k + n)) (sym (count_by_more_no (is_of k) stubs i d below not))
+    elsewhere : (k : ℕ) → ((get_or stubs i d).submitter == k) ≡ false → (known : Bool)
+        → nat_lt (get_or stubs i d).submitter 16 ≡ known → slice_index c.submitters k ≡ slice_index b.submitters k
+    elsewhere k not true is_known = ap (λ xs. slice_index xs k) (added.own (grind (arith, is_known)))
+        ∙ get_or-set_other b.submitters _ k _ 0 (λ at. grind (arith, not, at))
+    elsewhere k not false is_known = ap (λ xs. slice_index xs k) (added.unknown (grind (arith, is_known)))
 
     by : (k : ℕ) → k < 16 → (hit : Bool) → ((get_or stubs i d).submitter == k) ≡ hit
         → slice_index c.submitters k ≡ capped (slice_index a.submitters k + count_by (is_of k) (take (i + 1) stubs))
     by k few true e =
         let at : (get_or stubs i d).submitter ≡ k = eqb-true (get_or stubs i d).submitter k e in
-        let inside : k < length b.submitters = omega (arith, few, long) in
         let new : c.submitters ≡ set b.submitters k (capped (slice_index b.submitters k + 1)) =
         subst (λ j. c.submitters ≡ set b.submitters j (capped (slice_index b.submitters j + 1))) at
         (added.own (omega (arith, few, at))) in
         let here : slice_index c.submitters k ≡ capped (slice_index b.submitters k + 1) =
-        ap (λ xs. slice_index xs k) new ∙ get_or-set_same b.submitters k _ 0 inside in
-        let more = count_by_more_yes (is_of k) stubs i d below e in
-        omega (arith, here, is.submitters k few, more)
-    by k few false e = elsewhere k few e (nat_lt (get_or stubs i d).submitter 16) refl
-      where
-        elsewhere : (k : ℕ) → k < 16 → ((get_or stubs i d).submitter == k) ≡ false → (known : Bool)
-            → nat_lt (get_or stubs i d).submitter 16 ≡ known → slice_index c.submitters k
-            ≡ capped (slice_index a.submitters k + count_by (is_of k) (take (i + 1) stubs))
-        elsewhere k few not true is_known = same k few (ap (λ xs. slice_index xs k) (added.own (grind (arith, is_known)))
-            ∙ get_or-set_other b.submitters _ k _ 0 (λ at. grind (arith, not, at))) not
-        elsewhere k few not false is_known = same k few (ap (λ xs. slice_index xs k) (added.unknown (grind (arith, is_known)))) not
+        ap (λ xs. slice_index xs k) new ∙ get_or-set_same b.submitters k _ 0 (omega (arith, few, long)) in
+        omega (arith, here, is.submitters k few, count_by_more_yes (is_of k) stubs i d below e)
+    by k few false e = elsewhere k e (nat_lt (get_or stubs i d).submitter 16) refl ∙ is.submitters k few
+        ∙ ap (λ n. capped (slice_index a.submitters k + n)) (sym (count_by_more_no (is_of k) stubs i d below e))
 
 -- ---- the packets of a batch
 
