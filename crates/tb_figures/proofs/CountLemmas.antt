@@ -28,34 +28,35 @@ pub record IsAdded (stub : Stub) (old new : Counts) : Type 0 where
       ≡ set old.submitters stub.submitter (capped (slice_index old.submitters stub.submitter + 1))
   pub unknown : 16 ≤ stub.submitter → new.submitters ≡ old.submitters
 
-pub split_more : (stubs : List Stub) (i : ℕ) (d : Stub) {a b c : Counts} → i < length stubs → IsSplit (take i stubs) a b
-    → length b.submitters ≡ 16 → IsAdded (get_or stubs i d) b c → IsSplit (take (i + 1) stubs) a c
-split_more stubs i d {a} {b} {c} below is long added = record {
+pub split_more : (stubs : List Stub) (index : ℕ) (other : Stub) {start old new : Counts} → index < length stubs
+    → IsSplit (take index stubs) start old → length old.submitters ≡ 16 → IsAdded (get_or stubs index other) old new
+    → IsSplit (take (index + 1) stubs) start new
+split_more stubs index other {start} {old} {new} below is long added = record {
   batches = added.others.0 ∙ is.batches;
   pulses = added.others.1 ∙ is.pulses;
   packets = added.others.2 ∙ is.packets;
-  events = omega (arith, added.events, is.events, sum_by_more (λ (stub : Stub). stub.count) stubs i d below);
-  submitters = λ k few. by k few ((get_or stubs i d).submitter == k) refl;
+  events = omega (arith, added.events, is.events, sum_by_more (λ (stub : Stub). stub.count) stubs index other below);
+  submitters = λ k few. by k few ((get_or stubs index other).submitter == k) refl;
 }
   where
-    elsewhere : (k : ℕ) → ((get_or stubs i d).submitter == k) ≡ false → (known : Bool)
-        → nat_lt (get_or stubs i d).submitter 16 ≡ known → slice_index c.submitters k ≡ slice_index b.submitters k
+    elsewhere : (k : ℕ) → ((get_or stubs index other).submitter == k) ≡ false → (known : Bool)
+        → nat_lt (get_or stubs index other).submitter 16 ≡ known → slice_index new.submitters k ≡ slice_index old.submitters k
     elsewhere k not true is_known = ap (λ xs. slice_index xs k) (added.own (grind (arith, is_known)))
-        ∙ get_or-set_other b.submitters _ k _ 0 (λ at. grind (arith, not, at))
+        ∙ get_or-set_other old.submitters _ k _ 0 (λ at. grind (arith, not, at))
     elsewhere k not false is_known = ap (λ xs. slice_index xs k) (added.unknown (grind (arith, is_known)))
 
-    by : (k : ℕ) → k < 16 → (hit : Bool) → ((get_or stubs i d).submitter == k) ≡ hit
-        → slice_index c.submitters k ≡ capped (slice_index a.submitters k + count_by (is_of k) (take (i + 1) stubs))
+    by : (k : ℕ) → k < 16 → (hit : Bool) → ((get_or stubs index other).submitter == k) ≡ hit
+        → slice_index new.submitters k ≡ capped (slice_index start.submitters k + count_by (is_of k) (take (index + 1) stubs))
     by k few true e =
-        let at : (get_or stubs i d).submitter ≡ k = eqb-true (get_or stubs i d).submitter k e in
-        let new : c.submitters ≡ set b.submitters k (capped (slice_index b.submitters k + 1)) =
-        subst (λ j. c.submitters ≡ set b.submitters j (capped (slice_index b.submitters j + 1))) at
+        let at : (get_or stubs index other).submitter ≡ k = eqb-true (get_or stubs index other).submitter k e in
+        let set_there : new.submitters ≡ set old.submitters k (capped (slice_index old.submitters k + 1)) =
+        subst (λ j. new.submitters ≡ set old.submitters j (capped (slice_index old.submitters j + 1))) at
         (added.own (omega (arith, few, at))) in
-        let here : slice_index c.submitters k ≡ capped (slice_index b.submitters k + 1) =
-        ap (λ xs. slice_index xs k) new ∙ get_or-set_same b.submitters k _ 0 (omega (arith, few, long)) in
-        omega (arith, here, is.submitters k few, count_by_more_yes (is_of k) stubs i d below e)
-    by k few false e = elsewhere k e (nat_lt (get_or stubs i d).submitter 16) refl ∙ is.submitters k few
-        ∙ ap (λ n. capped (slice_index a.submitters k + n)) (sym (count_by_more_no (is_of k) stubs i d below e))
+        let here : slice_index new.submitters k ≡ capped (slice_index old.submitters k + 1) =
+        ap (λ xs. slice_index xs k) set_there ∙ get_or-set_same old.submitters k _ 0 (omega (arith, few, long)) in
+        omega (arith, here, is.submitters k few, count_by_more_yes (is_of k) stubs index other below e)
+    by k few false e = elsewhere k e (nat_lt (get_or stubs index other).submitter 16) refl ∙ is.submitters k few
+        ∙ ap (λ n. capped (slice_index start.submitters k + n)) (sym (count_by_more_no (is_of k) stubs index other below e))
 
 -- ---- the packets of a batch
 
