@@ -16,26 +16,24 @@ write_next before bytes out offset size long =
     ∙ sym (append_assoc before bytes (drop (offset + size) out))
 
 -- one record more
-pub one_more : {X : Type 0} (f : X → List ℕ) (xs : List X) (i : ℕ) (d : X) → i < length xs
-    → flat_map f (take (i + 1) xs) ≡ flat_map f (take i xs) ++ f (get_or xs i d)
-one_more f xs i d within =
-    let e : suc i ≡ i + 1 = omega arith in
-    subst (λ n. flat_map f (take n xs) ≡ flat_map f (take i xs) ++ f (get_or xs i d)) e
-    (ap (flat_map f) (take-suc xs i d within) ∙ sym (flat_map_more f [] (take i xs) (get_or xs i d)))
+module _ {X : Type 0} (f : X → List ℕ) (xs : List X) (i : ℕ) (d : X) (within : i < length xs) where
+  pub one_more : flat_map f (take (i + 1) xs) ≡ flat_map f (take i xs) ++ f (get_or xs i d)
+  one_more =
+      let e : suc i ≡ i + 1 = omega arith in
+      subst (λ n. flat_map f (take n xs) ≡ flat_map f (take i xs) ++ f (get_or xs i d)) e
+      (ap (flat_map f) (take-suc xs i d within) ∙ sym (flat_map_more f [] (take i xs) (get_or xs i d)))
 
--- the buffer with one record more
-pub written_more : {X : Type 0} (f : X → List ℕ) (xs : List X) (i : ℕ) (d : X) (offset size : ℕ)
-    (out was now : List ℕ) → i < length xs → length (flat_map f (take i xs)) ≡ offset
-    → was ≡ flat_map f (take i xs) ++ drop offset out
-    → now ≡ take offset was ++ (f (get_or xs i d) ++ drop (offset + size) was)
-    → length (f (get_or xs i d)) ≡ size →
-    (length (flat_map f (take (i + 1) xs)) ≡ offset + size)
-    × (now ≡ flat_map f (take (i + 1) xs) ++ drop (offset + size) out)
-written_more f xs i d offset size out was now within long was_is now_is wide =
-    let before = flat_map f (take i xs) in
-    let bytes = f (get_or xs i d) in
-    let more = one_more f xs i d within in (
-      omega (arith, ap length more, length-append before bytes, long, wide),
-      now_is ∙ ap (λ was. take offset was ++ (bytes ++ drop (offset + size) was)) was_is
-          ∙ write_next before bytes out offset size long ∙ ap (λ all. all ++ drop (offset + size) out) (sym more),
-    )
+  -- the buffer with it
+  pub written_more : {offset size : ℕ} (out : List ℕ) {was now : List ℕ} → length (flat_map f (take i xs)) ≡ offset
+      → was ≡ flat_map f (take i xs) ++ drop offset out
+      → now ≡ take offset was ++ (f (get_or xs i d) ++ drop (offset + size) was)
+      → length (f (get_or xs i d)) ≡ size →
+      (length (flat_map f (take (i + 1) xs)) ≡ offset + size)
+      × (now ≡ flat_map f (take (i + 1) xs) ++ drop (offset + size) out)
+  written_more {offset} {size} out long was_is now_is wide =
+      let before = flat_map f (take i xs) in
+      let bytes = f (get_or xs i d) in (
+        omega (arith, ap length one_more, length-append before bytes, long, wide),
+        now_is ∙ ap (λ was. take offset was ++ (bytes ++ drop (offset + size) was)) was_is
+            ∙ write_next before bytes out offset size long ∙ ap (λ all. all ++ drop (offset + size) out) (sym one_more),
+      )

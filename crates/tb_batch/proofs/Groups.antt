@@ -79,16 +79,16 @@ offered_group old new job (Sealed batch) group is = rw is.1 refl
 offered_group old new job (Refused back refused) group is = rw is.1 group
 
 -- a group joined by a packet, or left as it was, is held
-pub still_held : {E : Type 0} (result : Result (Unit {0}) E) (limit : ℕ) (old new : List Numbered) (job : Numbered)
+pub still_held : {E : Type 0} (result : Result (Unit {0}) E) {limit : ℕ} {old : List Numbered} (new : List Numbered) (job : Numbered)
     → IsBatcherState limit old → is_taken limit old job ≡ true →
     OnOk result (new ≡ old ++ job ∷ []) → OnErr result (new ≡ old) → IsBatcherState limit new
-still_held (Ok done) limit old new job h taken joined same =
+still_held (Ok done) {limit} {old} new job h taken joined same =
     record {
       limit_low = h.limit_low;
       limit_high = h.limit_high;
       group = rw joined (group_more limit old job h.group taken);
     }
-still_held (Err refused) limit old new job h taken joined same = rw same h
+still_held (Err refused) new job h taken joined same = rw same h
 
 -- ---- the batch
 
@@ -131,47 +131,42 @@ lawful_more operation limit (first ∷ rest) job lawful low ok taken =
       one_operation = list_all-append (λ (j : Numbered). j.packet.operation == operation) jobs (job ∷ [])
           ∙ and_from (are_of operation jobs) (are_of operation (job ∷ [])) lawful.one_operation
           (rw (sym (eqb-true operation job.packet.operation same)) (ap (λ b. b && true) (equal_numbers operation)));
-      few = omega (
-        arith,
-        count_of_all-push jobs job,
-        low,
-        le_true (count_of_all jobs + count_of job.packet) limit known.3,
-      );
+      few = omega (arith, count_of_all-push jobs job, low, le_true (count_of_all jobs + count_of job.packet) limit known.3);
       alone = λ _. list_all-append (λ (j : Numbered). can_share (events_in j.packet)) jobs (job ∷ [])
           ∙ and_from (all_share jobs) (all_share (job ∷ [])) known.0 (ap (λ b. b && true) known.1);
     }
 
--- one job more, for which there was room
-pub batch_more : (old new : Parts) (shares : Bool) (events limit : ℕ) (job : Numbered) → IsGroupOf old shares events
-    → limit ≤ 8190 → is_taken limit old.jobs.items job ≡ true →
-    IsOk (admission_of 8190 job.packet) → new.operation ≡ old.operation
-    → new.jobs.items ≡ old.jobs.items ++ job ∷ [] → new.stubs.items ≡ old.stubs.items ++ stub_of job ∷ []
-    → new.body.items ≡ old.body.items ++ job.packet.bytes →
-    HasRoom old.operation (events + count_of job.packet) new.failures new.accounts
+-- the parts of a batch with one job more
+pub record HasOneMore (old new : Parts) (job : Numbered) : Type 0 where
+  pub operation : new.operation ≡ old.operation
+  pub jobs : new.jobs.items ≡ old.jobs.items ++ job ∷ []
+  pub stubs : new.stubs.items ≡ old.stubs.items ++ stub_of job ∷ []
+  pub body : new.body.items ≡ old.body.items ++ job.packet.bytes
+
+-- a job for which there was room
+pub batch_more : (old new : Parts) {job : Numbered} {shares : Bool} {events : ℕ} (limit : ℕ) → HasOneMore old new job
+    → IsGroupOf old shares events → limit ≤ 8190 → is_taken limit old.jobs.items job ≡ true
+    → IsOk (admission_of 8190 job.packet)
+    → HasRoom old.operation (events + count_of job.packet) new.failures new.accounts
     → IsGroupOf new shares (events + count_of job.packet)
-batch_more old new shares events limit job h low taken ok operation jobs stubs body room =
-    let count : count_of_all new.jobs.items ≡ events + count_of job.packet = ap count_of_all jobs
+batch_more old new {job} {shares} {events} limit more h low taken ok room =
+    let count : count_of_all new.jobs.items ≡ events + count_of job.packet = ap count_of_all more.jobs
     ∙ count_of_all-push old.jobs.items job ∙ ap (λ n. n + count_of job.packet) (sym h.counted) in
     let lawful : IsLawful new.operation new.jobs.items =
-    rw (operation, jobs) (lawful_more old.operation limit old.jobs.items job h.whole.lawful low ok taken) in
+    rw (more.operation, more.jobs) (lawful_more old.operation limit old.jobs.items job h.whole.lawful low ok taken) in
     record {
       whole = record {
         lawful = lawful;
-        stubs = stubs ∙ ap (λ ss. ss ++ stub_of job ∷ []) h.whole.stubs
-            ∙ sym (map-append stub_of old.jobs.items (job ∷ [])) ∙ ap (map stub_of) (sym jobs);
-        body = body ∙ ap (λ bs. bs ++ job.packet.bytes) h.whole.body
+        stubs = more.stubs ∙ ap (λ ss. ss ++ stub_of job ∷ []) h.whole.stubs
+            ∙ sym (map-append stub_of old.jobs.items (job ∷ [])) ∙ ap (map stub_of) (sym more.jobs);
+        body = more.body ∙ ap (λ bs. bs ++ job.packet.bytes) h.whole.body
             ∙ ap (λ bs. body_of old.jobs.items ++ bs) (sym (append-nil job.packet.bytes))
             ∙ sym (flat_map-append (λ (j : Numbered). j.packet.bytes) old.jobs.items (job ∷ []))
-            ∙ ap body_of (sym jobs);
-        room = rw (operation, count) room;
+            ∙ ap body_of (sym more.jobs);
+        room = rw (more.operation, count) room;
       };
       sharing = (and_parts shares _ (sym (taken_by old shares events limit job h ok) ∙ taken)).0
-          ∙ sym (lawful.alone (omega (
-            arith,
-            h.whole.lawful.some,
-            ap length jobs,
-            length-append old.jobs.items (job ∷ []),
-          )));
+          ∙ sym (lawful.alone (omega (arith, h.whole.lawful.some, ap length more.jobs, length-append old.jobs.items (job ∷ []))));
       counted = sym count;
     }
 

@@ -20,46 +20,43 @@ capped_is n few = omega (arith, few)
 
 -- ---- one stub
 
-pub split_more : (stubs : List Stub) (i : ℕ) (d : Stub) (a b c : Counts) → i < length stubs → IsSplit (take i stubs) a b
-    → length b.submitters ≡ 16
-    → (c.batches ≡ b.batches) × (c.pulses ≡ b.pulses) × (c.packets ≡ b.packets)
-    → c.events ≡ capped (b.events + (get_or stubs i d).count)
-    → ((get_or stubs i d).submitter < 16 → c.submitters ≡ set b.submitters (get_or stubs i d).submitter
-    (capped (slice_index b.submitters (get_or stubs i d).submitter + 1)))
-    → (16 ≤ (get_or stubs i d).submitter → c.submitters ≡ b.submitters) → IsSplit (take (i + 1) stubs) a c
-split_more stubs i d a b c below is long others events own unknown = record {
-  batches = others.0 ∙ is.batches;
-  pulses = others.1 ∙ is.pulses;
-  packets = others.2 ∙ is.packets;
-  events = omega (arith, events, is.events, sum_by_more (λ (stub : Stub). stub.count) stubs i d below);
-  submitters = λ k few. by k few ((get_or stubs i d).submitter == k) refl;
+-- what one stub adds
+pub record IsAdded (stub : Stub) (old new : Counts) : Type 0 where
+  pub others : (new.batches ≡ old.batches) × (new.pulses ≡ old.pulses) × (new.packets ≡ old.packets)
+  pub events : new.events ≡ capped (old.events + stub.count)
+  pub own : stub.submitter < 16 → new.submitters
+      ≡ set old.submitters stub.submitter (capped (slice_index old.submitters stub.submitter + 1))
+  pub unknown : 16 ≤ stub.submitter → new.submitters ≡ old.submitters
+
+pub split_more : (stubs : List Stub) (index : ℕ) (other : Stub) {start old new : Counts} → index < length stubs
+    → IsSplit (take index stubs) start old → length old.submitters ≡ 16 → IsAdded (get_or stubs index other) old new
+    → IsSplit (take (index + 1) stubs) start new
+split_more stubs index other {start} {old} {new} below is long added = record {
+  batches = added.others.0 ∙ is.batches;
+  pulses = added.others.1 ∙ is.pulses;
+  packets = added.others.2 ∙ is.packets;
+  events = omega (arith, added.events, is.events, sum_by_more (λ (stub : Stub). stub.count) stubs index other below);
+  submitters = λ k few. by k few ((get_or stubs index other).submitter == k) refl;
 }
   where
-    same : (k : ℕ) → k < 16 → slice_index c.submitters k ≡ slice_index b.submitters k → is_of k (get_or stubs i d) ≡ false
-        → slice_index c.submitters k ≡ capped (slice_index a.submitters k + count_by (is_of k) (take (i + 1) stubs))
-    same k few kept not = kept ∙ is.submitters k few
-        ∙ ap (λ n. capped (slice_index a.submitters k + n)) (sym (count_by_more_no (is_of k) stubs i d below not))
+    elsewhere : (k : ℕ) → ((get_or stubs index other).submitter == k) ≡ false → (known : Bool)
+        → nat_lt (get_or stubs index other).submitter 16 ≡ known → slice_index new.submitters k ≡ slice_index old.submitters k
+    elsewhere k not true is_known = ap (λ xs. slice_index xs k) (added.own (grind (arith, is_known)))
+        ∙ get_or-set_other old.submitters _ k _ 0 (λ at. grind (arith, not, at))
+    elsewhere k not false is_known = ap (λ xs. slice_index xs k) (added.unknown (grind (arith, is_known)))
 
-    by : (k : ℕ) → k < 16 → (hit : Bool) → ((get_or stubs i d).submitter == k) ≡ hit
-        → slice_index c.submitters k ≡ capped (slice_index a.submitters k + count_by (is_of k) (take (i + 1) stubs))
+    by : (k : ℕ) → k < 16 → (hit : Bool) → ((get_or stubs index other).submitter == k) ≡ hit
+        → slice_index new.submitters k ≡ capped (slice_index start.submitters k + count_by (is_of k) (take (index + 1) stubs))
     by k few true e =
-        let at : (get_or stubs i d).submitter ≡ k = eqb-true (get_or stubs i d).submitter k e in
-        let inside : k < length b.submitters = omega (arith, few, long) in
-        let new : c.submitters ≡ set b.submitters k (capped (slice_index b.submitters k + 1)) =
-        subst (λ j. c.submitters ≡ set b.submitters j (capped (slice_index b.submitters j + 1))) at
-        (own (omega (arith, few, at))) in
-        let here : slice_index c.submitters k ≡ capped (slice_index b.submitters k + 1) =
-        ap (λ xs. slice_index xs k) new ∙ get_or-set_same b.submitters k _ 0 inside in
-        let more = count_by_more_yes (is_of k) stubs i d below e in
-        omega (arith, here, is.submitters k few, more)
-    by k few false e = elsewhere k few e (nat_lt (get_or stubs i d).submitter 16) refl
-      where
-        elsewhere : (k : ℕ) → k < 16 → ((get_or stubs i d).submitter == k) ≡ false → (known : Bool)
-            → nat_lt (get_or stubs i d).submitter 16 ≡ known → slice_index c.submitters k
-            ≡ capped (slice_index a.submitters k + count_by (is_of k) (take (i + 1) stubs))
-        elsewhere k few not true is_known = same k few (ap (λ xs. slice_index xs k) (own (grind (arith, is_known)))
-            ∙ get_or-set_other b.submitters _ k _ 0 (λ at. grind (arith, not, at))) not
-        elsewhere k few not false is_known = same k few (ap (λ xs. slice_index xs k) (unknown (grind (arith, is_known)))) not
+        let at : (get_or stubs index other).submitter ≡ k = eqb-true (get_or stubs index other).submitter k e in
+        let set_there : new.submitters ≡ set old.submitters k (capped (slice_index old.submitters k + 1)) =
+        subst (λ j. new.submitters ≡ set old.submitters j (capped (slice_index old.submitters j + 1))) at
+        (added.own (omega (arith, few, at))) in
+        let here : slice_index new.submitters k ≡ capped (slice_index old.submitters k + 1) =
+        ap (λ xs. slice_index xs k) set_there ∙ get_or-set_same old.submitters k _ 0 (omega (arith, few, long)) in
+        omega (arith, here, is.submitters k few, count_by_more_yes (is_of k) stubs index other below e)
+    by k few false e = elsewhere k e (nat_lt (get_or stubs index other).submitter 16) refl ∙ is.submitters k few
+        ∙ ap (λ n. capped (slice_index start.submitters k + n)) (sym (count_by_more_no (is_of k) stubs index other below e))
 
 -- ---- the packets of a batch
 
@@ -173,24 +170,21 @@ counts_batch groups jobs old new are few some tally =
       );
     }
 
-pub counts_pulse : (groups : List (List Input)) (moment : ℕ) (old new : Counts) → AreCounts groups old
+pub counts_pulse : (groups : List (List Input)) (moment : ℕ) (old : Counts) → AreCounts groups old
     → length (inputs_of groups) + 1 ≤ 9223372036854775808
-    → new.batches ≡ old.batches → new.pulses ≡ capped (old.pulses + 1) → new.packets ≡ old.packets
-    → new.events ≡ old.events → new.submitters ≡ old.submitters
-    → AreCounts (groups ++ (Pulse moment ∷ []) ∷ []) new
-counts_pulse groups moment old new are few batches pulses packets events submitters =
+    → AreCounts (groups ++ (Pulse moment ∷ []) ∷ []) (record old { pulses = capped (old.pulses + 1) })
+counts_pulse groups moment old are few =
     let before = inputs_of groups in
     let group = Pulse moment ∷ [] in
     let all = inputs-more groups group in
     let long = length-append before group in
     record {
       full = full-push groups group are.full (omega arith);
-      entries = omega (arith, batches, pulses, are.entries, are.places, few, length-append groups (group ∷ []));
-      some = omega (arith, batches, packets, are.some);
-      places = omega (arith, packets, pulses, are.places, few, long, ap length all);
+      entries = omega (arith, are.entries, are.places, few, length-append groups (group ∷ []));
+      some = are.some;
+      places = omega (arith, are.places, few, long, ap length all);
       pulses = omega (
         arith,
-        pulses,
         are.pulses,
         are.places,
         few,
@@ -198,8 +192,8 @@ counts_pulse groups moment old new are few batches pulses packets events submitt
         ap length (moments-append before group),
         length-append (moments_in before) (moment ∷ []),
       );
-      events = events ∙ are.events
+      events = are.events
           ∙ sym (ap (λ xs. capped (events_together xs)) all ∙ ap capped (omega (arith, events-append before group)));
-      submitters = λ k below. ap (λ xs. slice_index xs k) submitters ∙ are.submitters k below
+      submitters = λ k below. are.submitters k below
           ∙ sym (ap (λ xs. length (packets_of k xs)) all ∙ packets-append k before group ∙ omega arith);
     }

@@ -108,7 +108,7 @@ module _ {C L : Type 0} {ended_with : C → List Item → Type 0} {opened : Open
       let is_done = done k driver its.1 in
       let jobs = jobs_in (run.queued k) in
       let seen = reported.seen k driver end.0 its.1 end.1 is_done.0 in
-      let longer = handed_longer limit end.0.read end.0.lying (share_of driver) _ (results_of driver) jobs seen.0 in
+      let longer = handed_longer end.0.lying seen.0 in
       subst (λ replies. IsHandedIn limit replies share [] results jobs) (sym (replies_are k end.0 end.1))
       (subst (λ packets. IsHandedIn limit (end.0.read ++ end.0.lying) packets [] results jobs) its.2
       (subst (λ all. IsHandedIn limit (end.0.read ++ end.0.lying) (share_of driver) [] all jobs) its.3

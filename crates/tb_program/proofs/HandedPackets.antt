@@ -15,46 +15,43 @@ kept_with (packet ∷ handed) more (Queued ∷ results) also long =
 kept_with (packet ∷ handed) more (Refused refusal ∷ results) also long =
     kept_with handed more results also (omega (arith, long))
 
-right_with : (limit : ℕ) (read : List ReplyValue) (handed : List Packet) (results : List PacketResult) (packet : Packet) (last : PacketResult)
-    → length results ≡ length handed → AreResultsOfPackets limit read handed results → IsResultOfPacket limit read packet last
-    → AreResultsOfPackets limit read (handed ++ packet ∷ []) (results ++ last ∷ [])
-right_with limit read [] [] packet last long all one = (one, tt)
-right_with limit read [] (first ∷ results) packet last long all one = absurd (omega (arith, long))
-right_with limit read (p ∷ handed) [] packet last long all one = absurd (omega (arith, long))
-right_with limit read (p ∷ handed) (first ∷ results) packet last long all one =
-    (all.0, right_with limit read handed results packet last (omega (arith, long)) all.1 one)
+module _ (limit : ℕ) (read : List ReplyValue) where
+  right_with : (handed : List Packet) (results : List PacketResult) (packet : Packet) (last : PacketResult)
+      → length results ≡ length handed → AreResultsOfPackets limit read handed results
+      → IsResultOfPacket limit read packet last
+      → AreResultsOfPackets limit read (handed ++ packet ∷ []) (results ++ last ∷ [])
+  right_with [] [] packet last long all one = (one, tt)
+  right_with [] (first ∷ results) packet last long all one = absurd (omega (arith, long))
+  right_with (p ∷ handed) [] packet last long all one = absurd (omega (arith, long))
+  right_with (p ∷ handed) (first ∷ results) packet last long all one =
+      (all.0, right_with handed results packet last (omega (arith, long)) all.1 one)
 
-one_more : (limit : ℕ) (read : List ReplyValue) (share rest : List Packet) (packet : Packet) (results : List PacketResult) (last : PacketResult)
-    (queued more : List Numbered) → packets_in more ≡ kept (packet ∷ []) (last ∷ [])
-    → IsResultOfPacket limit read packet last → IsHandedIn limit read share (packet ∷ rest) results queued
-    → IsHandedIn limit read share rest (results ++ last ∷ []) (queued ++ more)
-one_more limit read share rest packet results last queued more is right before = record {
-  handed = before.handed ++ packet ∷ [];
-  parts = before.parts ∙ sym (append_assoc before.handed (packet ∷ []) rest);
-  number = omega (arith, before.number, length-append results (last ∷ []), length-append before.handed (packet ∷ []));
-  agrees = map-append (λ (job : Numbered). job.packet) queued more
-      ∙ ap (λ packets. packets ++ packets_in more) before.agrees
-      ∙ ap (λ packets. kept before.handed results ++ packets) is
-      ∙ sym (kept_with before.handed (packet ∷ []) results (last ∷ []) before.number);
-  right = right_with limit read before.handed results packet last before.number before.right right;
-}
+module _ {limit : ℕ} {read : List ReplyValue} {share rest : List Packet} {packet : Packet} {results : List PacketResult}
+    {queued : List Numbered} (before : IsHandedIn limit read share (packet ∷ rest) results queued) where
+  one_more : (last : PacketResult) (more : List Numbered) → packets_in more ≡ kept (packet ∷ []) (last ∷ [])
+      → IsResultOfPacket limit read packet last
+      → IsHandedIn limit read share rest (results ++ last ∷ []) (queued ++ more)
+  one_more last more is right = record {
+    handed = before.handed ++ packet ∷ [];
+    parts = before.parts ∙ sym (append_assoc before.handed (packet ∷ []) rest);
+    number = omega (arith, before.number, length-append results (last ∷ []), length-append before.handed (packet ∷ []));
+    agrees = map-append (λ (job : Numbered). job.packet) queued more
+        ∙ ap (λ packets. packets ++ packets_in more) before.agrees
+        ∙ ap (λ packets. kept before.handed results ++ packets) is
+        ∙ sym (kept_with before.handed (packet ∷ []) results (last ∷ []) before.number);
+    right = right_with limit read before.handed results packet last before.number before.right right;
+  }
 
-pub one_queued : (limit : ℕ) (read : List ReplyValue) (share rest : List Packet) (packet : Packet) (results : List PacketResult)
-    (queued : List Numbered) (job : Numbered) → job.packet ≡ packet → final_refusal limit read packet ≡ None
-    → IsHandedIn limit read share (packet ∷ rest) results queued
-    → IsHandedIn limit read share rest (results ++ Queued ∷ []) (queued ++ job ∷ [])
-one_queued limit read share rest packet results queued job is none =
-    one_more limit read share rest packet results Queued queued (job ∷ []) (ap (λ p. p ∷ []) is)
-    (admitted limit read packet none)
+  pub one_queued : (job : Numbered) → job.packet ≡ packet → final_refusal limit read packet ≡ None
+      → IsHandedIn limit read share rest (results ++ Queued ∷ []) (queued ++ job ∷ [])
+  one_queued job is none =
+      one_more Queued (job ∷ []) (ap (λ p. p ∷ []) is) (admitted limit read packet none)
 
-pub one_refused : (limit : ℕ) (read : List ReplyValue) (share rest : List Packet) (packet : Packet) (results : List PacketResult)
-    (refusal : Cause) (queued : List Numbered) → IsFinalRefusal limit read packet refusal
-    → IsHandedIn limit read share (packet ∷ rest) results queued
-    → IsHandedIn limit read share rest (results ++ Refused refusal ∷ []) queued
-one_refused limit read share rest packet results refusal queued is before =
-    subst (λ jobs. IsHandedIn limit read share rest (results ++ Refused refusal ∷ []) jobs) (append-nil queued)
-    (one_more limit read share rest packet results (Refused refusal) queued [] refl
-    (rightly_refused limit read packet refusal is) before)
+  pub one_refused : (refusal : Cause) → IsFinalRefusal limit read packet refusal
+      → IsHandedIn limit read share rest (results ++ Refused refusal ∷ []) queued
+  one_refused refusal is =
+      subst (λ jobs. IsHandedIn limit read share rest (results ++ Refused refusal ∷ []) jobs) (append-nil queued)
+      (one_more (Refused refusal) [] refl (rightly_refused limit read packet refusal is))
 
 -- replies that come later leave it so
 right_longer : (limit : ℕ) (read more : List ReplyValue) (handed : List Packet) (results : List PacketResult)
@@ -66,10 +63,10 @@ right_longer limit read more (packet ∷ handed) (Queued ∷ results) all =
 right_longer limit read more (packet ∷ handed) (Refused refusal ∷ results) all =
     (refused_longer limit read more packet refusal all.0, right_longer limit read more handed results all.1)
 
-pub handed_longer : (limit : ℕ) (read more : List ReplyValue) (share rest : List Packet) (results : List PacketResult)
-    (queued : List Numbered) → IsHandedIn limit read share rest results queued
+pub handed_longer : {limit : ℕ} {read : List ReplyValue} (more : List ReplyValue) {share rest : List Packet}
+    {results : List PacketResult} {queued : List Numbered} → IsHandedIn limit read share rest results queued
     → IsHandedIn limit (read ++ more) share rest results queued
-handed_longer limit read more share rest results queued is = record {
+handed_longer {limit} {read} more {results = results} is = record {
   handed = is.handed;
   parts = is.parts;
   number = is.number;

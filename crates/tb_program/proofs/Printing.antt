@@ -43,19 +43,18 @@ on_ok (Ok x) f holds = f holds
 on_ok (Err e) f holds = tt
 
 -- the lines, and the clock and the accounts
-pub whole : (clock : ℕ) (plan : List Planned) (lines : List Line) (ledger : LedgerState) (replies shown : List ReplyValue)
-    (state : State) (out with_lines with_state : List ℕ) →
+pub whole : {clock : ℕ} (plan : List Planned) {lines : List Line} {ledger : LedgerState} {replies shown : List ReplyValue}
+    {state : State} (out : List ℕ) {with_lines with_state : List ℕ} →
     lines ≡ map line_of plan → IsListed clock (queue_of plan) ledger replies
     → state ≡ replay ledger.opening (inputs ledger) → shown ≡ replies →
     with_lines ≡ out ++ text_from (Some 0) shown lines → with_state ≡ with_lines ++ state_text state
     → with_state ≡ out ++ plan_text clock plan
-whole clock plan lines ledger replies shown state out with_lines with_state lines_are is state_is all first second =
+whole {clock} plan {ledger = ledger} {state = state} out lines_are is state_is shown_are first second =
     let committed = ahead (queue_of plan) in
     let after : state ≡ replay clock committed = state_is ∙ ap (λ start. replay start (inputs ledger)) is.from
     ∙ ap (replay clock) is.committed in
-    let text : text_from (Some 0) shown lines ≡ lines_from clock committed (Ahead 0) plan =
-    ap (text_from (Some 0) shown) lines_are ∙ ap (λ rs. text_from (Some 0) rs (map line_of plan)) (all ∙ is.replied)
-    ∙ texts_agree clock committed (Some 0) plan in
-    second ∙ ap (λ t. t ++ state_text state) (first ∙ ap (λ t. out ++ t) text)
+    second ∙ ap (λ t. t ++ state_text state)
+    (first ∙ (λ i. out ++ text_from (Some 0) ((shown_are ∙ is.replied) i) (lines_are i))
+    ∙ ap (λ t. out ++ t) (texts_agree clock committed (Some 0) plan))
     ∙ ap (λ (s : State). (out ++ lines_from clock committed (Ahead 0) plan) ++ state_text s) after
     ∙ append_assoc out (lines_from clock committed (Ahead 0) plan) (state_text (replay clock committed))

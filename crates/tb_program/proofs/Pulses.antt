@@ -19,14 +19,14 @@ pulses_after place (Pulse moment ∷ inputs) others =
     (pulses_text (place + suc (length inputs)) others))
 
 -- those of an entry, and of the others after it
-pub first_pulses : (before after : List ℕ) (place next_place : ℕ) (entry : Entry) (others all : List Entry)
-    → all ≡ entry ∷ others → next_place ≡ place + length (group_of entry)
+pub first_pulses : (before : List ℕ) {after : List ℕ} (place : ℕ) {next_place : ℕ} (entry : Entry)
+    {others all : List Entry} → all ≡ entry ∷ others → next_place ≡ place + length (group_of entry)
     → after ≡ before ++ pulses_text place (group_of entry)
     → after ++ pulses_text next_place (flat_map group_of others)
     ≡ before ++ pulses_text place (flat_map group_of all)
-first_pulses before after place next_place entry others all all_is after_is text =
+first_pulses before place {next_place} entry {others} all_is next_is text =
     ap (λ t. t ++ pulses_text next_place (flat_map group_of others)) text ∙ append_assoc before _ _
-    ∙ ap (λ p. before ++ (pulses_text place (group_of entry) ++ pulses_text p (flat_map group_of others))) after_is
+    ∙ ap (λ p. before ++ (pulses_text place (group_of entry) ++ pulses_text p (flat_map group_of others))) next_is
     ∙ ap (λ t. before ++ t) (sym (pulses_after place (group_of entry) (flat_map group_of others)))
     ∙ ap (λ es. before ++ pulses_text place (flat_map group_of es)) (sym all_is)
 

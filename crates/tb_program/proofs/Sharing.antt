@@ -29,25 +29,25 @@ dealt_past submitter (own ∷ shares) items item none dealt = (
 )
 
 -- a packet goes to its submitter
-pub dealt_to : (submitter k owner : ℕ) (shares : List (Vec packets.Packet Global)) (items : List ScriptItem)
-    (packet : packets.Packet) (share : Vec packets.Packet Global)
-    → owner ≡ submitter + k → k < length shares → share.items ≡ (get_or shares k share).items ++ packet ∷ []
-    → AreDealt submitter shares items → AreDealt submitter (set shares k share) (items ++ Packet owner packet ∷ [])
-dealt_to submitter k owner [] items packet share its within is dealt = absurd (omega (arith, within))
-dealt_to submitter zero owner (own ∷ shares) items packet share its within is dealt =
-    let same : owner ≡ submitter = omega (arith, its) in
-    let last : packet_by submitter (Packet owner packet) ≡ packet ∷ [] = rw (eq-eqb owner submitter same) refl in (
-      is ∙ ap (λ before. before ++ packet ∷ []) dealt.0
-          ∙ sym (one_more submitter items (Packet owner packet) ∙ ap (λ end. packets_by submitter items ++ end) last),
-      dealt_past (suc submitter) shares items (Packet owner packet)
-          (λ other least most. not_its other owner packet (λ e. omega (arith, e, same, least))) dealt.1,
-    )
-dealt_to submitter (suc k) owner (own ∷ shares) items packet share its within is dealt = (
-  dealt.0 ∙ sym (one_more submitter items (Packet owner packet)
-      ∙ ap (λ last. packets_by submitter items ++ last) (not_its submitter owner packet (λ e. omega (arith, e, its)))
-      ∙ append-nil (packets_by submitter items)),
-  dealt_to (suc submitter) k owner shares items packet share (omega (arith, its)) (omega (arith, within)) is dealt.1,
-)
+module _ (items : List ScriptItem) (owner : ℕ) (packet : packets.Packet) (share : Vec packets.Packet Global) where
+  pub dealt_to : (submitter k : ℕ) (shares : List (Vec packets.Packet Global)) → owner ≡ submitter + k → k < length shares
+      → share.items ≡ (get_or shares k share).items ++ packet ∷ [] → AreDealt submitter shares items
+      → AreDealt submitter (set shares k share) (items ++ Packet owner packet ∷ [])
+  dealt_to submitter k [] its within is dealt = absurd (omega (arith, within))
+  dealt_to submitter zero (own ∷ shares) its within is dealt =
+      let same : owner ≡ submitter = omega (arith, its) in
+      let last : packet_by submitter (Packet owner packet) ≡ packet ∷ [] = rw (eq-eqb owner submitter same) refl in (
+        is ∙ ap (λ before. before ++ packet ∷ []) dealt.0
+            ∙ sym (one_more submitter items (Packet owner packet) ∙ ap (λ end. packets_by submitter items ++ end) last),
+        dealt_past (suc submitter) shares items (Packet owner packet)
+            (λ other least most. not_its other owner packet (λ e. omega (arith, e, same, least))) dealt.1,
+      )
+  dealt_to submitter (suc k) (own ∷ shares) its within is dealt = (
+    dealt.0 ∙ sym (one_more submitter items (Packet owner packet)
+        ∙ ap (λ last. packets_by submitter items ++ last) (not_its submitter owner packet (λ e. omega (arith, e, its)))
+        ∙ append-nil (packets_by submitter items)),
+    dealt_to (suc submitter) k shares (omega (arith, its)) (omega (arith, within)) is dealt.1,
+  )
 
 -- what is dealt are the submitters' shares
 pub dealt_lists : (submitter : ℕ) (shares : List (Vec packets.Packet Global)) (items : List ScriptItem)

@@ -35,7 +35,7 @@ pub use Rattle.tb_program.specs.inside.SplitPlan.{line_of, with_planned}
 pub use Rattle.tb_program_text.specs.clauses.Output.{reply_line, pulse_line, refused_line, refused_pulse_line, account_line}
 pub use Rattle.tb_program_text.specs.clauses.Script.{limit_of, capacity_of, credit_of, submitters_of, clock_of, items_of}
 pub use Rattle.tb_submit.specs.clauses.Ends.{EndedState, replies_of, Origin, SubmitterState, new_submitter}
-pub use Rattle.tb_submit.specs.clauses.Refusals.{IsRefusal, TakesMemory, or_else, refusal_in, refusal_of, first_refusal_in, queue_refusal}
+pub use Rattle.tb_submit.specs.clauses.Refusals.{IsRefusal, TakesMemory, or_else, refusal_in, refusal_of, first_refusal_in}
 pub use Rattle.tb_work.specs.claim.Ahead.{items_in, items_from, ahead}
 pub use Rattle.tb_work.specs.claim.Job.{numbered_packet}
 pub use Rattle.tb_work.specs.claim.Packet.{Numbered, ReplyValue}

@@ -148,144 +148,146 @@ chosen a b x y e = ap (λ (is : Bool). cond is x y) (eq-eqb a b e)
 unchosen : (a b x y : ℕ) → a ≢ b → cond (a == b) x y ≡ y
 unchosen a b x y n = ap (λ (is : Bool). cond is x y) (ne_eqb a b n)
 
-module _ {items : List Ticket} {views : List View} (h : QueueInvariant items views) where
+module _ {items : List Ticket} {views : List View} (rule : QueueInvariant items views) where
   -- a pass other than the reader's has no mark, so the list taken and the count may change
-  mark_elsewhere : (j count : ℕ) (taken : List Ticket) (m : Option IntakeMark) → j ≢ h.reader
-      → FitsMark h.reader h.count h.taken j m → FitsMark h.reader count taken j m
+  mark_elsewhere : (j count : ℕ) (taken : List Ticket) (m : Option IntakeMark) → j ≢ rule.reader
+      → FitsMark rule.reader rule.count rule.taken j m → FitsMark rule.reader count taken j m
   mark_elsewhere j count taken None other f = tt
   mark_elsewhere j count taken (Some mark) other f = absurd (other f.0)
 
   -- a new pass with no number, which knows no more than the others do
-  longer : (history : List Ticket) → BeginsWith (h.taken ++ items) history
+  longer : (history : List Ticket) → BeginsWith (rule.taken ++ items) history
       → QueueInvariant items (views ++ witness history ∷ [])
   longer history begin = record {
-    pass_of = h.pass_of;
-    reader = h.reader;
-    count = h.count;
-    taken = h.taken;
-    fits = all_longer (Fits h.pass_of h.reader h.count h.taken items) views (witness history) h.fits
+    pass_of = rule.pass_of;
+    reader = rule.reader;
+    count = rule.count;
+    taken = rule.taken;
+    fits = all_longer (Fits rule.pass_of rule.reader rule.count rule.taken items) views (witness history) rule.fits
         (tt, tt, (begin, tt));
-    stands = λ s below. in_longer views (witness history) (h.pass_of s) s (h.stands s below);
-    no_other_sender = h.no_other_sender;
+    stands = λ s below. in_longer views (witness history) (rule.pass_of s) s (rule.stands s below);
+    no_other_sender = rule.no_other_sender;
   }
 
-module _ {items : List Ticket} {views : List View} (h : QueueInvariant items views) (pass : ℕ) {v : View}
-    (at : get_elem? views pass ≡ some v) where
-  changed : (now taken : List Ticket) (w : View) → Fits h.pass_of h.reader h.count taken now pass w
-      → ((j : ℕ) (u : View) → j ≢ pass → Fits h.pass_of h.reader h.count h.taken items j u
-      → Fits h.pass_of h.reader h.count taken now j u)
-      → ((s : ℕ) → Stands s v.entries → Stands s w.entries)
-      → ((s : ℕ) → h.count ≤ s → items_from s (taken ++ now) ≡ []) → QueueInvariant now (set views pass w)
+module _ {items : List Ticket} {views : List View} (rule : QueueInvariant items views) (pass : ℕ) {view : View}
+    (at : get_elem? views pass ≡ some view) where
+  changed : (now taken : List Ticket) (w : View) → Fits rule.pass_of rule.reader rule.count taken now pass w
+      → ((j : ℕ) (u : View) → j ≢ pass → Fits rule.pass_of rule.reader rule.count rule.taken items j u
+      → Fits rule.pass_of rule.reader rule.count taken now j u)
+      → ((s : ℕ) → Stands s view.entries → Stands s w.entries)
+      → ((s : ℕ) → rule.count ≤ s → items_from s (taken ++ now) ≡ []) → QueueInvariant now (set views pass w)
   changed now taken w mine others keeps none = record {
-    pass_of = h.pass_of;
-    reader = h.reader;
-    count = h.count;
+    pass_of = rule.pass_of;
+    reader = rule.reader;
+    count = rule.count;
     taken = taken;
-    fits = all_set views pass w (Fits h.pass_of h.reader h.count taken now) mine
-        (λ j u other e. others j u other (h.fits j u e));
-    stands = λ s below. in_set views pass w v at keeps (h.pass_of s) s (h.stands s below);
+    fits = all_set views pass w (Fits rule.pass_of rule.reader rule.count taken now) mine
+        (λ j u other e. others j u other (rule.fits j u e));
+    stands = λ s below. in_set views pass w view at keeps (rule.pass_of s) s (rule.stands s below);
     no_other_sender = none;
   }
 
   -- of the same tickets
-  replaced : (w : View) → Fits h.pass_of h.reader h.count h.taken items pass w
-      → ((s : ℕ) → Stands s v.entries → Stands s w.entries) → QueueInvariant items (set views pass w)
-  replaced w mine keeps = changed items h.taken w mine (λ j u other f. f) keeps h.no_other_sender
+  replaced : (w : View) → Fits rule.pass_of rule.reader rule.count rule.taken items pass w
+      → ((s : ℕ) → Stands s view.entries → Stands s w.entries) → QueueInvariant items (set views pass w)
+  replaced w mine keeps = changed items rule.taken w mine (λ j u other f. f) keeps rule.no_other_sender
 
   -- a pass with one entry pushes a ticket of its number
-  pub pushed : (x : Ticket) (e : PassEntry) → v.entries ≡ e ∷ [] → x.sender ≡ e.number
-      → (w : View) × QueueInvariant (items ++ x ∷ []) (set views pass w) × HasPushed v x w
-  pushed x e one own =
-      let now = items ++ x ∷ [] in
-      let all = h.taken ++ now in
-      let old = h.fits pass v at in
-      let mine = (subst (AllByRecursion (FitsEntry h.pass_of h.count (h.taken ++ items) pass)) one old.0).0 in
-      let entries : first_entry_with x.item v.entries ≡ entry e.number (e.pushed ++ x.item ∷ []) ∷ [] =
-      ap (first_entry_with x.item) one in
-      let part : items_from e.number all ≡ e.pushed ++ x.item ∷ [] =
-      part_more e.number h.taken items x ∙ (λ i. mine.2 i ++ part_one e.number x own i) in
-      let w : View = with_pushed v x all in (
+  pub pushed : (ticket : Ticket) (e : PassEntry) → view.entries ≡ e ∷ [] → ticket.sender ≡ e.number
+      → (w : View) × QueueInvariant (items ++ ticket ∷ []) (set views pass w) × HasPushed view ticket w
+  pushed ticket e one own =
+      let now = items ++ ticket ∷ [] in
+      let all = rule.taken ++ now in
+      let old = rule.fits pass view at in
+      let mine = (subst (AllByRecursion (FitsEntry rule.pass_of rule.count (rule.taken ++ items) pass)) one old.0).0 in
+      let entries : first_entry_with ticket.item view.entries ≡ entry e.number (e.pushed ++ ticket.item ∷ []) ∷ [] =
+      ap (first_entry_with ticket.item) one in
+      let part : items_from e.number all ≡ e.pushed ++ ticket.item ∷ [] =
+      part_more e.number rule.taken items ticket ∙ (λ i. mine.2 i ++ part_one e.number ticket own i) in
+      let w : View = with_pushed view ticket all in (
         w,
-        changed now h.taken w (
-          subst (AllByRecursion (FitsEntry h.pass_of h.count all pass)) (sym entries) ((mine.0, mine.1, part), tt),
+        changed now rule.taken w (
+          subst (AllByRecursion (FitsEntry rule.pass_of rule.count all pass)) (sym entries) ((mine.0, mine.1, part), tt),
           old.1,
-          (([], append-nil all), still_begin h.taken items x v.learned old.2.1),
+          (([], append-nil all), still_begin rule.taken items ticket view.learned old.2.1),
         )
             (λ j u other f. (
-              each_map (FitsEntry h.pass_of h.count (h.taken ++ items) j) (FitsEntry h.pass_of h.count all j) u.entries
+              each_map (FitsEntry rule.pass_of rule.count (rule.taken ++ items) j)
+                  (FitsEntry rule.pass_of rule.count all j) u.entries
                   (λ y g. (
                     g.0,
                     g.1,
-                    part_same y.number h.taken items x
-                        (λ same. other (sym g.1 ∙ ap h.pass_of (sym same ∙ own) ∙ mine.1)) ∙ g.2,
+                    part_same y.number rule.taken items ticket
+                        (λ same. other (sym g.1 ∙ ap rule.pass_of (sym same ∙ own) ∙ mine.1)) ∙ g.2,
                   ))
                   f.0,
               f.1,
-              still_begin h.taken items x (u.history ∷ u.learned) f.2,
+              still_begin rule.taken items ticket (u.history ∷ u.learned) f.2,
             ))
             (λ s stood. subst (Stands s) (sym entries) (subst (Stands s) one stood))
-            (λ s above. part_same s h.taken items x
-            (λ same. (let f = mine.0 in let g = sym own ∙ same in absurd (omega arith))) ∙ h.no_other_sender s above),
+            (λ s above. part_same s rule.taken items ticket
+            (λ same. (let f = mine.0 in let g = sym own ∙ same in absurd (omega arith))) ∙ rule.no_other_sender s above),
         (all, refl, ap (λ s. items_from s all) own ∙ part ∙ sym (ap first_pushed entries)),
       )
 
   -- the reader's pass notes that the queue was seen empty: the second pass knows nothing
-  pub noted : QueueInvariant items (set views pass (view_seen_empty v) ++ empty_view ∷ [])
+  pub noted : QueueInvariant items (set views pass (view_seen_empty view) ++ empty_view ∷ [])
   noted =
-      let mine = h.fits pass v at in
-      let next = replaced (view_seen_empty v) (mine.0, by v.mark mine.1, mine.2) (λ s stood. stood) in
+      let mine = rule.fits pass view at in
+      let next = replaced (view_seen_empty view) (mine.0, by view.mark mine.1, mine.2) (λ s stood. stood) in
       longer next [] (next.taken ++ items, refl)
     where
-      by : (m : Option IntakeMark) → FitsMark h.reader h.count h.taken pass m
-          → FitsMark h.reader h.count h.taken pass (empty_more m)
+      by : (m : Option IntakeMark) → FitsMark rule.reader rule.count rule.taken pass m
+          → FitsMark rule.reader rule.count rule.taken pass (empty_more m)
       by None f = tt
       by (Some mark) f = f
 
   -- the second pass knows which tickets were queued at this one's last push
-  pub witnessed : QueueInvariant items (set views pass v ++ witness v.history ∷ [])
+  pub witnessed : QueueInvariant items (set views pass view ++ witness view.history ∷ [])
   witnessed =
-      let next = replaced v (h.fits pass v at) (λ s stood. stood) in
-      longer next v.history (next.fits pass v (put_here views pass v v at)).2.0
+      let next = replaced view (rule.fits pass view at) (λ s stood. stood) in
+      longer next view.history (next.fits pass view (put_here views pass view view at)).2.0
 
-  pub known : Tells v items
-  known = by v.mark (h.fits pass v at).1
+  pub known : Tells view items
+  known = by view.mark (rule.fits pass view at).1
     where
-      by : (m : Option IntakeMark) → FitsMark h.reader h.count h.taken pass m → TellsMark v.entries m v.learned items
+      by : (m : Option IntakeMark) → FitsMark rule.reader rule.count rule.taken pass m
+          → TellsMark view.entries m view.learned items
       by None f = tt
       by (Some mark) f =
-          let same : h.taken ++ items ≡ mark.taken ++ items = ap (λ got. got ++ items) (sym f.1) in (
-            each_map (FitsEntry h.pass_of h.count (h.taken ++ items) pass)
-                (λ (e : PassEntry). items_from e.number (mark.taken ++ items) ≡ e.pushed) v.entries
-                (λ e g. ap (items_from e.number) (sym same) ∙ g.2) (h.fits pass v at).0,
-            (λ s above. ap (items_from s) (sym same) ∙ h.no_other_sender s (omega (arith, f.2))),
-            subst (λ all. AllBegin all v.learned) same (h.fits pass v at).2.1,
+          let same : rule.taken ++ items ≡ mark.taken ++ items = ap (λ got. got ++ items) (sym f.1) in (
+            each_map (FitsEntry rule.pass_of rule.count (rule.taken ++ items) pass)
+                (λ (e : PassEntry). items_from e.number (mark.taken ++ items) ≡ e.pushed) view.entries
+                (λ e g. ap (items_from e.number) (sym same) ∙ g.2) (rule.fits pass view at).0,
+            (λ s above. ap (items_from s) (sym same) ∙ rule.no_other_sender s (omega (arith, f.2))),
+            subst (λ all. AllBegin all view.learned) same (rule.fits pass view at).2.1,
           )
 
-  pub own_known : TellsOwn v items
+  pub own_known : TellsOwn view items
   own_known =
-      let mine = h.fits pass v at in (
-        h.taken,
-        each_map (FitsEntry h.pass_of h.count (h.taken ++ items) pass)
-            (λ (e : PassEntry). items_from e.number (h.taken ++ items) ≡ e.pushed) v.entries (λ e f. f.2) mine.0,
+      let mine = rule.fits pass view at in (
+        rule.taken,
+        each_map (FitsEntry rule.pass_of rule.count (rule.taken ++ items) pass)
+            (λ (e : PassEntry). items_from e.number (rule.taken ++ items) ≡ e.pushed) view.entries (λ e f. f.2) mine.0,
         mine.2.1,
       )
 
 -- ---- two passes
 
-module _ {items : List Ticket} {views : List View} (h : QueueInvariant items views) {pass other : ℕ} {v u : View}
-    (at : get_elem? views pass ≡ some v) (was : get_elem? views other ≡ some u) (two : other ≢ pass) where
+module _ {items : List Ticket} {views : List View} (rule : QueueInvariant items views) {pass other : ℕ} {view u : View}
+    (at : get_elem? views pass ≡ some view) (was : get_elem? views other ≡ some u) (two : other ≢ pass) where
   -- a pass learns what a second one knows that has no number
-  pub learned : u.entries ≡ [] → QueueInvariant items (set (set views pass (view_learning v u)) other empty_view)
+  pub learned : u.entries ≡ [] → QueueInvariant items (set (set views pass (view_learning view u)) other empty_view)
   learned none =
-      let mine = h.fits pass v at in
-      let both = view_learning v u in
-      let next = replaced h pass at both (
+      let mine = rule.fits pass view at in
+      let both = view_learning view u in
+      let next = replaced rule pass at both (
         mine.0,
         mine.1,
         (
           mine.2.0,
-          each_append (BeginsWith (h.taken ++ items)) v.learned (u.history ∷ []) mine.2.1
-              ((h.fits other u was).2.0, tt),
+          each_append (BeginsWith (rule.taken ++ items)) view.learned (u.history ∷ []) mine.2.1
+              ((rule.fits other u was).2.0, tt),
         ),
       )
       (λ s stood. stood) in
@@ -293,128 +295,129 @@ module _ {items : List Ticket} {views : List View} (h : QueueInvariant items vie
       (tt, tt, ((next.taken ++ items, refl), tt)) (λ s. subst (Stands s) none)
 
   -- any two passes may be joined: the numbers of the second one are in the first from then on
-  pub joined : QueueInvariant items (set (set views pass (both_views v u)) other empty_view)
+  pub joined : QueueInvariant items (set (set views pass (both_views view u)) other empty_view)
   joined =
-      let both : View = both_views v u in
+      let both : View = both_views view u in
       let vs : List View = set views pass both in
-      let all : List Ticket = h.taken ++ items in
-      let mine = h.fits pass v at in
-      let theirs = h.fits other u was in
-      let pass_of : ℕ → ℕ = λ s. cond (h.pass_of s == other) pass (h.pass_of s) in
-      let moved : (s : ℕ) → h.pass_of s ≡ other → pass_of s ≡ pass = λ s.
-      chosen (h.pass_of s) other pass (h.pass_of s) in
-      let stays : (s : ℕ) → h.pass_of s ≢ other → pass_of s ≡ h.pass_of s = λ s.
-      unchosen (h.pass_of s) other pass (h.pass_of s) in
-      let apart : (j : ℕ) → j ≢ other → (es : List PassEntry) → AllByRecursion (FitsEntry h.pass_of h.count all j) es
-      → AllByRecursion (FitsEntry pass_of h.count all j) es
-      = λ j no es. each_map (FitsEntry h.pass_of h.count all j) (FitsEntry pass_of h.count all j) es
+      let all : List Ticket = rule.taken ++ items in
+      let mine = rule.fits pass view at in
+      let theirs = rule.fits other u was in
+      let pass_of : ℕ → ℕ = λ s. cond (rule.pass_of s == other) pass (rule.pass_of s) in
+      let moved : (s : ℕ) → rule.pass_of s ≡ other → pass_of s ≡ pass = λ s.
+      chosen (rule.pass_of s) other pass (rule.pass_of s) in
+      let stays : (s : ℕ) → rule.pass_of s ≢ other → pass_of s ≡ rule.pass_of s = λ s.
+      unchosen (rule.pass_of s) other pass (rule.pass_of s) in
+      let apart : (j : ℕ) → j ≢ other → (es : List PassEntry)
+      → AllByRecursion (FitsEntry rule.pass_of rule.count all j) es
+      → AllByRecursion (FitsEntry pass_of rule.count all j) es
+      = λ j no es. each_map (FitsEntry rule.pass_of rule.count all j) (FitsEntry pass_of rule.count all j) es
       (λ e f. (f.0, stays e.number (λ same. no (sym f.1 ∙ same)) ∙ f.1, f.2)) in
-      let Now : ℕ → View → Type 0 = λ j y. j ≢ other → Fits pass_of h.reader h.count h.taken items j y in
+      let Now : ℕ → View → Type 0 = λ j y. j ≢ other → Fits pass_of rule.reader rule.count rule.taken items j y in
       let now : AllAt Now vs = all_set views pass both Now
       (λ no. (
-        each_append (FitsEntry pass_of h.count all pass) v.entries u.entries (apart pass no v.entries mine.0)
-            (each_map (FitsEntry h.pass_of h.count all other) (FitsEntry pass_of h.count all pass) u.entries
+        each_append (FitsEntry pass_of rule.count all pass) view.entries u.entries (apart pass no view.entries mine.0)
+            (each_map (FitsEntry rule.pass_of rule.count all other) (FitsEntry pass_of rule.count all pass) u.entries
             (λ e f. (f.0, moved e.number f.1, f.2)) theirs.0),
         mine.1,
         (mine.2.0, theirs.2.1),
       ))
-      (λ j y _ e no. let f = h.fits j y e in (apart j no y.entries f.0, f.1, f.2)) in
+      (λ j y _ e no. let f = rule.fits j y e in (apart j no y.entries f.0, f.1, f.2)) in
       let here : get_elem? (set vs other empty_view) pass ≡ some both =
-      set_else vs other pass empty_view (λ e. two (sym e)) ∙ put_here views pass v both at in
+      set_else vs other pass empty_view (λ e. two (sym e)) ∙ put_here views pass view both at in
       record {
         pass_of = pass_of;
-        reader = h.reader;
-        count = h.count;
-        taken = h.taken;
-        fits = all_set vs other empty_view (Fits pass_of h.reader h.count h.taken items)
+        reader = rule.reader;
+        count = rule.count;
+        taken = rule.taken;
+        fits = all_set vs other empty_view (Fits pass_of rule.reader rule.count rule.taken items)
             (tt, tt, ((all, refl), tt)) (λ j y no e. now j y e no);
-        stands = λ s below. let c = h.stands s below in ⊎_elim
-            (λ (is : h.pass_of s ≡ other). subst (λ (p : ℕ). InView (set vs other empty_view) p s) (sym (moved s is)) (
+        stands = λ s below. let c = rule.stands s below in ⊎_elim
+            (λ (is : rule.pass_of s ≡ other). subst (λ (p : ℕ). InView (set vs other empty_view) p s) (sym (moved s is)) (
               both,
               here,
-              stands_right s v.entries u.entries
+              stands_right s view.entries u.entries
                   (subst (λ (y : View). Stands s y.entries) (some-injective c.0 u
                   (sym c.1 ∙ ap (get_elem? views) is ∙ was)) c.2),
             ))
-            (λ (no : h.pass_of s ≢ other). subst (λ (p : ℕ). InView (set vs other empty_view) p s) (sym (stays s no))
-            (let d = in_set views pass both v at (λ t x. stands_left t v.entries u.entries x) (h.pass_of s) s c in
-            (d.0, set_else vs other (h.pass_of s) empty_view no ∙ d.1, d.2)))
-            (cases_eq (h.pass_of s) other);
-        no_other_sender = h.no_other_sender;
+            (λ (no : rule.pass_of s ≢ other). subst (λ (p : ℕ). InView (set vs other empty_view) p s) (sym (stays s no))
+            (let d = in_set views pass both view at (λ t x. stands_left t view.entries u.entries x) (rule.pass_of s) s c in
+            (d.0, set_else vs other (rule.pass_of s) empty_view no ∙ d.1, d.2)))
+            (cases_eq (rule.pass_of s) other);
+        no_other_sender = rule.no_other_sender;
       }
 
 -- ---- the reader's pass, which has the mark
 
-pub takes : (pass : ℕ) (v : View) {mark : IntakeMark} → v.mark ≡ Some mark
-    → Pops QueueInvariant pass v (λ x w. (w ≡ with_taken v x) × (x.sender < next_of v.mark))
-takes pass v is x items views h at =
-    let mine = h.fits pass v at in
-    let known = subst (FitsMark h.reader h.count h.taken pass) is mine.1 in
-    let more = h.taken ++ x ∷ [] in
-    let same : more ++ items ≡ h.taken ++ (x ∷ items) = append_assoc h.taken (x ∷ []) items in
-    let still = λ (j : ℕ) (u : View) (f : Fits h.pass_of h.reader h.count h.taken (x ∷ items) j u).
-    subst (λ all. AllByRecursion (FitsEntry h.pass_of h.count all j) u.entries
+pub takes : (pass : ℕ) (view : View) {mark : IntakeMark} → view.mark ≡ Some mark
+    → Pops QueueInvariant pass view (λ ticket w. (w ≡ with_taken view ticket) × (ticket.sender < next_of view.mark))
+takes pass view is ticket items views rule at =
+    let mine = rule.fits pass view at in
+    let known = subst (FitsMark rule.reader rule.count rule.taken pass) is mine.1 in
+    let more = rule.taken ++ ticket ∷ [] in
+    let same : more ++ items ≡ rule.taken ++ (ticket ∷ items) = append_assoc rule.taken (ticket ∷ []) items in
+    let still = λ (j : ℕ) (u : View) (f : Fits rule.pass_of rule.reader rule.count rule.taken (ticket ∷ items) j u).
+    subst (λ all. AllByRecursion (FitsEntry rule.pass_of rule.count all j) u.entries
     × AllBegin all (u.history ∷ u.learned)) (sym same) (f.0, f.2) in (
-      with_taken v x,
-      changed h pass at items more (with_taken v x) (
-        (still pass v mine).0,
-        subst (λ m. FitsMark h.reader h.count more pass (taken_more x m)) (sym is)
-            (known.0, ap (λ got. got ++ x ∷ []) known.1, known.2),
-        (still pass v mine).1,
+      with_taken view ticket,
+      changed rule pass at items more (with_taken view ticket) (
+        (still pass view mine).0,
+        subst (λ m. FitsMark rule.reader rule.count more pass (taken_more ticket m)) (sym is)
+            (known.0, ap (λ got. got ++ ticket ∷ []) known.1, known.2),
+        (still pass view mine).1,
       )
           (λ j u other f. (
             (still j u f).0,
-            mark_elsewhere h j h.count more u.mark (λ e. other (e ∙ sym known.0)) f.1,
+            mark_elsewhere rule j rule.count more u.mark (λ e. other (e ∙ sym known.0)) f.1,
             (still j u f).1,
           ))
-          (λ s stood. stood) (λ s above. ap (items_from s) same ∙ h.no_other_sender s above),
+          (λ s stood. stood) (λ s above. ap (items_from s) same ∙ rule.no_other_sender s above),
       (
         refl,
-        subst (λ m. x.sender < next_of m) (sym is)
-            (omega (arith, known.2, given_out h.taken items x h.count h.no_other_sender)),
+        subst (λ m. ticket.sender < next_of m) (sym is)
+            (omega (arith, known.2, given_out rule.taken items ticket rule.count rule.no_other_sender)),
       ),
     )
 
-pub forks : (pass : ℕ) (v : View) {mark : IntakeMark} → v.mark ≡ Some mark
-    → Forks QueueInvariant pass v (view_counting_on v) (newcomer v)
-forks pass v is items views h at =
-    let l = view_counting_on v in
-    let n = next_of v.mark in
+pub forks : (pass : ℕ) (view : View) {mark : IntakeMark} → view.mark ≡ Some mark
+    → Forks QueueInvariant pass view (view_counting_on view) (newcomer view)
+forks pass view is items views rule at =
+    let l = view_counting_on view in
+    let n = next_of view.mark in
     let vs : List View = set views pass l in
-    let all : List Ticket = h.taken ++ items in
-    let mine = h.fits pass v at in
-    let known = subst (FitsMark h.reader h.count h.taken pass) is mine.1 in
-    let next : n ≡ h.count = ap next_of is ∙ known.2 in
-    let pass_of : ℕ → ℕ = λ s. cond (s == n) (length vs) (h.pass_of s) in
+    let all : List Ticket = rule.taken ++ items in
+    let mine = rule.fits pass view at in
+    let known = subst (FitsMark rule.reader rule.count rule.taken pass) is mine.1 in
+    let next : n ≡ rule.count = ap next_of is ∙ known.2 in
+    let pass_of : ℕ → ℕ = λ s. cond (s == n) (length vs) (rule.pass_of s) in
     let still = λ (j : ℕ) (es : List PassEntry).
-    each_map (FitsEntry h.pass_of h.count all j) (FitsEntry pass_of (h.count + 1) all j) es (λ e f. (
+    each_map (FitsEntry rule.pass_of rule.count all j) (FitsEntry pass_of (rule.count + 1) all j) es (λ e f. (
       omega (arith, f.0),
-      unchosen e.number n (length vs) (h.pass_of e.number) (λ same. (let a = f.0 in absurd (omega arith))) ∙ f.1,
+      unchosen e.number n (length vs) (rule.pass_of e.number) (λ same. (let a = f.0 in absurd (omega arith))) ∙ f.1,
       f.2,
     )) in
-    let Now : ℕ → View → Type 0 = Fits pass_of h.reader (h.count + 1) h.taken items in
+    let Now : ℕ → View → Type 0 = Fits pass_of rule.reader (rule.count + 1) rule.taken items in
     record {
       pass_of = pass_of;
-      reader = h.reader;
-      count = h.count + 1;
-      taken = h.taken;
-      fits = all_longer Now vs (newcomer v)
+      reader = rule.reader;
+      count = rule.count + 1;
+      taken = rule.taken;
+      fits = all_longer Now vs (newcomer view)
           (all_set views pass l Now (
-            still pass v.entries mine.0,
-            subst (λ m. FitsMark h.reader (h.count + 1) h.taken pass (one_number_more m)) (sym is)
+            still pass view.entries mine.0,
+            subst (λ m. FitsMark rule.reader (rule.count + 1) rule.taken pass (one_number_more m)) (sym is)
                 (known.0, known.1, ap (λ c. c + 1) known.2),
             mine.2,
           )
-          (λ j u other e. let f = h.fits j u e in (
+          (λ j u other e. let f = rule.fits j u e in (
             still j u.entries f.0,
-            mark_elsewhere h j (h.count + 1) h.taken u.mark (λ e. other (e ∙ sym known.0)) f.1,
+            mark_elsewhere rule j (rule.count + 1) rule.taken u.mark (λ e. other (e ∙ sym known.0)) f.1,
             f.2,
           ))) (
             (
               (
                 omega (arith, next),
-                chosen n n (length vs) (h.pass_of n) refl,
-                h.no_other_sender n (omega (arith, next)),
+                chosen n n (length vs) (rule.pass_of n) refl,
+                rule.no_other_sender n (omega (arith, next)),
               ),
               tt,
             ),
@@ -423,14 +426,14 @@ forks pass v is items views h at =
           );
       stands = λ s below. ⊎_elim
           (λ (is : s ≡ n). (
-            newcomer v,
-            subst (λ (p : ℕ). get_elem? (vs ++ newcomer v ∷ []) p ≡ some (newcomer v))
-                (sym (chosen s n (length vs) (h.pass_of s) is)) (at_last vs (newcomer v) (length vs) refl),
+            newcomer view,
+            subst (λ (p : ℕ). get_elem? (vs ++ newcomer view ∷ []) p ≡ some (newcomer view))
+                (sym (chosen s n (length vs) (rule.pass_of s) is)) (at_last vs (newcomer view) (length vs) refl),
             inl (sym is),
           ))
-          (λ (no : s ≢ n). subst (λ (p : ℕ). InView (vs ++ newcomer v ∷ []) p s)
-          (sym (unchosen s n (length vs) (h.pass_of s) no)) (in_longer vs (newcomer v) (h.pass_of s) s
-          (in_set views pass l v at (λ t stood. stood) (h.pass_of s) s (h.stands s (omega (arith, next))))))
+          (λ (no : s ≢ n). subst (λ (p : ℕ). InView (vs ++ newcomer view ∷ []) p s)
+          (sym (unchosen s n (length vs) (rule.pass_of s) no)) (in_longer vs (newcomer view) (rule.pass_of s) s
+          (in_set views pass l view at (λ t stood. stood) (rule.pass_of s) s (rule.stands s (omega (arith, next))))))
           (cases_eq s n);
-      no_other_sender = λ s above. h.no_other_sender s (omega arith);
+      no_other_sender = λ s above. rule.no_other_sender s (omega arith);
     }

@@ -1,7 +1,7 @@
 -- The words that these proofs speak in.
 pub use Rattle.std.proofs.lemmas.Bool.{eq-eqb, ne_eqb, cases_eq}
 pub use Rattle.std.proofs.lemmas.Bool.Decides.{nat_tests}
-pub use Rattle.std.proofs.lemmas.List.{map-append, take_more, get_or-set_same}
+pub use Rattle.std.proofs.lemmas.List.{map-append, get_or-set_same}
 pub use Rattle.std.proofs.lemmas.List.Elements.{filter-append, All-push, All-nil, All-from_get_or}
 pub use Rattle.std.specs.List.{list_any, AllByRecursion}
 pub use Rattle.std.specs.Prelude.{◌==◌, ◌||◌, ◌&&◌, not, filter, if◌then◌else◌, IsOk}

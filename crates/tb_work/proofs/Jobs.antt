@@ -13,11 +13,11 @@ is_last_linked-chunk is_linked f (first ∷ next ∷ chunks) chunk h =
     let place : length (first ∷ next ∷ chunks) - 1 ≡ suc (length (next ∷ chunks) - 1) = omega arith in
     is_last_linked-chunk is_linked f (next ∷ chunks) chunk (ap (slice_get (first ∷ next ∷ chunks)) (sym place) ∙ h)
 
-chosen : (first second : Bool) (x y z : Events) (p q : Bool) → p ≡ is_open x → q ≡ is_open y → false ≡ is_open z →
+chosen : (first second : Bool) (x y z : Events) {p q : Bool} → p ≡ is_open x → q ≡ is_open y → false ≡ is_open z →
     (if first then p else if second then q else false) ≡ is_open (if first then x else if second then y else z)
-chosen true second x y z p q e f g = e
-chosen false true x y z p q e f g = f
-chosen false false x y z p q e f g = g
+chosen true second x y z e f g = e
+chosen false true x y z e f g = f
+chosen false false x y z e f g = g
 
 -- the last chunk of a packet's data decides whether it is open
 pub is_open-chunk : (operation : ℕ) (bytes chunk : List ℕ) (chunks : List (List ℕ)) → chunks ≡ chunks_of 128 bytes
@@ -27,6 +27,6 @@ is_open-chunk operation bytes chunk chunks is last =
     let at : slice_get (chunks_of 128 bytes) (length (chunks_of 128 bytes) - 1)
     ≡ Some chunk = ap (λ (rs : List (List ℕ)). slice_get rs (length rs - 1)) (sym is) ∙ sym last in
     chosen (operation == 129) (operation == 130) (Accounts (accounts_of bytes)) (Transfers (transfers_of bytes))
-    (Ids (ids_of bytes)) _ _
+    (Ids (ids_of bytes))
     (sym (is_last_linked-chunk is_linked_account account_of (chunks_of 128 bytes) chunk at))
     (sym (is_last_linked-chunk is_linked_transfer transfer_of (chunks_of 128 bytes) chunk at)) refl

@@ -26,6 +26,6 @@ pub loop-account-preserved : goal.loop-account-preserved
 loop-account-preserved c =
     let had = c.loop-account.invariant in
     let put = c.put_account.ensures in
-    let more = written_more account_bytes c.args.accounts.now c.loop-account.account-index none c.loop-account.offset 128
-    c.args.out.now c.loop-account.out c.put_account.new.out c.loop-account-test.true had.1 had.2 put.put put.size in
+    let more = written_more account_bytes c.args.accounts.now c.loop-account.account-index none
+    c.loop-account-test.true c.args.out.now had.1 had.2 put.put put.size in
     (omega (arith, had.0), more.0, more.1, put.same ∙ had.3)

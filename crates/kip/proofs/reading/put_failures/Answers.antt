@@ -12,6 +12,6 @@ pub loop-failure-preserved : goal.loop-failure-preserved
 loop-failure-preserved c =
     let had = c.loop-failure.invariant in
     let put = c.put_failure.ensures in
-    let more = written_more failure_bytes c.args.failures.now c.loop-failure.failure-index none c.loop-failure.offset 8
-    c.args.out.now c.loop-failure.out c.put_failure.new.out c.loop-failure-test.true had.1 had.2 put.put put.size in
+    let more = written_more failure_bytes c.args.failures.now c.loop-failure.failure-index none
+    c.loop-failure-test.true c.args.out.now had.1 had.2 put.put put.size in
     (omega (arith, had.0), more.0, more.1, put.same ∙ had.3)

@@ -1,38 +1,24 @@
-use Rattle.std.proofs.Common.{rules, ◌≡◌, ℕ, ◌≤◌, le-ltb, None, refl}
-use Rattle.tb_program.proofs.Words.{batch_max, capacity_max, submitters_max, queue_refusal, limit_of, capacity_of, credit_of, submitters_of}
+use Rattle.std.proofs.Common.{rules, le-ltb}
+use Rattle.tb_program.proofs.Words.{batch_max, capacity_max, submitters_max, limit_of, capacity_of, credit_of, submitters_of}
 use Rattle.tb_program.proofs.Noting.{are_fresh, have_credit}
 use Rattle.tb_program.proofs.run.open_for.Goals as goal
-
-no_refusal : (limit capacity credit submitters : ℕ) → 1 ≤ limit → limit ≤ batch_max → 1 ≤ capacity
-    → capacity ≤ capacity_max →
-    1 ≤ credit → credit ≤ capacity_max → 1 ≤ submitters → submitters ≤ submitters_max
-    → queue_refusal limit capacity credit submitters ≡ None
-no_refusal limit capacity credit submitters a b c d e f g h =
-    rw (
-      le-ltb limit 1 a,
-      le-ltb batch_max limit b,
-      le-ltb capacity 1 c,
-      le-ltb capacity_max capacity d,
-      le-ltb
-          credit 1 e,
-      le-ltb capacity_max credit f,
-      le-ltb submitters 1 g,
-      le-ltb submitters_max submitters h,
-    ) refl
 
 pub unreachable-requires : goal.unreachable-requires
 unreachable-requires c =
     let settings = c.args.settings.now in
-    let none = no_refusal (limit_of settings) (capacity_of settings) (credit_of settings)
-    (submitters_of settings) c.requires.limit_low c.requires.limit_high
-    c.requires.capacity_low c.requires.capacity_high c.requires.credit_low c.requires.credit_high
-    c.requires.submitters_low c.requires.submitters_high in
     c.in_default.not-NoMemory (rw (
       c.limit.ensures,
       c.capacity.ensures,
       c.credit.ensures,
       c.submitters.ensures,
-      none,
+      le-ltb (limit_of settings) 1 c.requires.limit_low,
+      le-ltb batch_max (limit_of settings) c.requires.limit_high,
+      le-ltb (capacity_of settings) 1 c.requires.capacity_low,
+      le-ltb capacity_max (capacity_of settings) c.requires.capacity_high,
+      le-ltb (credit_of settings) 1 c.requires.credit_low,
+      le-ltb capacity_max (credit_of settings) c.requires.credit_high,
+      le-ltb (submitters_of settings) 1 c.requires.submitters_low,
+      le-ltb submitters_max (submitters_of settings) c.requires.submitters_high,
     ) at c.in-Err.ensures.refusal)
 
 pub returns-in-Ok-clause-fresh : goal.returns-in-Ok-clause-fresh

@@ -4,7 +4,7 @@ use Rattle.std.specs.declared.alloc.Global.{Global}
 use Rattle.tb_layout.specs.declared.account.Account.{Account}
 use Rattle.tb_layout.specs.declared.failure.Failure.{Failure}
 use Rattle.tb_work.specs.declared.stub.Stub.{Stub}
-use Rattle.tb_batch.proofs.Groups.{batch_more, given}
+use Rattle.tb_batch.proofs.Groups.{HasOneMore, batch_more, given}
 use Rattle.tb_batch.proofs.group.Group.join.Goals as goal
 
 -- src/group.rt:82:5
@@ -33,9 +33,12 @@ invariant_of-self-2 c =
         given c.reserve_for.result _ succeeded room.room_for_accounts lookup,
       );
     } in
-    rw c.stub.ensures.value (batch_more c.self.inside.parts c.append.new.self c.self.inside.shares
-    c.self.inside.events c.args.limit c.args.job c.self.invariant c.requires.limit
-    (ap (λ js. is_taken c.args.limit js c.args.job) c.self.view_is ∙ c.requires.joins)
-    put.admitted (put.operation ∙ room.operation) (put.jobs ∙ ap (λ js. js ++ c.args.job ∷ []) room.jobs.0)
-    (put.stubs ∙ ap (λ ss. ss ++ stub_of c.args.job ∷ []) room.jobs.1)
-    (put.body ∙ ap (λ bs. bs ++ c.args.job.packet.bytes) room.jobs.2) has_room)
+    let more : HasOneMore c.self.inside.parts c.append.new.self c.args.job = record {
+      operation = put.operation ∙ room.operation;
+      jobs = put.jobs ∙ ap (λ js. js ++ c.args.job ∷ []) room.jobs.0;
+      stubs = put.stubs ∙ ap (λ ss. ss ++ stub_of c.args.job ∷ []) room.jobs.1;
+      body = put.body ∙ ap (λ bs. bs ++ c.args.job.packet.bytes) room.jobs.2;
+    } in
+    rw c.stub.ensures.value (batch_more c.self.inside.parts c.append.new.self c.args.limit more c.self.invariant
+    c.requires.limit (ap (λ js. is_taken c.args.limit js c.args.job) c.self.view_is ∙ c.requires.joins)
+    put.admitted has_room)

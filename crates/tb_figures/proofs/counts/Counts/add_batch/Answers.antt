@@ -3,8 +3,12 @@ use Rattle.tb_figures.proofs.counts.Counts.add_batch.Goals as goal
 
 pub loop-stub-preserved : goal.loop-stub-preserved
 loop-stub-preserved c = (
-  split_more c.args.stubs.now c.loop-stub.stub-index _ _ c.loop-stub.self _ c.loop-stub-test.true
-      c.loop-stub.invariant.0 c.loop-stub.invariant.1 c.add_stub.ensures.others c.add_stub.ensures.events
-      c.add_stub.ensures.own c.add_stub.ensures.unknown,
+  split_more c.args.stubs.now c.loop-stub.stub-index _ c.loop-stub-test.true c.loop-stub.invariant.0
+      c.loop-stub.invariant.1 (record {
+        others = c.add_stub.ensures.others;
+        events = c.add_stub.ensures.events;
+        own = c.add_stub.ensures.own;
+        unknown = c.add_stub.ensures.unknown;
+      }),
   c.add_stub.ensures.long,
 )

@@ -1,5 +1,6 @@
-use Rattle.std.proofs.Common.{refl, subst, sym, ◌++◌, List}
+use Rattle.std.proofs.Common.{subst, sym, ◌++◌, List}
 use Rattle.tb_figures.proofs.Words.{Input, Parcel, AreCounts, HasPlaces, groups_of, inputs_of, IsTally, Counts}
+use Rattle.tb_core.specs.declared.parcel.Parcel.TheVariants.{Pulse}
 use Rattle.tb_figures.proofs.CountLemmas.{counts_batch, counts_pulse}
 use Rattle.tb_figures.proofs.counts.Counts.with_parcel.Goals as goal
 
@@ -18,5 +19,6 @@ returns-in-Batch c =
 pub returns-in-Pulse : goal.returns-in-Pulse
 returns-in-Pulse c =
     subst (Counted c.args.self.now _) (sym c.in-Pulse.is)
-    (λ groups are few. counts_pulse groups c.in-Pulse.field-0 c.args.self.now _ are few refl c.saturating_add.ensures
-    refl refl refl)
+    (λ groups are few. subst (λ n. AreCounts (groups ++ groups_of (Pulse c.in-Pulse.field-0))
+    (record c.args.self.now { pulses = n })) (sym c.saturating_add.ensures)
+    (counts_pulse groups c.in-Pulse.field-0 c.args.self.now are few))

@@ -4,6 +4,6 @@ use Rattle.tb_program.proofs.list.listing.put_listing.Goals as goal
 pub returns : goal.returns
 returns c clock plan lines_are is =
     on_ok c.put_state.result
-    (whole clock plan _ _ _ _ _ _ _ _ lines_are is c.machine.ensures.replayed c.deref.ensures.value
+    (whole plan _ lines_are is c.machine.ensures.replayed c.deref.ensures.value
     c.in_ok-put_lines.ensures)
     c.put_state.ensures

@@ -27,6 +27,5 @@ loop-driver-preserved c =
           (ap (λ es. slice_get es (suc k)) ends ∙ ended_is);
       done = λ others. before.done (subst AreAllDone (sym drivers)
           (first_done c.in-Some.driver c.next.new.self.rest.items c.in_ok-put_packets.ensures.done others));
-      text = first_text _ _ c.loop-driver.submitter c.in-Some.driver _ _ c.in-Some-next.ended _ _ drivers ends
-          c.in_ok-put_packets.ensures.text ∙ before.text;
+      text = first_text _ c.loop-driver.submitter drivers ends c.in_ok-put_packets.ensures.text ∙ before.text;
     }

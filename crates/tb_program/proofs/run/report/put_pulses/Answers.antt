@@ -23,6 +23,6 @@ loop-entry-preserved c =
         length-append (group_of c.entry-item.result)
             (flat_map group_of rest),
       );
-      text = first_pulses _ _ c.loop-entry.place c.in_ok-place.place c.entry-item.result rest _ first next_place
+      text = first_pulses _ c.loop-entry.place c.entry-item.result first next_place
           c.in_ok-place.ensures.text ∙ before.text;
     }

@@ -1,5 +1,5 @@
 use Rattle.std.proofs.Common.{◌∙◌, ◌∷◌, ◌++◌, [], Vec, ap, sym, subst}
-use Rattle.tb_program.proofs.Words.{Global, into_iter_items, share_of, results_of, IsHandedIn, PacketResult}
+use Rattle.tb_program.proofs.Words.{Global, into_iter_items, share_of, IsHandedIn, PacketResult}
 use Rattle.tb_program.proofs.HandedPackets.{handed_longer}
 use Rattle.tb_program.proofs.run.driver.ScriptDriverDriver.receive.Goals as goal
 
@@ -11,8 +11,7 @@ returns-clause-seen c = λ limit queued read fewer seen complete.
     let more = c.args.reply ∷ [] in (
       subst (λ (results : Vec PacketResult Global). IsHandedIn limit (read ++ more) (share_of driver)
           (into_iter_items driver.packets) results.items queued) (sym c.keep.ensures.results)
-          (handed_longer limit read more (share_of driver) (into_iter_items driver.packets)
-          (results_of driver) queued before.0),
+          (handed_longer more before.0),
       kept.1 ∙ ap (λ replies. replies ++ more) before.1,
     )
 
@@ -25,6 +24,6 @@ returns-clause-asked c = λ packet limit queued read fewer asked complete.
     let rest = packet ∷ into_iter_items driver.packets in (
       subst (λ (results : Vec PacketResult Global). IsHandedIn limit (read ++ more) (share_of driver) rest results.items queued)
           (sym c.keep.ensures.results)
-          (handed_longer limit read more (share_of driver) rest (results_of driver) queued before.0),
+          (handed_longer more before.0),
       kept.1 ∙ ap (λ replies. replies ++ more) before.1,
     )

@@ -1,5 +1,5 @@
 use Rattle.std.proofs.Common.{◌≡◌, ◌∙◌, ◌∷◌, ◌++◌, [], Vec, refl, ap, sym, subst}
-use Rattle.tb_program.proofs.Words.{Global, into_iter_items, ReplyValue, IsFinalRefusal, share_of, results_of, IsHandedIn}
+use Rattle.tb_program.proofs.Words.{Global, into_iter_items, ReplyValue, IsFinalRefusal, share_of, IsHandedIn}
 use Rattle.tb_program.proofs.HandedPackets.{one_queued, one_refused}
 use Rattle.tb_program.proofs.run.driver.ScriptDriverDriver.submitted.Goals as goal
 
@@ -11,7 +11,7 @@ returns-in-Ok-clause-queued c = λ job limit queued read asked is none complete.
     let results = c.push.ensures.results complete in
     let before = asked results.0 in (
       subst (λ all. IsHandedIn limit read share rest all (queued ++ job ∷ [])) (sym results.1)
-          (one_queued limit read share rest job.packet (results_of driver) queued job refl none before.0),
+          (one_queued before.0 job refl none),
       ap (λ (replies : Vec ReplyValue Global). replies.items) c.push.ensures.replies ∙ before.1,
     )
 
@@ -24,7 +24,6 @@ returns-in-Err-clause-refused c = λ packet refusal limit queued read asked is r
     let before = asked results.0 in
     let same : refusal ≡ c.in-Err.refusal = cc in (
       subst (λ all. IsHandedIn limit read share rest all queued) (sym results.1)
-          (one_refused limit read share rest packet (results_of driver) c.in-Err.refusal queued
-          (subst (IsFinalRefusal limit read packet) same right) before.0),
+          (one_refused before.0 c.in-Err.refusal (subst (IsFinalRefusal limit read packet) same right)),
       ap (λ (replies : Vec ReplyValue Global). replies.items) c.push-in-Err.ensures.replies ∙ before.1,
     )

@@ -10,7 +10,7 @@ returns-in_ok-push-clause-packets c = λ items dealt.
     let here : c.args.submitter ≡ 0 + k = omega (arith, its) in
     let within : k < length shares = search rules in
     let is : c.push.new.self.items ≡ (get_or shares k c.push.new.self).items ++ c.args.packet ∷ [] = search rules in
-    dealt_to 0 k c.args.submitter shares items c.args.packet c.push.new.self here within is dealt
+    dealt_to items c.args.submitter c.args.packet c.push.new.self 0 k shares here within is dealt
 
 pub returns-in_default-clause-packets : goal.returns-in_default-clause-packets
 returns-in_default-clause-packets c = λ items dealt.
