@@ -157,9 +157,9 @@ same_room slots credit w (ReplyPop own) (ReplyPop other) same = refl
 same_room slots credit w event other same = cc
 
 pub fair_lists_rest : FairListsRest
-fair_lists_rest slots credit n w rounds some_slots some_credit few all enough =
+fair_lists_rest slots credit n w rounds some_slots some_credit =
     rounds_rest (has_room slots credit) (same_room slots credit)
-    (λ world. moves_within slots credit some_slots some_credit world) n w rounds few all enough
+    (λ world. moves_within slots credit some_slots some_credit world) n w rounds
 
 -- ---- there are rounds
 
