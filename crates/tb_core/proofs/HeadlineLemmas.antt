@@ -97,11 +97,11 @@ module _ (run : Run) (submitter : ℕ) (committed : IsPrefix (committed_in run) 
   true-behind number (item.Close ∷ items) below from = true-behind number items below from
 
   -- a packet ahead of the Close has the answer at its place, or isn't committed
-  own-answer : (place number : ℕ) (before : List Input) (job : Numbered) (others : List Input)
+  own-answer : {place number : ℕ} (before : List Input) (job : Numbered) (others : List Input)
       → before ++ input_of job ∷ others ≡ ahead_in run → place ≡ length run.before + length before → AreBelow submitter number before
       → job.submitter ≡ submitter → job.number ≡ number →
       IsTrueOf run job (outcome_at run.ledger.opening (inputs run.ledger) (Ahead place))
-  own-answer place number before job others is at below own numbered = by (slice_get (inputs run.ledger) place) refl
+  own-answer {place} {number} before job others is at below own numbered = by (slice_get (inputs run.ledger) place) refl
     where
       outcome_of_found : Option Input → Outcome
       outcome_of_found found =
@@ -150,7 +150,7 @@ module _ (run : Run) (submitter : ℕ) (committed : IsPrefix (committed_in run) 
           → AllByRecursion IsTrueReply (due_from (Ahead (k + 1)) items))
           → AllByRecursion IsTrueReply (due_from (Ahead k) (item.Packet job ∷ items))
       by true is_own (own, first, from) others = rw is_own (
-        own-answer k number before job (ahead items) is at below own first,
+        own-answer before job (ahead items) is at below own first,
         others (number + 1) (below-append submitter (number + 1) before (input_of job)
             (below-longer submitter number (number + 1) before (omega arith) below) (λ same. omega (arith, first))) from,
       )

@@ -67,52 +67,52 @@ module _ (P : Parcel → Type 0) (pulses : (moment : ℕ) → P (Pulse moment))
   alone : (held : List Numbered) → IsSealed held → AllByRecursion P (group_as_batch held)
   alone held one = subst (AllByRecursion P) (append-nil (group_as_batch held)) (sealed_with held [] one tt)
 
-  packet : (refused joins : Bool) (limit submitters : ℕ) (held : List Numbered) (closed stopped : Bool)
-      (ended : List Bool) (sender : ℕ) (job : Numbered) → IsSealed held → ((closed || stopped) ≡ true → held ≡ [])
-      → is_taken limit held job ≡ joins →
-      IsStep P refused (front_of limit submitters held closed stopped ended) sender (item.Packet job)
-      (step_of_packet refused (front_of limit submitters held closed stopped ended) job)
-  packet refused joins limit submitters held true stopped ended sender job one clear is =
-      record {
-        accounted = none_held held (Returned job Shutdown) (clear refl);
-        next = refl;
-        goes = Stays refl;
-        clear = clear;
-        parcels = (returns job Shutdown, tt);
-      }
-  packet refused joins limit submitters held false true ended sender job one clear is =
-      record {
-        accounted = none_held held (Returned job Stopped) (clear refl);
-        next = refl;
-        goes = Stays refl;
-        clear = clear;
-        parcels = (returns job Stopped, tt);
-      }
-  packet true joins limit submitters held false false ended sender job one clear is =
-      record {
-        accounted = sealed_before held (Return job Stopped);
-        next = refl;
-        goes = Stops refl refl refl refl job refl;
-        clear = λ e. refl;
-        parcels =
-            sealed_with held (Return job Stopped ∷ []) one (returns job Stopped, tt);
-      }
-  packet false true limit submitters held false false ended sender job one clear is =
-      rw is (record {
-        accounted = map-append Admitted held (job ∷ []);
-        next = refl;
-        goes = Stays refl;
-        clear = λ e. cc;
-        parcels = tt;
-      })
-  packet false false limit submitters held false false ended sender job one clear is =
-      rw is (record {
-        accounted = ap (λ decisions. decisions ++ Admitted job ∷ []) (sealed held);
-        next = refl;
-        goes = Stays refl;
-        clear = λ e. cc;
-        parcels = alone held one;
-      })
+  module _ (limit submitters : ℕ) (ended : List Bool) (sender : ℕ) (job : Numbered) where
+    packet : (refused joins : Bool) (held : List Numbered) (closed stopped : Bool) → IsSealed held → ((closed || stopped) ≡ true → held ≡ [])
+        → is_taken limit held job ≡ joins →
+        IsStep P refused (front_of limit submitters held closed stopped ended) sender (item.Packet job)
+        (step_of_packet refused (front_of limit submitters held closed stopped ended) job)
+    packet refused joins held true stopped one clear is =
+        record {
+          accounted = none_held held (Returned job Shutdown) (clear refl);
+          next = refl;
+          goes = Stays refl;
+          clear = clear;
+          parcels = (returns job Shutdown, tt);
+        }
+    packet refused joins held false true one clear is =
+        record {
+          accounted = none_held held (Returned job Stopped) (clear refl);
+          next = refl;
+          goes = Stays refl;
+          clear = clear;
+          parcels = (returns job Stopped, tt);
+        }
+    packet true joins held false false one clear is =
+        record {
+          accounted = sealed_before held (Return job Stopped);
+          next = refl;
+          goes = Stops refl refl refl refl job refl;
+          clear = λ e. refl;
+          parcels =
+              sealed_with held (Return job Stopped ∷ []) one (returns job Stopped, tt);
+        }
+    packet false true held false false one clear is =
+        rw is (record {
+          accounted = map-append Admitted held (job ∷ []);
+          next = refl;
+          goes = Stays refl;
+          clear = λ e. cc;
+          parcels = tt;
+        })
+    packet false false held false false one clear is =
+        rw is (record {
+          accounted = ap (λ decisions. decisions ++ Admitted job ∷ []) (sealed held);
+          next = refl;
+          goes = Stays refl;
+          clear = λ e. cc;
+          parcels = alone held one;
+        })
 
   pulse : (refused b : Bool) (front : FrontState) (sender moment : ℕ) → IsSealed front.held → IsClear front
       → (front.closed || front.stopped) ≡ b → IsStep P refused front sender (item.Pulse moment)
@@ -157,8 +157,8 @@ module _ (P : Parcel → Type 0) (pulses : (moment : ℕ) → P (Pulse moment))
   pub is_step : (refused : Bool) (front : FrontState) (sender : ℕ) (x : Item) → IsSealed front.held → IsClear front
       → IsStep P refused front sender x (take_step refused front sender x)
   is_step refused front sender (item.Packet job) one clear =
-      packet refused (is_taken front.limit front.held job) front.limit front.submitters front.held front.closed
-      front.stopped front.ended sender job one clear refl
+      packet front.limit front.submitters front.ended sender job refused (is_taken front.limit front.held job) front.held
+      front.closed front.stopped one clear refl
   is_step refused front sender (item.Pulse moment) one clear =
       pulse refused (front.closed || front.stopped) front sender moment one clear refl
   is_step refused front sender item.End one clear =

@@ -84,12 +84,12 @@ module _ (room : WorldState → Event → Bool)
       record { few = omega (arith, first.few, others.few); long = others.long ∙ first.long }
 
   -- an event that moves still does after one of another actor that doesn't
-  later : (w : WorldState) (event x : Event) (events : List Event) (b : Bool)
+  later : {b : Bool} (w : WorldState) (event x : Event) (events : List Event)
       → is_some (moved_within room w event) ≡ true → is_same_step event x ≡ b
       → moved_within room w x ≡ None → (b || list_any (is_same_step event) events) ≡ true
       → list_any (is_same_step event) events ≡ true
-  later w event x events false moves is stays among = among
-  later w event x events true moves is stays among =
+  later {b = false} w event x events moves is stays among = among
+  later {b = true} w event x events moves is stays among =
       let moves_too : is_some (moved_within room w x) ≡ true = same_within w event x is moves in
       let stays_too : is_some (moved_within room w x) ≡ false =
       ap (λ (after : Option WorldState). is_some after) stays in
@@ -112,7 +112,7 @@ module _ (room : WorldState → Event → Bool)
       let none = or_parts (is_push x) (list_any is_push events) unpushed in
       first_of_round w x events (moved_within room w x) refl (steps_within w x none.0) none.1
       (λ stays. round_falls w event events none.1 moves
-      (later w event x events (is_same_step event x) moves refl stays among))
+      (later w event x events moves refl stays among))
 
   run_more : (w : WorldState) (xs ys : List Event) → run_within room w (xs ++ ys)
       ≡ run_within room (run_within room w xs) ys
@@ -157,9 +157,9 @@ same_room slots credit w (ReplyPop own) (ReplyPop other) same = refl
 same_room slots credit w event other same = cc
 
 pub fair_lists_rest : FairListsRest
-fair_lists_rest slots credit n w rounds some_slots some_credit few all enough =
+fair_lists_rest slots credit n w rounds some_slots some_credit =
     rounds_rest (has_room slots credit) (same_room slots credit)
-    (λ world. moves_within slots credit some_slots some_credit world) n w rounds few all enough
+    (λ world. moves_within slots credit some_slots some_credit world) n w rounds
 
 -- ---- there are rounds
 

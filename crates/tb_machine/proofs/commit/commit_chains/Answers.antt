@@ -1,4 +1,4 @@
-use Rattle.std.proofs.Common.{rules, refl}
+use Rattle.std.proofs.Common.{rules}
 use Rattle.tb_machine.proofs.FirstChain.{left_more_chunks}
 use Rattle.tb_machine.proofs.commit.commit_chains.Goals as goal
 
