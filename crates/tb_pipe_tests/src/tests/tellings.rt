@@ -110,8 +110,12 @@ fn refusal_by_driver<R: Threads + Wait + Sync>(rt: &R, alloc: Global) -> Option<
         refusal: None,
     };
     drivers.push(asker).ok()?;
-    let submitters = u32::try_from(drivers.len()).ok()?;
-    let opened = open(alloc, 0, 4, 4, 4, submitters).ok()?;
+    if drivers.len() != 1 {
+        return None;
+    }
+    let Ok(opened) = open(alloc, 0, 4, 4, 4, 1) else {
+        return None;
+    };
     let control = ControlPlan::none(alloc).driver();
     let finished = drive_all(rt, alloc, opened, drivers, control).ok()?;
     finished.drivers.first()?.refusal
