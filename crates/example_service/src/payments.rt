@@ -89,9 +89,9 @@ impl TillAccounts {
     }
 }
 
-/// What a reply says.
+/// The result of a packet.
 #[derive(Clone, Copy)]
-pub(crate) enum Told {
+pub(crate) enum PacketResult {
     /// The packet is committed at a place, and all its events succeeded.
     Committed(u64),
     /// The packet is committed at a place, and an event failed with a code.
@@ -102,18 +102,18 @@ pub(crate) enum Told {
     Stopped,
 }
 
-/// Returns what an outcome says.
-pub(crate) fn told_by(outcome: Outcome) -> Told {
+/// Returns the result of a packet with this outcome.
+pub(crate) fn result_of(outcome: Outcome) -> PacketResult {
     let (place, answer) = match outcome {
         Outcome::Committed { place, answer } => (place, answer),
-        Outcome::Shutdown | Outcome::Stopped => return Told::Stopped,
+        Outcome::Shutdown | Outcome::Stopped => return PacketResult::Stopped,
     };
     match answer {
         Answer::Failures(failures) => match failures.as_slice().first() {
-            None => Told::Committed(place),
-            Some(failure) => Told::Failed(place, failure.code),
+            None => PacketResult::Committed(place),
+            Some(failure) => PacketResult::Failed(place, failure.code),
         },
-        Answer::Accounts(accounts) => Told::Balance(
+        Answer::Accounts(accounts) => PacketResult::Balance(
             place,
             accounts.as_slice().first().map_or(0, balance),
         ),

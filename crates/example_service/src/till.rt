@@ -1,6 +1,6 @@
 //! A till: the driver of one submitter.
 
-use crate::payments::{TillAccounts, Told, is_transient, told_by};
+use crate::payments::{PacketResult, TillAccounts, is_transient, result_of};
 use std::alloc::Global;
 use std::sync::Wait;
 use std::time::{Duration, Instant};
@@ -179,22 +179,22 @@ impl Till {
         }
     }
 
-    /// Prints what a reply says.
-    fn print(&self, packet: u64, told: Told) -> io::Result<()> {
+    /// Prints the result of a packet.
+    fn print(&self, packet: u64, result: PacketResult) -> io::Result<()> {
         let till = self.number;
-        match told {
-            Told::Committed(place) => {
+        match result {
+            PacketResult::Committed(place) => {
                 println!(self.rt; "till {till}: packet {packet} is committed at place {place}")
             }
-            Told::Failed(place, code) => {
+            PacketResult::Failed(place, code) => {
                 println!(self.rt;
                     "till {till}: packet {packet} failed at place {place} with {code}"
                 )
             }
-            Told::Balance(place, balance) => {
+            PacketResult::Balance(place, balance) => {
                 println!(self.rt; "till {till}: packet {packet} found {balance} at place {place}")
             }
-            Told::Stopped => println!(self.rt; "till {till}: packet {packet} is stopped"),
+            PacketResult::Stopped => println!(self.rt; "till {till}: packet {packet} is stopped"),
         }
     }
 }
@@ -234,15 +234,15 @@ impl Driver for Till {
         } = reply;
         let tries = packet.user;
         drop(packet);
-        let told = told_by(outcome);
+        let result = result_of(outcome);
         let number = self.answered;
         self.answered = number.saturating_add(1);
-        match told {
-            Told::Failed(_, code) if is_transient(code) => self.retry(tries),
-            Told::Stopped => self.stopped = true,
+        match result {
+            PacketResult::Failed(_, code) if is_transient(code) => self.retry(tries),
+            PacketResult::Stopped => self.stopped = true,
             _ => {}
         }
-        if self.print(number, told).is_err() {
+        if self.print(number, result).is_err() {
             self.give_up();
         }
     }

@@ -9,7 +9,7 @@ ghost use Rattle.tb_batch.specs.claim.Batch.{AreParts};
 
 use crate::size::Size;
 use std::alloc::Global;
-use tb_layout::{Account, Failure, NoMemory};
+use tb_layout::{Account, EVENT_SIZE, Failure, ID_SIZE, NoMemory};
 use tb_work::{Job, Stub, looks_up};
 
 /// A group that others may join has room for at least this number of jobs and of failures. As many jobs take less than 1,032 bytes, up to
@@ -117,7 +117,11 @@ impl Parts {
         requires { AreParts self.now }
         ensures { result ≡ count_of_all self.now.jobs.items }
     {
-        let size = if looks_up(self.operation) { 16 } else { 128 };
+        let size = if looks_up(self.operation) {
+            ID_SIZE
+        } else {
+            EVENT_SIZE
+        };
         (self.body.as_slice().len() / size) as u32
     }
 }

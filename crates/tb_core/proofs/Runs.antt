@@ -85,35 +85,35 @@ none_behind clock journal (item.Packet job ∷ items) = none_behind clock journa
 none_behind clock journal (x ∷ items) = none_behind clock journal items
 
 -- nobody, if the journal has all that is ahead
-none_told : (clock k : ℕ) (journal before : List Input) (items : List Item) → journal ≡ before ++ ahead items
+none_stopped_if_all : (clock k : ℕ) (journal before : List Input) (items : List Item) → journal ≡ before ++ ahead items
     → k ≡ length before → any_stopped (all_due_from clock journal (Ahead k) items) ≡ false
-none_told clock k journal before [] all k_is = refl
-none_told clock k journal before (item.Packet job ∷ items) all k_is =
+none_stopped_if_all clock k journal before [] all k_is = refl
+none_stopped_if_all clock k journal before (item.Packet job ∷ items) all k_is =
     let one = input_of job ∷ [] in
     let here = ap (λ ws. outcome_at clock ws (Ahead k)) all
     ∙ outcome_here clock k (replay clock before) before job (ahead items) k_is refl in
-    rw here (none_told clock (k + 1) journal (before ++ one) items
+    rw here (none_stopped_if_all clock (k + 1) journal (before ++ one) items
     (all ∙ sym (append_assoc before one (ahead items))) (omega (arith, k_is, length-append before one)))
-none_told clock k journal before (item.Pulse moment ∷ items) all k_is =
+none_stopped_if_all clock k journal before (item.Pulse moment ∷ items) all k_is =
     let one = input.Pulse moment ∷ [] in
-    none_told clock (k + 1) journal (before ++ one) items (all ∙ sym (append_assoc before one (ahead items)))
+    none_stopped_if_all clock (k + 1) journal (before ++ one) items (all ∙ sym (append_assoc before one (ahead items)))
     (omega (arith, k_is, length-append before one))
-none_told clock k journal before (item.End ∷ items) all k_is = none_told clock k journal before items all k_is
-none_told clock k journal before (item.Close ∷ items) all k_is = none_behind clock journal items
+none_stopped_if_all clock k journal before (item.End ∷ items) all k_is = none_stopped_if_all clock k journal before items all k_is
+none_stopped_if_all clock k journal before (item.Close ∷ items) all k_is = none_behind clock journal items
 
 -- somebody, if the journal ends in front of a packet that is ahead
-one_told : (clock k left : ℕ) (journal : List Input) (items : List Item) → length journal ≤ k + left
+one_stopped_if_short : (clock k left : ℕ) (journal : List Input) (items : List Item) → length journal ≤ k + left
     → IsPacket (slice_get (ahead items) left) → any_stopped (all_due_from clock journal (Ahead k) items) ≡ true
-one_told clock k left journal [] far packet = absurd packet
-one_told clock k zero journal (item.Packet job ∷ items) far packet =
+one_stopped_if_short clock k left journal [] far packet = absurd packet
+one_stopped_if_short clock k zero journal (item.Packet job ∷ items) far packet =
     rw (outcome_past clock k journal (omega (arith, far))) refl
-one_told clock k (suc left) journal (item.Packet job ∷ items) far packet =
-    or_right _ _ (one_told clock (k + 1) left journal items (omega (arith, far)) packet)
-one_told clock k zero journal (item.Pulse moment ∷ items) far packet = absurd packet
-one_told clock k (suc left) journal (item.Pulse moment ∷ items) far packet =
-    one_told clock (k + 1) left journal items (omega (arith, far)) packet
-one_told clock k left journal (item.End ∷ items) far packet = one_told clock k left journal items far packet
-one_told clock k left journal (item.Close ∷ items) far packet = absurd packet
+one_stopped_if_short clock k (suc left) journal (item.Packet job ∷ items) far packet =
+    or_right _ _ (one_stopped_if_short clock (k + 1) left journal items (omega (arith, far)) packet)
+one_stopped_if_short clock k zero journal (item.Pulse moment ∷ items) far packet = absurd packet
+one_stopped_if_short clock k (suc left) journal (item.Pulse moment ∷ items) far packet =
+    one_stopped_if_short clock (k + 1) left journal items (omega (arith, far)) packet
+one_stopped_if_short clock k left journal (item.End ∷ items) far packet = one_stopped_if_short clock k left journal items far packet
+one_stopped_if_short clock k left journal (item.Close ∷ items) far packet = absurd packet
 
 -- nobody of the first of them
 pub none_of_first : (replies others all : List ReplyValue) → replies ++ others ≡ all → any_stopped all ≡ false
@@ -207,14 +207,14 @@ so_far {start} {items} {stopped} {applied} {ledger} {answers} way passes commits
       replied = replied;
       whole = λ on goes. all (since_is (commits.whole goes)) (rest_is passes.stop refl (sym on ∙ passes.stops));
       no_stop_seen = λ on goes. let is =
-          since_is (commits.whole goes) in told is (all is (rest_is passes.stop refl (sym on ∙ passes.stops)));
+          since_is (commits.whole goes) in all_committed is (all is (rest_is passes.stop refl (sym on ∙ passes.stops)));
       nothing_remains = λ none goes no_stop_seen. ap (λ ws. (ws ++ inputs_in way) ++ rest) (commits.whole goes)
           ∙ ap (λ ps. inputs_in ps ++ rest) none ∙ left passes.stop refl passes.at_packet none no_stop_seen;
       nothing_stopped = λ none.
           let two = nothing_left (commits.remainder ++ inputs_in way) rest none in
           let one = nothing_left commits.remainder (inputs_in way) two.0 in
           let is = since_is one.0 in
-          (commits.unstopped one.0, told is (all is two.1));
+          (commits.unstopped one.0, all_committed is (all is two.1));
     }
   where
     clock : ℕ
@@ -293,7 +293,7 @@ so_far {start} {items} {stopped} {applied} {ledger} {answers} way passes commits
     left None is packet none no_stop_seen = rest_is None is refl
     left (Some k) is packet none no_stop_seen =
         absurd (both_ways (any_stopped answers) no_stop_seen
-        (ap any_stopped (replied none) ∙ one_told clock before k journal items
+        (ap any_stopped (replied none) ∙ one_stopped_if_short clock before k journal items
         (omega (arith, short, ap (λ stop. most_of stop items) is)) packet))
 
     since_is : commits.remainder ≡ [] → since ≡ inputs_in applied
@@ -305,8 +305,8 @@ so_far {start} {items} {stopped} {applied} {ledger} {answers} way passes commits
         ∙ ap (λ ws. inputs_in (applied ++ way) ++ ws) (sym none) ∙ parts
 
     -- what is on the way doesn't change what was answered
-    told : since ≡ inputs_in applied → since ++ inputs_in way ≡ ahead items → any_stopped answers ≡ false
-    told is all_is =
+    all_committed : since ≡ inputs_in applied → since ++ inputs_in way ≡ ahead items → any_stopped answers ≡ false
+    all_committed is all_is =
         let now = journal ++ inputs_in way in
         let same : answers ≡ replies_from clock now before applied = commits.replied
         ∙ sym (replies_from-longer clock journal (inputs_in way) before applied
@@ -322,7 +322,7 @@ so_far {start} {items} {stopped} {applied} {ledger} {answers} way passes commits
         ) in
         none_of_first answers (replies_from clock now here way) (all_due clock before items now)
         (ap (λ rs. rs ++ replies_from clock now here way) same ∙ replies_are now within)
-        (none_told clock before now (inputs start) items
+        (none_stopped_if_all clock before now (inputs start) items
         (ap (λ ws. ws ++ inputs_in way) (sym journal_parts) ∙ append_assoc (inputs start) since (inputs_in way)
         ∙ ap (λ ws. inputs start ++ ws) all_is) refl)
 

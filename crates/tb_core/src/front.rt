@@ -8,8 +8,11 @@ use std::alloc::Global;
 use std::marker::Model;
 use std::mem;
 use tb_batch::{Batch, Batcher, Offered};
-use tb_layout::{NoMemory, SUBMITTERS_MAX};
+use tb_layout::{NoMemory, SUBMITTERS_LENGTH, SUBMITTERS_MAX};
 use tb_work::{Item, Job, Moment, Refusal, Ticket};
+
+/// The length of a list with an element for each sender that there may be: the submitters and the control.
+const SENDERS_LENGTH: usize = SUBMITTERS_LENGTH + 1;
 
 /// Takes the tickets of a queue in order, joins neighbouring packets to batches, and hands these on
 /// with the pulses, and with the packets that come back uncommitted.
@@ -18,7 +21,7 @@ pub struct Front {
     submitters: u32,
     closed: bool,
     stopped: bool,
-    ended: [bool; 17],
+    ended: [bool; SENDERS_LENGTH],
 }
 
 impl Drop for Front {
@@ -61,6 +64,7 @@ impl Model for Front {
 
 impl Front {
     ghost use Rattle.std.specs.Prelude.{Bool, List, replicate};
+    ghost use Rattle.tb_layout.specs.claim.Bounds.{senders_max};
     ghost use Rattle.tb_batch.specs.claim.Grouping.{IsGroup};
     ghost use Rattle.tb_work.specs.declared.item.Item.{Item as ItemValue};
     ghost use Rattle.tb_work.specs.declared.item.Item.TheVariants.{Packet as PacketItem};
@@ -79,7 +83,7 @@ impl Front {
           held = [];
           closed = false;
           stopped = false;
-          ended = replicate 17 false;
+          ended = replicate senders_max false;
         }) }
         ensures passes { IfOk result (λ front. AreDecisions [] front.closed front.stopped (held_by front)) }
         ensures ends { IfOk result (λ front. KnowsEnds [] front) }
@@ -96,7 +100,7 @@ impl Front {
             submitters,
             closed: false,
             stopped: false,
-            ended: [false; 17],
+            ended: [false; SENDERS_LENGTH],
         })
     }
 

@@ -17,10 +17,10 @@ mod ledger;
 mod list;
 mod machine;
 mod made;
+mod outcomes;
 mod reserved;
 mod seeds;
 mod tables;
-mod told;
 mod work;
 mod world;
 

@@ -1,6 +1,6 @@
 -- What follows of what an engine over any ledger was handed.
 use Rattle.std.proofs.Common.{◌≡◌, ◌≤◌, ◌<◌, ◌+◌, refl, sym, ap, ◌∙◌, subst, arith, ℕ, Bool, false, if◌then◌else◌, List, [], ◌∷◌, ◌++◌, length, map, append-nil, get_or, replicate}
-use Rattle.tb_embed.proofs.Words.{slice_set, map-append, items_in, ReplyValue, is_end, IsSubmitted, Item, Ticket, Packet, Applying, IsApplied, Parcel, FrontState, IsFront, all_decisions_in, decisions_in, held_by, take_step, with_group, AreJoined, AreJoinedParcels, Decision, Admitted, AreDecisions, LedgerState, groups_since, Commits, EachPartIsLawful, RunIsLawful, replies_in, has_taken, Steps, ended_run, AnyEngineState, AnyServingIsLawful, ContinuesBy, HasSentBy, HasTakenBy, IsOpenedBy, QueuesBy, AreQueued, packets_in, packet_ticket, ticket_of}
+use Rattle.tb_embed.proofs.Words.{senders_max, submitters_max, slice_set, map-append, items_in, ReplyValue, is_end, IsSubmitted, Item, Ticket, Packet, Applying, IsApplied, Parcel, FrontState, IsFront, all_decisions_in, decisions_in, held_by, take_step, with_group, AreJoined, AreJoinedParcels, Decision, Admitted, AreDecisions, LedgerState, groups_since, Commits, EachPartIsLawful, RunIsLawful, replies_in, has_taken, Steps, ended_run, AnyEngineState, AnyServingIsLawful, ContinuesBy, HasSentBy, HasTakenBy, IsOpenedBy, QueuesBy, AreQueued, packets_in, packet_ticket, ticket_of}
 use Rattle.tb_core.specs.declared.outcomes.Outcomes.{Outcomes}
 use Rattle.tb_embed.proofs.Queued.{IsNext, control_queued, packet_queued_as, passes_ended, queue_ended}
 use Rattle.tb_embed.proofs.Opened.{none_queued}
@@ -22,14 +22,14 @@ parcel_sent {start} {limit} {sent} {replies} was is handed given applying joined
 
 -- an engine in which nothing was queued
 pub opened_by : {L : Type 0} {ledger : L} {limit submitters : ℕ} {engine : AnyEngineState L} (is : L → LedgerState → Type 0)
-    (front : FrontState) → engine ≡ record { front = front; ledger = ledger; unread = []; numbers = replicate 16 0; shut = false }
+    (front : FrontState) → engine ≡ record { front = front; ledger = ledger; unread = []; numbers = replicate submitters_max 0; shut = false }
     → front ≡ record {
       limit = limit;
       submitters = submitters;
       held = [];
       closed = false;
       stopped = false;
-      ended = replicate 17 false;
+      ended = replicate senders_max false;
     } → AreDecisions [] front.closed front.stopped (held_by front)
     → ((start : LedgerState) → is ledger start → start.stopped ≡ false → Commits start [] start [])
     → ((start : LedgerState) (limit : ℕ) → AreJoined limit (groups_since start start))

@@ -1,6 +1,6 @@
 -- Engines in which nothing was queued.
 use Rattle.std.proofs.Common.{◌≡◌, refl, sym, subst, false, ℕ, zero, suc, List, [], get_or, replicate}
-use Rattle.tb_embed.proofs.Words.{Input, BareLedgerState, HasCommitted, HasSent, new_bare_ledger, with_journal, FrontState, held_by, AreJoined, AreDecisions, begun, drop-whole, EngineState, IsOpened, IsOpenedOver, AreQueued}
+use Rattle.tb_embed.proofs.Words.{submitters_max, Input, BareLedgerState, HasCommitted, HasSent, new_bare_ledger, with_journal, FrontState, held_by, AreJoined, AreDecisions, begun, drop-whole, EngineState, IsOpened, IsOpenedOver, AreQueued}
 
 -- a ledger that hasn't stopped has sent nothing since
 nothing_sent : (ledger : BareLedgerState) (groups : List (List Input)) (limit : ℕ) → HasCommitted ledger groups
@@ -19,17 +19,17 @@ all_zero zero k = refl
 all_zero (suc n) zero = refl
 all_zero (suc n) (suc k) = all_zero n k
 
-pub none_queued : (submitters : ℕ) → AreQueued submitters [] (replicate 16 0) false
+pub none_queued : (submitters : ℕ) → AreQueued submitters [] (replicate submitters_max 0) false
 none_queued submitters =
     record {
       submitted = tt;
       no_other_sender = λ sender above. refl;
-      each = λ sender below. record { numbered = tt; counted = sym (all_zero 16 sender); ends = refl };
+      each = λ sender below. record { numbered = tt; counted = sym (all_zero submitters_max sender); ends = refl };
       control = record { numbered = tt; counted = refl; ends = refl };
     }
 
 pub opened_over : {ledger : BareLedgerState} {limit submitters : ℕ} {engine : EngineState} (front : FrontState)
-    → engine ≡ record { front = front; ledger = ledger; unread = []; numbers = replicate 16 0; shut = false }
+    → engine ≡ record { front = front; ledger = ledger; unread = []; numbers = replicate submitters_max 0; shut = false }
     → front.limit ≡ limit → front.submitters ≡ submitters → AreDecisions [] front.closed front.stopped (held_by front)
     → front.stopped ≡ false → ledger.stopped ≡ false → IsOpenedOver ledger limit submitters engine
 opened_over {ledger} front is limited counted passes on goes =

@@ -15,7 +15,7 @@ use crate::unread::Unread;
 use std::alloc::Global;
 use std::marker::Model;
 use tb_core::{AnyLedger, Front, Parcel};
-use tb_layout::MOMENT_MAX;
+use tb_layout::{MOMENT_MAX, SUBMITTERS_LENGTH};
 use tb_work::{Item, Job, Moment, Packet, Refusal, Reply, Ticket};
 
 /// An engine over any ledger, such as one whose journal is in a file. It queues, commits and reads by the calls of `Engine`. Look-ups are
@@ -30,7 +30,7 @@ pub struct AnyEngine<L: AnyLedger> {
     front: Front,
     ledger: L,
     unread: Unread,
-    numbers: [u64; 16],
+    numbers: [u64; SUBMITTERS_LENGTH],
 }
 
 impl<L: AnyLedger> Drop for AnyEngine<L> {
@@ -161,7 +161,7 @@ impl<L: AnyLedger> AnyEngine<L> {
             front,
             ledger,
             unread: Unread::new(alloc),
-            numbers: [0; 16],
+            numbers: [0; SUBMITTERS_LENGTH],
         })
     }
 

@@ -9,8 +9,6 @@ ghost use Rattle.tb_tables.specs.claim.Facts.{transfer_with};
 ghost use Rattle.tb_tables.specs.claim.Balances.{balanced_account};
 ghost use Rattle.tb_tables.specs.clauses.Status.{status_if_pending, status_with};
 ghost use Rattle.tb_machine.specs.clauses.Accounts.{balanced_accounts};
-ghost use Rattle.tb_work.specs.claim.Admission.{admission_of_size};
-ghost use Rattle.tb_work.specs.claim.Admission as admission;
 ghost use Rattle.tb_work.specs.claim.Packet.{ReplyValue};
 ghost use Rattle.tb_work.specs.declared.item.Item.{Item as ItemValue};
 ghost use Rattle.tb_work.specs.declared.item.Item.TheVariants as item;
@@ -22,7 +20,7 @@ ghost use Rattle.tb_core.specs.claim.Grouping.{AreJoinedParcels};
 ghost use Rattle.tb_core.specs.claim.Decision.{Decision};
 ghost use Rattle.tb_core.specs.claim.BareLedger.{HasSent, halts, places_with};
 ghost use Rattle.tb_core.specs.claim.Journal.{LedgerState};
-ghost use Rattle.tb_embed.specs.clauses.Engine.{HasTaken, IsControl, IsPacketItem, IsOpened, IsOpenedOver, HoldsNothing, Steps, places_in, places_of, Queues, Reads, Continues, IsRefusal, either, refusal_in, sender_refusal, packet_with, submit_refusal, pulse_refusal, shut_refusal, has_stopped, state_of};
+ghost use Rattle.tb_embed.specs.clauses.Engine.{HasTaken, IsControl, IsPacketItem, IsOpened, IsOpenedOver, HoldsNothing, Steps, places_in, places_of, Queues, Reads, Continues, IsRefusal, sender_refusal, packet_with, submit_refusal, pulse_refusal, shut_refusal, has_stopped, state_of};
 ghost use Rattle.tb_embed.specs.clauses.Queued.{ticket_of, packet_ticket};
 
 use crate::unread::Unread;
@@ -31,11 +29,9 @@ use std::alloc::Global;
 use std::marker::Model;
 use tb_batch::Batch;
 use tb_core::{BareLedger, Front, Parcel, Seed};
-use tb_layout::{
-    Account, CREATE_ACCOUNTS, CREATE_TRANSFERS, LOOKUP_ACCOUNTS, MOMENT_MAX, Transfer,
-};
+use tb_layout::{Account, CREATE_ACCOUNTS, EVENT_SIZE, MOMENT_MAX, SUBMITTERS_LENGTH, Transfer};
 use tb_tables::{Counts, Status};
-use tb_work::{Item, Job, Moment, Packet, Refusal, Reply, Ticket};
+use tb_work::{Item, Job, Moment, Packet, Refusal, Reply, Ticket, count_admitted};
 
 /// How many accounts and transfers the events that are held create at most.
 #[derive(Clone, Copy)]
@@ -50,7 +46,7 @@ impl Due {
     fn with(self, packet: &Packet, is_holding: bool, limit: u32) -> Due {
         let most = if is_holding { limit as usize } else { 0 };
         let (accounts, transfers) = (self.accounts.min(most), self.transfers.min(most));
-        let events = packet.bytes.as_slice().len() / 128;
+        let events = packet.bytes.as_slice().len() / EVENT_SIZE;
         if packet.operation == CREATE_ACCOUNTS {
             Due {
                 accounts: accounts.saturating_add(events),
@@ -74,7 +70,7 @@ pub struct Engine {
     front: Front,
     ledger: BareLedger,
     unread: Unread,
-    numbers: [u64; 16],
+    numbers: [u64; SUBMITTERS_LENGTH],
 }
 
 impl Drop for Engine {
@@ -299,35 +295,6 @@ fn pass(front: &mut Front, ledger: &mut BareLedger, unread: &mut Unread, ticket:
     };
 }
 
-/// Returns how many bytes an event of an operation has; None if there is no such operation.
-fn event_size(operation: u8) -> Option<usize>
-    ensures { result ≡ admission.event_size operation }
-{
-    if operation == CREATE_ACCOUNTS || operation == CREATE_TRANSFERS {
-        Some(128)
-    } else if operation == LOOKUP_ACCOUNTS {
-        Some(16)
-    } else {
-        None
-    }
-}
-
-/// Returns why a packet of an operation with this data isn't admitted; None if it is.
-fn admission_refusal(limit: u32, operation: u8, bytes: &[u8]) -> Option<Refusal>
-    ensures { result ≡ refusal_in (admission_of_size limit bytes.now (admission.event_size operation)) }
-{
-    let Some(size) = event_size(operation) else {
-        return Some(Refusal::InvalidOperation);
-    };
-    if bytes.len() % size != 0 {
-        return Some(Refusal::InvalidDataSize);
-    }
-    if bytes.len() / size > limit as usize {
-        return Some(Refusal::TooMuchData);
-    }
-    None
-}
-
 impl Engine {
     /// Returns an engine in which nothing was queued. Its clock starts at `clock` nanoseconds, 0 to `CLOCK_MAX`.
     /// Allocates nothing.
@@ -405,7 +372,7 @@ impl Engine {
             front,
             ledger,
             unread: Unread::new(alloc),
-            numbers: [0; 16],
+            numbers: [0; SUBMITTERS_LENGTH],
         })
     }
 
@@ -536,7 +503,7 @@ impl Engine {
     {
         match self.refusal(submitter) {
             Some(refusal) => Some(refusal),
-            None => admission_refusal(self.limit, operation, bytes),
+            None => count_admitted(self.limit, operation, bytes).err(),
         }
     }
 

@@ -3,6 +3,7 @@ use Rattle.std.proofs.Common.{refl, sym, ap, subst, ◌∙◌, arith, ◌≡◌,
 use Rattle.tb_figures.proofs.Words.{◌==◌, slice_index, nat_lt, count_by, sum_by, length-map, get_or-set_same, get_or-set_other, flat_map-append, eqb-true, Input, Packet, Pulse, Numbered, input_of, AreCounts, AreFull, capped, inputs_of, IsSplit, IsTally, is_of, Counts}
 use Rattle.std.proofs.lemmas.List.Sums.{count_by_more_yes, count_by_more_no, count_by-le-length, sum_by_more, sum_by-cons, length-filter}
 use Rattle.std.proofs.lemmas.List.Elements.{filter-append}
+use Rattle.tb_layout.specs.claim.Bounds.{submitters_max}
 use Rattle.tb_work.specs.claim.Job.{stub_of}
 use Rattle.tb_work.specs.declared.stub.Stub.{Stub}
 use Rattle.tb_batch.specs.claim.Batch.{AreAdmitted}
@@ -24,12 +25,12 @@ capped_is n few = omega (arith, few)
 pub record IsAdded (stub : Stub) (old new : Counts) : Type 0 where
   pub others : (new.batches ≡ old.batches) × (new.pulses ≡ old.pulses) × (new.packets ≡ old.packets)
   pub events : new.events ≡ capped (old.events + stub.count)
-  pub own : stub.submitter < 16 → new.submitters
+  pub own : stub.submitter < submitters_max → new.submitters
       ≡ set old.submitters stub.submitter (capped (slice_index old.submitters stub.submitter + 1))
-  pub unknown : 16 ≤ stub.submitter → new.submitters ≡ old.submitters
+  pub unknown : submitters_max ≤ stub.submitter → new.submitters ≡ old.submitters
 
 pub split_more : (stubs : List Stub) (index : ℕ) (other : Stub) {start old new : Counts} → index < length stubs
-    → IsSplit (take index stubs) start old → length old.submitters ≡ 16 → IsAdded (get_or stubs index other) old new
+    → IsSplit (take index stubs) start old → length old.submitters ≡ submitters_max → IsAdded (get_or stubs index other) old new
     → IsSplit (take (index + 1) stubs) start new
 split_more stubs index other {start} {old} {new} below is long added = record {
   batches = added.others.0 ∙ is.batches;
@@ -40,12 +41,12 @@ split_more stubs index other {start} {old} {new} below is long added = record {
 }
   where
     elsewhere : (k : ℕ) → ((get_or stubs index other).submitter == k) ≡ false → (known : Bool)
-        → nat_lt (get_or stubs index other).submitter 16 ≡ known → slice_index new.submitters k ≡ slice_index old.submitters k
+        → nat_lt (get_or stubs index other).submitter submitters_max ≡ known → slice_index new.submitters k ≡ slice_index old.submitters k
     elsewhere k not true is_known = ap (λ xs. slice_index xs k) (added.own (grind (arith, is_known)))
         ∙ get_or-set_other old.submitters _ k _ 0 (λ at. grind (arith, not, at))
     elsewhere k not false is_known = ap (λ xs. slice_index xs k) (added.unknown (grind (arith, is_known)))
 
-    by : (k : ℕ) → k < 16 → (hit : Bool) → ((get_or stubs index other).submitter == k) ≡ hit
+    by : (k : ℕ) → k < submitters_max → (hit : Bool) → ((get_or stubs index other).submitter == k) ≡ hit
         → slice_index new.submitters k ≡ capped (slice_index start.submitters k + count_by (is_of k) (take (index + 1) stubs))
     by k few true e =
         let at : (get_or stubs index other).submitter ≡ k = eqb-true (get_or stubs index other).submitter k e in
@@ -55,7 +56,7 @@ split_more stubs index other {start} {old} {new} below is long added = record {
         let here : slice_index new.submitters k ≡ capped (slice_index old.submitters k + 1) =
         ap (λ xs. slice_index xs k) set_there ∙ get_or-set_same old.submitters k _ 0 (omega (arith, few, long)) in
         omega (arith, here, is.submitters k few, count_by_more_yes (is_of k) stubs index other below e)
-    by k few false e = elsewhere k e (nat_lt (get_or stubs index other).submitter 16) refl ∙ is.submitters k few
+    by k few false e = elsewhere k e (nat_lt (get_or stubs index other).submitter submitters_max) refl ∙ is.submitters k few
         ∙ ap (λ n. capped (slice_index start.submitters k + n)) (sym (count_by_more_no (is_of k) stubs index other below e))
 
 -- ---- the packets of a batch

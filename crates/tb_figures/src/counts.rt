@@ -1,6 +1,7 @@
 //! What is counted of a journal.
 
 ghost use Rattle.std.specs.Prelude.{◌≡◌, ◌≤◌, ◌+◌, ◌<◌, ℕ, [], ◌∷◌, ◌++◌, List, length, map, set, slice_index};
+ghost use Rattle.tb_layout.specs.claim.Bounds.{submitters_max};
 ghost use Rattle.tb_layout.specs.claim.Events.{Input};
 ghost use Rattle.tb_batch.specs.claim.Batch.{AreAdmitted};
 ghost use Rattle.tb_work.specs.claim.Job.{stub_of};
@@ -9,6 +10,7 @@ ghost use Rattle.tb_figures.specs.inside.Tally.{IsTally};
 
 use tb_batch::Batch;
 use tb_core::Parcel;
+use tb_layout::SUBMITTERS_LENGTH;
 use tb_work::Stub;
 
 /// Returns the stubs of a batch.
@@ -33,7 +35,7 @@ pub struct Counts {
     /// How many events the packets have, at most 2^64 - 1.
     pub events: u64,
     /// How many packets of each submitter.
-    pub submitters: [u64; 16],
+    pub submitters: [u64; SUBMITTERS_LENGTH],
 }
 
 impl Counts {
@@ -46,7 +48,7 @@ impl Counts {
             pulses: 0,
             packets: 0,
             events: 0,
-            submitters: [0; 16],
+            submitters: [0; SUBMITTERS_LENGTH],
         }
     }
 
@@ -55,14 +57,14 @@ impl Counts {
         ensures others { (self.new.batches ≡ self.old.batches) × (self.new.pulses ≡ self.old.pulses)
             × (self.new.packets ≡ self.old.packets) }
         ensures events { self.new.events ≡ capped (self.old.events + stub.count) }
-        ensures own { stub.submitter < 16 → self.new.submitters
+        ensures own { stub.submitter < submitters_max → self.new.submitters
             ≡ set self.old.submitters stub.submitter (capped (slice_index self.old.submitters stub.submitter + 1)) }
-        ensures long { length self.new.submitters ≡ 16 }
-        ensures unknown { 16 ≤ stub.submitter → self.new.submitters ≡ self.old.submitters }
+        ensures long { length self.new.submitters ≡ submitters_max }
+        ensures unknown { submitters_max ≤ stub.submitter → self.new.submitters ≡ self.old.submitters }
     {
         self.events = self.events.saturating_add(u64::from(stub.count));
         let submitter = stub.submitter as usize;
-        if submitter < 16 {
+        if submitter < SUBMITTERS_LENGTH {
             self.submitters[submitter] = self.submitters[submitter].saturating_add(1);
         }
     }

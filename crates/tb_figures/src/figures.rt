@@ -9,9 +9,7 @@ use std::fmt;
 use std::fmt::{Display, Formatter};
 use std::sync::Arc;
 use std::sync::atomic::{AtomicU64, Ordering};
-
-/// How many submitters a pipeline has at most.
-const SUBMITTERS_MAX: usize = 16;
+use tb_layout::{SUBMITTERS_LENGTH, SUBMITTERS_MAX};
 
 /// What is stored of one submitter.
 #[derive(Drop)]
@@ -115,7 +113,7 @@ pub struct FiguresRead {
     /// How many events the committed packets have.
     pub events: u64,
     /// What is counted of each submitter, by its number; zeros for a number that no submitter has.
-    pub submitters: [SubmitterFigures; 16],
+    pub submitters: [SubmitterFigures; SUBMITTERS_LENGTH],
     /// What is counted of all submitters: sums, and the longest wait.
     pub total: SubmitterFigures,
 }
@@ -183,7 +181,7 @@ impl Figures {
     pub fn new(alloc: Global, submitters: u32, credit: u32) -> Result<Figures, AllocError>
         ensures { IfOk result (λ figures. figures.credit ≡ credit) }
     {
-        let submitters = submitter_cells(alloc, submitters.min(SUBMITTERS_MAX as u32))?;
+        let submitters = submitter_cells(alloc, submitters.min(SUBMITTERS_MAX))?;
         let cells = Cells {
             batches: AtomicU64::new(0),
             pulses: AtomicU64::new(0),

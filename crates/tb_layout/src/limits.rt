@@ -26,3 +26,12 @@ pub const NANOSECONDS_PER_SECOND: u64 = 1_000_000_000;
 
 /// The most submitters of a queue or a front, numbered from 0.
 pub const SUBMITTERS_MAX: u32 = 16;
+
+/// The length of a list with an element for each submitter that there may be.
+pub const SUBMITTERS_LENGTH: usize = SUBMITTERS_MAX as usize;
+
+/// The bytes of an account or a transfer.
+pub const EVENT_SIZE: usize = 128;
+
+/// The bytes of an id.
+pub const ID_SIZE: usize = 16;

@@ -18,7 +18,7 @@ use tb_work::{Outcome, Packet, Refusal, Reply};
 mod pipe;
 mod reading;
 mod replies;
-mod tellings;
+mod responses;
 mod turns;
 mod waking;
 
@@ -80,7 +80,7 @@ enum Saw {
     /// It is asked what it does next.
     Asked,
     /// It receives the result of a packet.
-    Told(Result<u64, Refusal>),
+    Response(Result<u64, Refusal>),
     /// It is given a reply: the submitter, the number, and the user word.
     Given(u32, u64, u64),
     /// Memory was wanting for a packet.
@@ -162,7 +162,7 @@ impl Driver for Noter {
     }
 
     fn submitted(&mut self, response: Result<u64, Refusal>) {
-        self.note(Saw::Told(response));
+        self.note(Saw::Response(response));
     }
 
     fn receive(&mut self, reply: Reply) {

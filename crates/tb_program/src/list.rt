@@ -6,7 +6,7 @@ ghost use Rattle.tb_layout.specs.claim.Bounds.{batch_max};
 ghost use Rattle.tb_layout.specs.claim.Limits.{clock_max};
 ghost use Rattle.tb_program.specs.clauses.Listing.{plan_text, listing, out, is_faultless};
 ghost use Rattle.tb_program_text.specs.clauses.Source.{source_in};
-ghost use Rattle.tb_program.specs.clauses.Operations.{operation_in, operations_listed, operations_told};
+ghost use Rattle.tb_program.specs.clauses.Operations.{operation_in, operations_listed, operations_if_faultless};
 ghost use Rattle.tb_program.specs.inside.SplitPlan.{line_of};
 ghost use Rattle.tb_program.specs.clauses.Plan.{Planned, queue_of};
 
@@ -93,7 +93,7 @@ pub fn list_output<R: Read>(alloc: Global, reader: &mut R) -> Result<Output, Pro
         (string_bytes output.text ≡ out bytes) × (output.faultless ≡ is_faultless bytes))) }
     // The operations that name its codes are those of the items, in order.
     ensures operations { IfOk result (λ output. IfSome (R.remaining reader.old) (λ bytes.
-        output.operations.items ≡ operations_told operations_listed (source_in bytes))) }
+        output.operations.items ≡ operations_if_faultless operations_listed (source_in bytes))) }
     ensures thread { IfErr result (λ fault. fault ≢ ProgramFault.NoThread) }
 {
     let text = read_script(alloc, reader)?;

@@ -10,7 +10,7 @@ ghost use Rattle.tb_program.specs.inside.Drivers.{AreNew, lists_of, share_of};
 ghost use Rattle.tb_program.specs.clauses.Noting.{AreFresh, HaveCredit};
 ghost use Rattle.tb_program.specs.clauses.Listing.{out, is_faultless};
 ghost use Rattle.tb_program_text.specs.clauses.Source.{source_in};
-ghost use Rattle.tb_program.specs.clauses.Operations.{operations_run, operations_told};
+ghost use Rattle.tb_program.specs.clauses.Operations.{operations_run, operations_if_faultless};
 ghost use Rattle.tb_program.specs.clauses.RunText.{IsRunOf, IsRunText, IsTextOf};
 ghost use Rattle.tb_program_text.specs.clauses.Script.{InBounds, capacity_of, clock_of, credit_of, limit_of, submitters_of};
 
@@ -162,7 +162,7 @@ pub fn run_output<T: Threads + Wait + Sync, R: Read>(
         → IsRunOf bytes (string_bytes output.text))) }
     // The operations that name its codes are those of each submitter's packets, in order.
     ensures operations { IfOk result (λ output. IfSome (R.remaining reader.old) (λ bytes.
-        output.operations.items ≡ operations_told operations_run (source_in bytes))) }
+        output.operations.items ≡ operations_if_faultless operations_run (source_in bytes))) }
 {
     match read_source(alloc, reader)? {
         Source::Script(script) => output_for(rt, alloc, script),

@@ -115,33 +115,33 @@ first_row (row ∷ rows) d bare h =
 
 -- ---- one word
 
-abbrev told_of : Draft → Result (Field × List ℕ) Fault → Result Draft Fault
-told_of draft both = do
+abbrev draft_from : Draft → Result (Field × List ℕ) Fault → Result Draft Fault
+draft_from draft both = do
   named ← both
   field ← new_field draft (Some named.0)
   number ← number_within 0 (greatest field.size) named.1
   Ok (with_number draft field number)
 
-told_by_field : (draft : Draft) (number : List ℕ) (field : Option Field) →
+draft_by_field : (draft : Draft) (number : List ℕ) (field : Option Field) →
     (new_field draft field >>= λ f. number_within 0 (greatest f.size) number >>= λ n. Ok (with_number draft f n))
-    ≡ told_of draft (found field >>= λ f. Ok (f, number))
-told_by_field draft number None = refl
-told_by_field draft number (Some field) = refl
+    ≡ draft_from draft (found field >>= λ f. Ok (f, number))
+draft_by_field draft number None = refl
+draft_by_field draft number (Some field) = refl
 
-told_by_sides : (layout : Layout) (draft : Draft) (sides : Result (List ℕ × List ℕ) Fault) →
+draft_by_sides : (layout : Layout) (draft : Draft) (sides : Result (List ℕ × List ℕ) Fault) →
     (sides >>= λ s. new_field draft (field_of layout s.0) >>= λ f. number_within 0 (greatest f.size) s.1 >>= λ n.
     Ok (with_number draft f n))
-    ≡ told_of draft (sides >>= λ s. found (look_up s.0 (fields_of layout)) >>= λ f. Ok (f, s.1))
+    ≡ draft_from draft (sides >>= λ s. found (look_up s.0 (fields_of layout)) >>= λ f. Ok (f, s.1))
 unfolding field_of
-told_by_sides layout draft (Err fault) = refl
-told_by_sides layout draft (Ok sides) = told_by_field draft sides.1 (look_up sides.0 (fields_of layout))
+draft_by_sides layout draft (Err fault) = refl
+draft_by_sides layout draft (Ok sides) = draft_by_field draft sides.1 (look_up sides.0 (fields_of layout))
 
 -- a word is identified by the field that it names
 pub after_word_named : (layout : Layout) (draft : Draft) (word : List ℕ) (both : Result (Field × List ℕ) Fault)
     → both ≡ field_and_number layout word →
-    after_word layout draft word ≡ told_of draft both
+    after_word layout draft word ≡ draft_from draft both
 unfolding after_word field_and_number
-after_word_named layout draft word both e = told_by_sides layout draft (sides_of word) ∙ ap (told_of draft) (sym e)
+after_word_named layout draft word both e = draft_by_sides layout draft (sides_of word) ∙ ap (draft_from draft) (sym e)
 
 -- ---- one word after another
 
@@ -165,20 +165,20 @@ after_none layout draft line none = rw (empty_words line none) refl
 
 -- ---- some rows of a table
 
-told_by_row : (table rows : List (List ℕ × Field)) (name number : List ℕ) (row : Option Field)
+draft_by_row : (table rows : List (List ℕ × Field)) (name number : List ℕ) (row : Option Field)
     {both : Field × List ℕ} → row ≡ look_up name rows → AreOwn table rows →
     (found row >>= λ f. Ok (f, number)) ≡ Ok both → (found (look_up name table) >>= λ f. Ok (f, number)) ≡ Ok both
-told_by_row table rows name number None e own h = absurd (search (rules, h))
-told_by_row table rows name number (Some f) e own h =
+draft_by_row table rows name number None e own h = absurd (search (rules, h))
+draft_by_row table rows name number (Some f) e own h =
     rw (found_row (λ word field. look_up word table ≡ Some field) rows name f own (sym e)) h
 
-told_by_parts : (table rows : List (List ℕ × Field)) (sides : Result (List ℕ × List ℕ) Fault)
+draft_by_parts : (table rows : List (List ℕ × Field)) (sides : Result (List ℕ × List ℕ) Fault)
     (both : Field × List ℕ) → AreOwn table rows →
     (sides >>= λ s. found (look_up s.0 rows) >>= λ f. Ok (f, s.1)) ≡ Ok both
     → (sides >>= λ s. found (look_up s.0 table) >>= λ f. Ok (f, s.1)) ≡ Ok both
-told_by_parts table rows (Err fault) both own h = h
-told_by_parts table rows (Ok sides) both own h =
-    told_by_row table rows sides.0 sides.1 (look_up sides.0 rows) refl own h
+draft_by_parts table rows (Err fault) both own h = h
+draft_by_parts table rows (Ok sides) both own h =
+    draft_by_row table rows sides.0 sides.1 (look_up sides.0 rows) refl own h
 
 -- rows from an index on are rows of the same table
 pub rows_from : (layout : Layout) (rows : List (Bor (List ℕ) × Field)) (index size : ℕ) → size ≡ length rows
@@ -195,7 +195,7 @@ pub named_in_rows : (word : List ℕ) (layout : Layout) (rows : List (Bor (List 
     AreRowsOf layout rows → named word (map row_of rows) ≡ Ok both → field_and_number layout word ≡ Ok both
 unfolding field_and_number
 named_in_rows word layout rows both own h =
-    told_by_parts (fields_of layout) (map row_of rows) (sides_of word) both
+    draft_by_parts (fields_of layout) (map row_of rows) (sides_of word) both
     (All-map (λ row. look_up row.0 (fields_of layout) ≡ Some row.1) row_of rows own.1) h
 
 -- ---- the fields of a layout are within the event

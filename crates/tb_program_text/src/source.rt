@@ -3,7 +3,7 @@
 ghost use Rattle.std.specs.Prelude.{◌≢◌, ℕ, List, Err, codes, IfOk, IfErr, IfSome};
 ghost use Rattle.tb_program_text.specs.clauses.Script.{script_of};
 ghost use Rattle.tb_program_text.specs.clauses.Output.{fault_line};
-ghost use Rattle.tb_program_text.specs.clauses.Source.{IsFound, IsWhole, source_in, source_told};
+ghost use Rattle.tb_program_text.specs.clauses.Source.{IsFound, IsWhole, source_in, source_or_line};
 
 use crate::output::put_fault;
 use crate::parsing::{ScriptError, parse};
@@ -54,7 +54,7 @@ fn source_too_long(alloc: Global, length: ScriptLength) -> Result<Source, NoMemo
 
 /// Returns what the bytes of a script say.
 fn source_of_bytes(alloc: Global, text: &[u8]) -> Result<Source, NoMemory>
-    ensures { IfOk result (λ source. IsFound source (source_told (script_of text.now))) }
+    ensures { IfOk result (λ source. IsFound source (source_or_line (script_of text.now))) }
 {
     match parse(alloc, text) {
         Ok(script) => Ok(Source::Script(script)),

@@ -3,9 +3,9 @@ use Rattle.std.proofs.Common.{refl, ap, arith, ◌≡◌, ◌⊎◌, inl, inr, �
 use Rattle.tb_rings.specs.clauses.Waking.{Word, Empty, Parked, Notified, Reader, Awake, Tries, Dozes, Sleeps, Left, Waking, Step, Give, Ask, Notify, Wake, Look, See, Yield, Park, Try, Doze, Rouse, Leave, notify, wake, stepped, after_steps, opened, leads_on, of_word, of_reader, steps_left, IsIdle, NoWakeUpIsLost, WakingEnds}
 
 -- the token is there, or a thread is to set it
-abbrev is_told : ℕ → Word → Bool
-is_told changed Notified = true
-is_told changed word = nat_lt 0 changed
+abbrev is_notified : ℕ → Word → Bool
+is_notified changed Notified = true
+is_notified changed word = nat_lt 0 changed
 
 abbrev is_open : Word → Bool
 is_open Empty = false
@@ -15,40 +15,40 @@ abbrev is_parked : Word → Bool
 is_parked Parked = true
 is_parked word = false
 
--- What the reader saw is still so, or it is told. From its note on until it takes the token the word isn't empty. If it sleeps its
+-- What the reader saw is still so, or it is notified. From its note on until it takes the token the word isn't empty. If it sleeps its
 -- note is there, or it is about to be woken.
 abbrev is_right : Bool → ℕ → Bool → ℕ → Word → Reader → Bool
-is_right told values asked waking word (Awake none going) =
-    (told || not none || not (nat_lt 0 values)) && (told || not going || not asked)
-is_right told values asked waking word Tries =
-    (told || (not (nat_lt 0 values) && not asked)) && is_open word
-is_right told values asked waking word Dozes =
-    (told || (not (nat_lt 0 values) && not asked)) && is_open word
-is_right told values asked waking word Sleeps =
-    (told || (not (nat_lt 0 values) && not asked)) && (is_open word && (is_parked word || nat_lt 0 waking))
-is_right told values asked waking word Left = true
+is_right notified values asked waking word (Awake none going) =
+    (notified || not none || not (nat_lt 0 values)) && (notified || not going || not asked)
+is_right notified values asked waking word Tries =
+    (notified || (not (nat_lt 0 values) && not asked)) && is_open word
+is_right notified values asked waking word Dozes =
+    (notified || (not (nat_lt 0 values) && not asked)) && is_open word
+is_right notified values asked waking word Sleeps =
+    (notified || (not (nat_lt 0 values) && not asked)) && (is_open word && (is_parked word || nat_lt 0 waking))
+is_right notified values asked waking word Left = true
 
 abbrev is_sound : Waking → Bool
-is_sound s = is_right (is_told s.changed s.word) s.values s.asked s.waking s.word s.reader
+is_sound s = is_right (is_notified s.changed s.word) s.values s.asked s.waking s.word s.reader
 
 abbrev stays_sound : Option Waking → Bool
 stays_sound None = true
 stays_sound (Some next) = is_sound next
 
-told_more : (changed : ℕ) (word : Word) → is_told (changed + 1) word ≡ true
-told_more changed word = grind arith
+notified_more : (changed : ℕ) (word : Word) → is_notified (changed + 1) word ≡ true
+notified_more changed word = grind arith
 
 -- what a thread is on its way to tell may change
-told_of : (told : Bool) (values more : ℕ) (asked given : Bool) (waking : ℕ) (word : Word) (reader : Reader)
-    → is_right told values asked waking word reader ≡ true → is_right true more given waking word reader ≡ true
-told_of told values more asked given waking word (Awake none going) h = grind arith
-told_of told values more asked given waking word reader h = grind arith
+notified_still : (notified : Bool) (values more : ℕ) (asked given : Bool) (waking : ℕ) (word : Word) (reader : Reader)
+    → is_right notified values asked waking word reader ≡ true → is_right true more given waking word reader ≡ true
+notified_still notified values more asked given waking word (Awake none going) h = grind arith
+notified_still notified values more asked given waking word reader h = grind arith
 
 change_keeps : (values more : ℕ) (asked given : Bool) (changed waking : ℕ) (word : Word) (reader : Reader)
-    → is_right (is_told changed word) values asked waking word reader ≡ true
-    → is_right (is_told (changed + 1) word) more given waking word reader ≡ true
+    → is_right (is_notified changed word) values asked waking word reader ≡ true
+    → is_right (is_notified (changed + 1) word) more given waking word reader ≡ true
 change_keeps values more asked given changed waking word reader h =
-    rw told_more (told_of (is_told changed word) values more asked given waking word reader h)
+    rw notified_more (notified_still (is_notified changed word) values more asked given waking word reader h)
 
 -- ---- each step keeps it
 

@@ -101,13 +101,13 @@ transfer-found id (row ∷ rows) [] same = absurd (omega (arith, same))
 transfer-found id (row ∷ rows) (status ∷ statuses) same =
     grind (arith, nat_tests, transfer-found id rows statuses (omega (arith, same)))
 
-pub told-found : (id : ℕ) (rows : List (ℕ × StoredTransfer)) (statuses : List StoredStatus)
+pub found-with-status : (id : ℕ) (rows : List (ℕ × StoredTransfer)) (statuses : List StoredStatus)
     → length statuses ≡ length rows
     → is_some (lookup (nat_eq id) (entries_of rows statuses)) ≡ is_some (lookup (nat_eq id) rows)
-told-found id [] statuses same = refl
-told-found id (row ∷ rows) [] same = absurd (omega (arith, same))
-told-found id (row ∷ rows) (status ∷ statuses) same =
-    grind (arith, nat_tests, told-found id rows statuses (omega (arith, same)))
+found-with-status id [] statuses same = refl
+found-with-status id (row ∷ rows) [] same = absurd (omega (arith, same))
+found-with-status id (row ∷ rows) (status ∷ statuses) same =
+    grind (arith, nat_tests, found-with-status id rows statuses (omega (arith, same)))
 
 pub status-found : (id : ℕ) (rows : List (ℕ × StoredTransfer)) (statuses : List StoredStatus) (index : ℕ)
     {status : StoredStatus} → length statuses ≡ length rows → position (nat_eq id) (keys_of rows) ≡ Some index

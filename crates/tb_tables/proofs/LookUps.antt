@@ -90,11 +90,11 @@ module _ {facts : Facts} {accounts : List (ℕ × Account)} {transfers : List (�
       (row_in facts) id facts.transfers
 
   -- whether an id is new, as the map tells it
-  pub told-new : (id : ℕ) → not (is_some (lookup (nat_eq id) transfers)) ≡ not (is_some (transfer_with facts id))
-  told-new id = ap (λ found. not (is_some found)) (row-found id) ∙ as-some (row_in facts) (transfer_with facts id)
+  pub new-by-id : (id : ℕ) → not (is_some (lookup (nat_eq id) transfers)) ≡ not (is_some (transfer_with facts id))
+  new-by-id id = ap (λ found. not (is_some found)) (row-found id) ∙ as-some (row_in facts) (transfer_with facts id)
 
-  pub told-new-account : (id : ℕ) → not (is_some (lookup (nat_eq id) accounts)) ≡ not (is_some (account_with facts id))
-  told-new-account id =
+  pub new-account-by-id : (id : ℕ) → not (is_some (lookup (nat_eq id) accounts)) ≡ not (is_some (account_with facts id))
+  new-account-by-id id =
       ap (λ found. not (is_some found)) (account-found id)
       ∙ as-some (with_sums (sums_of facts)) (account_with facts id)
 

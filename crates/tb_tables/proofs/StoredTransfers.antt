@@ -10,7 +10,7 @@ use Rattle.tb_tables.proofs.Pairs.{slice_get-push, pairs-push, is_open_pair-push
 use Rattle.tb_tables.proofs.SeenFacts.{AreSeenAs, keeps, sound-indexed, held-by}
 use Rattle.tb_tables.proofs.Histories.{without_last-push}
 use Rattle.tb_tables.proofs.ChangedBalances.{row-new}
-use Rattle.tb_tables.proofs.LookUps.{none-there, told-new}
+use Rattle.tb_tables.proofs.LookUps.{none-there, new-by-id}
 
 -- the ids of those whose id passes a test
 pub ids-found : (test : ℕ → Bool) (id : ℕ) (xs : List TransferRecord)
@@ -142,9 +142,9 @@ module _ (old : Contents) (kept : AreConsistent old) (t : TransferRecord) where
       → IsPushed old t indices entries
   pushed indices at may {E} is_new done is =
       let new : Facts = add_transfer (facts_of old) t in
-      let told = subst (λ (r : Result Bool E).
+      let added = subst (λ (r : Result Bool E).
       IfOk r (λ added. added ≡ not (is_some (lookup (nat_eq t.id) old.transfers)))) done is_new in
-      let none = none-there (transfer_with (facts_of old) t.id) (sym (told ∙ told-new kept.hold t.id)) in
+      let none = none-there (transfer_with (facts_of old) t.id) (sym (added ∙ new-by-id kept.hold t.id)) in
       let allow = allows old.is_in_expiries (facts_of old) t indices kept.sound at (may none) in
       let step : Step t indices = record { facts = facts_of old; more = (t.id, new_row t) ∷ []; allow = allow } in
       record {

@@ -5,7 +5,7 @@ use Rattle.tb_tables.specs.declared.change.Change.TheVariants.{Account, Transfer
 use Rattle.tb_tables.proofs.AddedAccounts.{held-failed, kept-account, kept-unaccount, stamped-new}
 use Rattle.tb_tables.proofs.GroundedFacts.{all-there}
 use Rattle.tb_tables.proofs.Histories.{oldest-push, history_of-push, without_last-push}
-use Rattle.tb_tables.proofs.LookUps.{none-there, told-new-account}
+use Rattle.tb_tables.proofs.LookUps.{none-there, new-account-by-id}
 use Rattle.tb_tables.proofs.SeenFacts.{AreSeenAs, sound-indexed}
 use Rattle.tb_tables.proofs.StoredTransfers.{IsPushed, CanPop, can-pop, back, same-held}
 
@@ -84,10 +84,10 @@ module _ (changes : List Change) (old : Contents) (kept : AreKept changes old) w
       let account : AccountRecord = record event { timestamp = timestamp } in
       TakesChange Account (record old { accounts = old.accounts ++ (event.id, account) ∷ [] })
       (add_account (facts_of old) account)
-  account-made event timestamp none told =
+  account-made event timestamp none added =
       let account : AccountRecord = record event { timestamp = timestamp } in
       let fresh = none-there (account_with (facts_of old) event.id)
-      (sym (told ∙ told-new-account kept.consistent.hold event.id)) in
+      (sym (added ∙ new-account-by-id kept.consistent.hold event.id)) in
       takes-change Account (kept-account old kept.consistent account fresh (stamped-new timestamp none))
       (ap (λ accounts. record (facts_of old) { accounts = accounts })
       (without_last-push (facts_of old).accounts account)) tt (λ m p within has. has)

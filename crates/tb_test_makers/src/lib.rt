@@ -1,4 +1,4 @@
-//! Accounts, transfers, packets and jobs for tests, and how a test asserts.
+//! Accounts, transfers, packets and jobs for tests, a reply's outcome in short, and how a test asserts.
 //!
 //! Each maker returns an error only if memory runs out, and `job` also if the packet isn't admitted.
 #![tactic(auto)]
@@ -7,7 +7,7 @@ ghost use Rattle.std.specs.Prelude.{◌≡◌, IfOk};
 
 use std::alloc::Global;
 use tb_layout::{Account, BATCH_MAX, NoMemory, Transfer};
-use tb_work::{Bytes, Job, Packet, Refusal};
+use tb_work::{Bytes, Job, Outcome, Packet, Refusal, Reply};
 
 /// Ends the test unless a fact holds. The failure names the line of the call and, in a loop over a table, its row. Its proof
 /// takes a tenth of the time of that of `assert!`, which also writes the fact out.
@@ -93,3 +93,31 @@ pub fn packet_of(operation: u8, bytes: Vec<u8>) -> Packet
 pub fn job(alloc: Global, submitter: u32, number: u64, packet: Packet) -> Result<Job, Refusal> {
     Job::new(alloc, submitter, number, BATCH_MAX, packet).map_err(|refused| refused.1)
 }
+
+/// A packet's outcome without its answer.
+#[derive(Clone, Copy, PartialEq, Eq)]
+pub enum OutcomeKind {
+    /// Committed at a place.
+    Committed(u64),
+    Shutdown,
+    Stopped,
+}
+
+/// Returns the outcome of a reply's packet.
+pub fn kind_of(reply: &Reply) -> OutcomeKind {
+    match &reply.outcome {
+        Outcome::Committed { place, answer: _ } => OutcomeKind::Committed(*place),
+        Outcome::Shutdown => OutcomeKind::Shutdown,
+        Outcome::Stopped => OutcomeKind::Stopped,
+    }
+}
+
+/// The places of two packets before a pulse and of four after it.
+pub const SIX_PLACES: [OutcomeKind; 6] = [
+    OutcomeKind::Committed(0),
+    OutcomeKind::Committed(1),
+    OutcomeKind::Committed(3),
+    OutcomeKind::Committed(4),
+    OutcomeKind::Committed(5),
+    OutcomeKind::Committed(6),
+];

@@ -4,12 +4,10 @@ ghost use Rattle.std.specs.Prelude.{◌≡◌, Ok, IsOk};
 ghost use Rattle.tb_layout.specs.claim.Bounds.{batch_max};
 ghost use Rattle.tb_work.specs.claim.Admission as spec;
 
-use crate::packet::{EVENT_SIZE, Packet};
+use crate::packet::Packet;
 use crate::refusal::Refusal;
 use std::marker::Model;
-use tb_layout::{CREATE_ACCOUNTS, CREATE_TRANSFERS, LOOKUP_ACCOUNTS};
-
-const ID_SIZE: usize = 16;
+use tb_layout::{CREATE_ACCOUNTS, CREATE_TRANSFERS, EVENT_SIZE, ID_SIZE, LOOKUP_ACCOUNTS};
 
 /// Says whether packets of an operation are lookups.
 pub fn looks_up(operation: u8) -> bool
@@ -18,8 +16,8 @@ pub fn looks_up(operation: u8) -> bool
     operation == LOOKUP_ACCOUNTS
 }
 
-/// Returns how many bytes an event of an operation has. None if there is no such operation.
-fn event_size(operation: u8) -> Option<usize>
+/// Returns how many bytes an event of an operation has: 128, or 16 if it is an id. None if there is no such operation.
+pub fn event_size(operation: u8) -> Option<usize>
     ensures { result ≡ spec.event_size operation }
 {
     if operation == CREATE_ACCOUNTS {
@@ -33,16 +31,15 @@ fn event_size(operation: u8) -> Option<usize>
     }
 }
 
-/// Returns the number of a packet's events, or why it is not admitted: another operation, data that isn't whole events,
-/// more events than the limit. A packet without events is admitted. Costs the same for any packet (checks of tb_client
-/// before a packet is queued).
-pub fn admit(limit: u32, packet: &Packet) -> Result<u32, Refusal>
-    ensures { result ≡ spec.admission_of limit packet.now }
+/// Returns how many events an operation's data has, or why a packet of them isn't admitted, as `admit` does. Reads only the
+/// length of the data.
+pub fn count_admitted(limit: u32, operation: u8, bytes: &[u8]) -> Result<u32, Refusal>
+    ensures { result ≡ spec.admission_of_size limit bytes.now (spec.event_size operation) }
 {
-    let Some(size) = event_size(packet.operation) else {
+    let Some(size) = event_size(operation) else {
         return Err(Refusal::InvalidOperation);
     };
-    let length = packet.bytes.as_slice().len();
+    let length = bytes.len();
     if length % size != 0 {
         return Err(Refusal::InvalidDataSize);
     }
@@ -51,6 +48,15 @@ pub fn admit(limit: u32, packet: &Packet) -> Result<u32, Refusal>
         return Err(Refusal::TooMuchData);
     }
     Ok(count as u32)
+}
+
+/// Returns the number of a packet's events, or why it is not admitted: another operation, data that isn't whole events,
+/// more events than the limit. A packet without events is admitted. Costs the same for any packet (checks of tb_client
+/// before a packet is queued).
+pub fn admit(limit: u32, packet: &Packet) -> Result<u32, Refusal>
+    ensures { result ≡ spec.admission_of limit packet.now }
+{
+    count_admitted(limit, packet.operation, packet.bytes.as_slice())
 }
 
 /// A packet that was admitted, with its number of events. A contract sees it as its packet.

@@ -2,7 +2,8 @@
 //!
 //! - `Packet::of_accounts` and `Packet::of_transfers` lay out exactly the given events (`bytes`, `events`);
 //! - `Packet::operation` returns what a packet asks for;
-//! - `admit` returns the number of a packet's events, or the first refusal that applies;
+//! - `admit` returns the number of a packet's events, or the first refusal that applies; `count_admitted` does so for data that
+//!   isn't in a packet;
 //! - `Packet::admitted` returns the packet as an `AdmittedPacket`, or unchanged with that refusal (`refused`);
 //! - `Job::of` makes a job of it, with capacity for its failures, or returns the packet unchanged (`back`). Memory is an
 //!   excuse only for more than two events of no lookup (`few`). `Job::new` does both;
@@ -28,7 +29,7 @@ mod reply;
 mod stub;
 mod submit_error;
 
-pub use admission::{AdmittedPacket, admit, looks_up};
+pub use admission::{AdmittedPacket, admit, count_admitted, event_size, looks_up};
 pub use bytes::Bytes;
 pub use item::{Item, Ticket};
 pub use job::Job;

@@ -19,15 +19,9 @@ use std::alloc::Global;
 use std::fmt;
 use std::fmt::{Debug, Formatter};
 use tb_layout::{
-    Account, CREATE_ACCOUNTS, CREATE_TRANSFERS, LOOKUP_ACCOUNTS, NoMemory, Operation, Transfer,
-    write_account, write_id, write_transfer,
+    Account, CREATE_ACCOUNTS, CREATE_TRANSFERS, EVENT_SIZE, ID_SIZE, LOOKUP_ACCOUNTS, NoMemory,
+    Operation, Transfer, write_account, write_id, write_transfer,
 };
-
-/// The bytes of an event of an account or a transfer.
-pub(crate) const EVENT_SIZE: usize = 128;
-
-/// The bytes of an id.
-const ID_SIZE: usize = 16;
 
 /// What a submitter hands in: an operation (129 create_accounts, 130 create_transfers,
 /// 131 lookup_accounts), the data of its events, and a user word that comes back untouched.

@@ -1,4 +1,4 @@
 pub mod Pushed
 pub mod Holding
 pub mod Runs
-pub mod Told
+pub mod Lawful

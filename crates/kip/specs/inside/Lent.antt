@@ -18,7 +18,7 @@ LendsEngine held engine = Lends held_row engine_row held engine (with_engine hel
 
 -- an open handle with another engine
 abbrev pub open_with : Kip → EngineState → Kip
-open_with kip engine = record { held = with_engine kip.held engine; is_open = true; told = refl }
+open_with kip engine = record { held = with_engine kip.held engine; is_open = true; agrees = refl }
 
 -- an open handle ends as the last engine that was written, and a closed one as it was
 abbrev pub LendsItsEngine : MutBor Kip → Option (MutBor EngineState) → Fml

@@ -1,7 +1,7 @@
 -- What a front makes of one ticket.
 use Rattle.std.specs.Prelude.{◌≡◌, ℕ, ◌+◌, ◌≤◌, Bool, true, false, not, ◌||◌, if◌then◌else◌, List, [], ◌∷◌, ◌++◌, length, map, take, slice_set, get_or, nat_lt, Option, Some, None}
 use Rattle.std.specs.List.{list_all, list_any, flat_map}
-use Rattle.tb_layout.specs.claim.Bounds.{batch_max, submitters_max}
+use Rattle.tb_layout.specs.claim.Bounds.{batch_max, senders_max, submitters_max}
 use Rattle.tb_work.specs.claim.Packet.{Numbered}
 use Rattle.tb_work.specs.claim.Ahead.{items_from}
 use Rattle.tb_work.specs.claim.Queue.{is_end}
@@ -118,7 +118,7 @@ decisions_in_batch (Some jobs) = map Admitted jobs
 -- what is held is one group, and after a Close or a stop nothing is held
 pub record IsFront (front : FrontState) : Type 0 where
   pub few : front.submitters ≤ submitters_max
-  pub places : length front.ended ≡ 17
+  pub places : length front.ended ≡ senders_max
   pub clear : (front.closed || front.stopped) ≡ true → front.held ≡ []
   pub group : IsGroup front.limit front.held
 

@@ -97,7 +97,7 @@ fn got_of(done: Result<(), Refusal>) -> Got {
     }
 }
 
-fn told_by(reply: &Reply) -> Got {
+fn reply_got(reply: &Reply) -> Got {
     match &reply.outcome {
         Outcome::Committed { place, answer: _ } => {
             Got::Committed(reply.submitter, reply.number, *place)
@@ -117,7 +117,7 @@ fn got_by(engine: &mut Engine, alloc: Global, call: Call) -> Got {
         Call::Shut => got_of(engine.shut()),
         Call::Flush => got_of(engine.flush()),
         Call::Read => match engine.reply() {
-            Some(reply) => told_by(&reply),
+            Some(reply) => reply_got(&reply),
             None => Got::Nothing,
         },
     }

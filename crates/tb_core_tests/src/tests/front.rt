@@ -3,13 +3,13 @@
 ghost use Rattle.std.specs.Prelude.{◌≡◌, ◌≤◌, [], IfOk, IfSome, true};
 
 use super::made::{Made, item};
-use super::told::{Told, assert_told};
+use super::outcomes::assert_kinds;
 use arrayvec::ArrayVec;
 use std::alloc::Global;
 use std::process::Abort;
 use std::slice;
 use tb_core::{Cause, Front, Ledger, Outcomes, Parcel};
-use tb_test_makers::check;
+use tb_test_makers::{OutcomeKind, check};
 use tb_work::{Refusal, Reply, Ticket};
 
 /// What the front yields.
@@ -318,7 +318,7 @@ fn assert_answered(rt: &(impl Abort + Alloc<A = Global>), front: &mut Front, led
     let reply = way_of_a_packet(front, ledger, ticket_of(rt, 0, FIRST)).expect(rt, "a reply");
     check!(rt; (reply.submitter, reply.number) == (0, 0));
     check!(rt; reply.packet.user == 7);
-    assert_told(rt, slice::from_ref(&reply), &[Told::Committed(0)]);
+    assert_kinds(rt, slice::from_ref(&reply), &[OutcomeKind::Committed(0)]);
 }
 
 #[test]

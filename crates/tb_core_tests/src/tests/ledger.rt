@@ -4,36 +4,36 @@ ghost use Rattle.std.specs.Prelude.{◌≡◌, ◌≤◌};
 
 use super::front::{small_front, ticket_of};
 use super::made::{Made, creating};
+use super::outcomes::{EntryKind, assert_entries, first_reply};
 use super::push;
-use super::told::{Noted, SIX_PLACES, Told, assert_noted, first_reply, told_by};
 use std::alloc::Global;
 use std::process::Abort;
 use tb_batch::{Batch, Batcher, Offered};
 use tb_core::{BareLedger, Cause, Front, Ledger, Outcomes, Parcel, Seed};
 use tb_demux::Cutter;
 use tb_layout::Account;
-use tb_test_makers::{account, check, job};
+use tb_test_makers::{OutcomeKind, SIX_PLACES, account, check, job, kind_of};
 use tb_work::{Answer, Job, Moment, Outcome, Packet, Reply, Ticket};
 
-/// Adds what a reply says to the text.
-fn tell_reply(rt: &impl Abort, reply: &Reply, told: &mut Vec<Told>) {
-    push(rt, told, told_by(reply));
+/// Adds the outcome of a reply's packet.
+fn push_kind(rt: &impl Abort, reply: &Reply, kinds: &mut Vec<OutcomeKind>) {
+    push(rt, kinds, kind_of(reply));
 }
 
-/// Adds what at most four replies say to the text.
-fn tell_cut(rt: &impl Abort, cutter: &mut Cutter, told: &mut Vec<Told>) {
+/// Adds the outcomes of a batch of at most four packets.
+fn push_cut(rt: &impl Abort, cutter: &mut Cutter, kinds: &mut Vec<OutcomeKind>) {
     for _ in 0..4 {
         if let Some(reply) = cutter.next() {
-            tell_reply(rt, &reply, told);
+            push_kind(rt, &reply, kinds);
         }
     }
 }
 
-/// Adds the outcomes of a parcel to the text.
-fn tell(rt: &impl Abort, outcomes: Outcomes, told: &mut Vec<Told>) {
+/// Adds the outcomes of a parcel's packets.
+fn push_kinds(rt: &impl Abort, outcomes: Outcomes, kinds: &mut Vec<OutcomeKind>) {
     match outcomes {
-        Outcomes::Cut(mut cutter) => tell_cut(rt, &mut cutter, told),
-        Outcomes::One(reply) => tell_reply(rt, &reply, told),
+        Outcomes::Cut(mut cutter) => push_cut(rt, &mut cutter, kinds),
+        Outcomes::One(reply) => push_kind(rt, &reply, kinds),
         Outcomes::Nothing | Outcomes::Last => {}
     }
 }
@@ -56,13 +56,13 @@ fn feed(
     front: &mut Front,
     ledger: &mut Ledger,
     ticket: Ticket,
-    told: &mut Vec<Told>,
+    kinds: &mut Vec<OutcomeKind>,
 )
     requires { ticket.sender ≤ front.old.submitters }
     ensures { front.new.submitters ≡ front.old.submitters }
 {
     for parcel in front.take(ticket) {
-        tell(rt, ledger.apply(parcel), told);
+        push_kinds(rt, ledger.apply(parcel), kinds);
     }
 }
 
@@ -72,7 +72,7 @@ fn feed_packets(
     front: &mut Front,
     ledger: &mut Ledger,
     ids: &[u128],
-    told: &mut Vec<Told>,
+    kinds: &mut Vec<OutcomeKind>,
 )
     ensures { front.new.submitters ≡ front.old.submitters }
 {
@@ -81,7 +81,7 @@ fn feed_packets(
             number: number as u64,
             id: *id,
         };
-        feed(rt, front, ledger, ticket_of(rt, 0, packet), told);
+        feed(rt, front, ledger, ticket_of(rt, 0, packet), kinds);
     }
 }
 
@@ -89,27 +89,27 @@ fn feed_packets(
 fn feed_all(rt: &(impl Abort + Alloc<A = Global>), front: &mut Front, ledger: &mut Ledger)
     requires { front.old.submitters ≡ 1 }
 {
-    let mut told = Vec::new(rt.alloc());
-    feed_packets(rt, front, ledger, &[1, 2], &mut told);
+    let mut kinds = Vec::new(rt.alloc());
+    feed_packets(rt, front, ledger, &[1, 2], &mut kinds);
     // The two packets are held.
-    check!(rt; told.is_empty());
+    check!(rt; kinds.is_empty());
     feed(
         rt,
         front,
         ledger,
         ticket_of(rt, 1, Made::Pulse(5)),
-        &mut told,
+        &mut kinds,
     );
     // The pulse seals them.
-    check!(rt; told.len() == 2);
-    feed_packets(rt, front, ledger, &[3, 4, 5, 6], &mut told);
+    check!(rt; kinds.len() == 2);
+    feed_packets(rt, front, ledger, &[3, 4, 5, 6], &mut kinds);
     // Nobody has ended.
     check!(rt; !front.finished());
     let batch = front.idle().expect(rt, "a group is held");
-    tell(rt, ledger.apply(Parcel::Batch(batch)), &mut told);
+    push_kinds(rt, ledger.apply(Parcel::Batch(batch)), &mut kinds);
     check!(rt; front.idle().is_none());
-    check!(rt; told.as_slice() == SIX_PLACES.as_slice());
-    drop(told);
+    check!(rt; kinds.as_slice() == SIX_PLACES.as_slice());
+    drop(kinds);
 }
 
 /// Takes the packets and the pulse of the example to a ledger, and asserts its journal and its machine.
@@ -117,8 +117,12 @@ fn assert_pulse_between(rt: &(impl Abort + Alloc<A = Global>), ledger: &mut Ledg
     let mut front = small_front(rt.alloc()).expect(rt, "memory");
     feed_all(rt, &mut front, ledger);
     drop(front);
-    let noted = [Noted::Batch(2), Noted::Pulse(5), Noted::Batch(4)];
-    assert_noted(rt, ledger.journal(), &noted);
+    let entries = [
+        EntryKind::Batch(2),
+        EntryKind::Pulse(5),
+        EntryKind::Batch(4),
+    ];
+    assert_entries(rt, ledger.journal(), &entries);
     check!(rt; ledger.places() == 7);
     check!(rt; ledger.opening() == 0);
     check!(rt; ledger.machine().clock() == 9);
@@ -195,7 +199,11 @@ fn found_by_a_lookup(rt: HostRuntime) {
     check!(&rt; found(&reply) == Some((1, 1, made)));
     drop(reply);
     check!(&rt; ledger.machine().clock() == 4);
-    assert_noted(&rt, ledger.journal(), &[Noted::Batch(1), Noted::Batch(1)]);
+    assert_entries(
+        &rt,
+        ledger.journal(),
+        &[EntryKind::Batch(1), EntryKind::Batch(1)],
+    );
     drop(ledger);
 }
 
@@ -203,44 +211,52 @@ fn found_by_a_lookup(rt: HostRuntime) {
 #[test]
 fn refused_commit(rt: HostRuntime) {
     let mut ledger = Ledger::new(rt.alloc(), 0);
-    let mut told = Vec::new(rt.alloc());
-    tell(&rt, ledger.apply_as_refused(batch_of(&rt, 1)), &mut told);
+    let mut kinds = Vec::new(rt.alloc());
+    push_kinds(&rt, ledger.apply_as_refused(batch_of(&rt, 1)), &mut kinds);
     check!(&rt; ledger.stopped());
-    tell(&rt, ledger.apply(batch_of(&rt, 2)), &mut told);
-    tell(&rt, ledger.apply(Parcel::Pulse(Moment::new(5))), &mut told);
+    push_kinds(&rt, ledger.apply(batch_of(&rt, 2)), &mut kinds);
+    push_kinds(&rt, ledger.apply(Parcel::Pulse(Moment::new(5))), &mut kinds);
     let behind = Parcel::Return(creating_one(&rt, 1, 3), Cause::Shutdown);
-    tell(&rt, ledger.apply(behind), &mut told);
+    push_kinds(&rt, ledger.apply(behind), &mut kinds);
     check!(&rt; is_last(ledger.apply(Parcel::Last)));
-    let wanted = [Told::Stopped, Told::Stopped, Told::Shutdown];
-    check!(&rt; told.as_slice() == wanted.as_slice());
-    drop(told);
+    let wanted = [
+        OutcomeKind::Stopped,
+        OutcomeKind::Stopped,
+        OutcomeKind::Shutdown,
+    ];
+    check!(&rt; kinds.as_slice() == wanted.as_slice());
+    drop(kinds);
     check!(&rt; ledger.journal().is_empty());
     check!(&rt; ledger.places() == 0);
     check!(&rt; ledger.machine().clock() == 0);
     drop(ledger);
 }
 
-const WITHOUT_A_JOURNAL: [Told; 3] = [Told::Committed(0), Told::Committed(2), Told::Shutdown];
+const WITHOUT_A_JOURNAL: [OutcomeKind; 3] = [
+    OutcomeKind::Committed(0),
+    OutcomeKind::Committed(2),
+    OutcomeKind::Shutdown,
+];
 
 /// Commits two batches with a pulse between them, and sends a packet back.
 #[test]
 fn committed_without_a_journal(rt: HostRuntime) {
     let mut ledger = BareLedger::with_seed(rt.alloc(), 3, Seed::default());
-    let mut told = Vec::new(rt.alloc());
+    let mut kinds = Vec::new(rt.alloc());
     check!(&rt; ledger.reserve(10, 10).is_ok());
     check!(&rt; ledger.reserve(usize::MAX, 0).is_err());
-    tell(&rt, ledger.apply(batch_of(&rt, 1)), &mut told);
+    push_kinds(&rt, ledger.apply(batch_of(&rt, 1)), &mut kinds);
     check!(&rt; is_nothing(ledger.apply(Parcel::Pulse(Moment::new(9)))));
-    tell(&rt, ledger.apply(batch_of(&rt, 2)), &mut told);
+    push_kinds(&rt, ledger.apply(batch_of(&rt, 2)), &mut kinds);
     let returned = Parcel::Return(creating_one(&rt, 1, 3), Cause::Shutdown);
-    tell(&rt, ledger.apply(returned), &mut told);
+    push_kinds(&rt, ledger.apply(returned), &mut kinds);
     check!(&rt; is_last(ledger.apply(Parcel::Last)));
     check!(&rt; ledger.opening() == 3);
     check!(&rt; ledger.places() == 3);
     check!(&rt; ledger.machine().clock() == 10);
     check!(&rt; ledger.machine().accounts() == 2);
     check!(&rt; !ledger.stopped());
-    check!(&rt; told.as_slice() == WITHOUT_A_JOURNAL.as_slice());
-    drop(told);
+    check!(&rt; kinds.as_slice() == WITHOUT_A_JOURNAL.as_slice());
+    drop(kinds);
     drop(ledger);
 }

@@ -4,12 +4,12 @@ ghost use Rattle.std.specs.Prelude.{◌≤◌};
 ghost use Rattle.tb_layout.specs.claim.Bounds.{batch_max};
 
 use super::made::{Made, creating, item};
+use super::outcomes::{EntryKind, assert_entries, assert_kinds};
 use super::push;
-use super::told::{Noted, SIX_PLACES, Told, assert_noted, assert_told, told_by};
 use std::alloc::Global;
 use std::process::Abort;
 use tb_core::{Listed, run_list};
-use tb_test_makers::{account, check};
+use tb_test_makers::{OutcomeKind, SIX_PLACES, account, check, kind_of};
 use tb_work::Item;
 
 /// Items of submitter 0.
@@ -27,16 +27,16 @@ fn run_listed(
     rt: &(impl Abort + Alloc<A = Global>),
     limit: u32,
     items: Vec<Item>,
-    told: &[Told],
-    noted: &[Noted],
+    kinds: &[OutcomeKind],
+    entries: &[EntryKind],
     clock: u64,
 ) -> Listed
     requires least { 1 ≤ limit }
     requires most { limit ≤ batch_max }
 {
     let listed = run_list(rt.alloc(), 0, limit, items).expect(rt, "memory");
-    assert_told(rt, &listed.replies, told);
-    assert_noted(rt, listed.ledger.journal(), noted);
+    assert_kinds(rt, &listed.replies, kinds);
+    assert_entries(rt, listed.ledger.journal(), entries);
     check!(rt; listed.ledger.machine().clock() == clock);
     check!(rt; !listed.ledger.stopped());
     listed
@@ -56,8 +56,12 @@ const PULSE_BETWEEN_BATCHES: [Made; 8] = [
 #[test]
 fn pulse_between_batches(rt: HostRuntime) {
     let items = items_of(&rt, &PULSE_BETWEEN_BATCHES);
-    let noted = [Noted::Batch(2), Noted::Pulse(5), Noted::Batch(4)];
-    let listed = run_listed(&rt, 4, items, &SIX_PLACES, &noted, 9);
+    let entries = [
+        EntryKind::Batch(2),
+        EntryKind::Pulse(5),
+        EntryKind::Batch(4),
+    ];
+    let listed = run_listed(&rt, 4, items, &SIX_PLACES, &entries, 9);
     drop(listed);
 }
 
@@ -71,8 +75,8 @@ const PACKET_BEHIND_SHUT: [Made; 4] = [
 #[test]
 fn packet_behind_shut(rt: HostRuntime) {
     let items = items_of(&rt, &PACKET_BEHIND_SHUT);
-    let told = [Told::Committed(0), Told::Shutdown];
-    let listed = run_listed(&rt, 4, items, &told, &[Noted::Batch(1)], 1);
+    let kinds = [OutcomeKind::Committed(0), OutcomeKind::Shutdown];
+    let listed = run_listed(&rt, 4, items, &kinds, &[EntryKind::Batch(1)], 1);
     check!(&rt; listed.ledger.machine().accounts() == 1);
     drop(listed);
 }
@@ -93,7 +97,11 @@ fn packet_of_accounts(
     Item::Packet(job)
 }
 
-const FIRST_THREE: [Told; 3] = [Told::Committed(0), Told::Committed(1), Told::Committed(2)];
+const FIRST_THREE: [OutcomeKind; 3] = [
+    OutcomeKind::Committed(0),
+    OutcomeKind::Committed(1),
+    OutcomeKind::Committed(2),
+];
 
 #[test]
 fn full_batch_then_overflow(rt: HostRuntime) {
@@ -105,8 +113,8 @@ fn full_batch_then_overflow(rt: HostRuntime) {
             packet_of_accounts(&rt, number, first_id, count),
         );
     }
-    let noted = [Noted::Batch(1), Noted::Batch(2)];
-    let listed = run_listed(&rt, 4, items, &FIRST_THREE, &noted, 5);
+    let entries = [EntryKind::Batch(1), EntryKind::Batch(2)];
+    let listed = run_listed(&rt, 4, items, &FIRST_THREE, &entries, 5);
     drop(listed);
 }
 
@@ -122,7 +130,7 @@ fn full_packet_behind_an_empty_one(rt: HostRuntime) {
         8190,
         items,
         &FIRST_THREE[..2],
-        &[Noted::Batch(2)],
+        &[EntryKind::Batch(2)],
         8190,
     );
     check!(&rt; listed.ledger.machine().accounts() == 8190);
@@ -159,7 +167,7 @@ fn seventy_thousand_items(rt: HostRuntime) {
     let packets = (0..MANY).filter(|index| index % 7 != 3);
     check!(&rt; listed.replies.len() == 60_000);
     for (reply, place) in listed.replies.iter().zip(packets) {
-        check!(&rt; told_by(reply) == Told::Committed(place));
+        check!(&rt; kind_of(reply) == OutcomeKind::Committed(place));
     }
     drop(listed);
 }

@@ -2,10 +2,10 @@
 
 use super::made::{Made, item};
 use super::number_of;
-use super::told::{Noted, Told, assert_noted, assert_told};
+use super::outcomes::{EntryKind, assert_entries, assert_kinds};
 use std::alloc::Global;
 use std::process::Abort;
-use tb_test_makers::check;
+use tb_test_makers::{OutcomeKind, check};
 use tb_work::{Refusal, Ticket};
 use tb_world::{Event, World, run_world};
 
@@ -119,10 +119,16 @@ fn play(rt: &(impl Abort + Alloc<A = Global>), world: &mut World, steps: &str) {
 }
 
 /// Asserts what submitter 0 received, the journal and the clock.
-fn assert_world(rt: &impl Abort, world: &World, told: &[Told], noted: &[Noted], clock: u64) {
-    assert_told(rt, world.received(0), told);
-    assert_told(rt, world.received(1), &[]);
-    assert_noted(rt, world.ledger().journal(), noted);
+fn assert_world(
+    rt: &impl Abort,
+    world: &World,
+    kinds: &[OutcomeKind],
+    entries: &[EntryKind],
+    clock: u64,
+) {
+    assert_kinds(rt, world.received(0), kinds);
+    assert_kinds(rt, world.received(1), &[]);
+    assert_entries(rt, world.ledger().journal(), entries);
     check!(rt; world.ledger().machine().clock() == clock);
 }
 
@@ -153,17 +159,17 @@ fn add_words(rt: &impl Abort, alloc: Global, events: &mut Vec<Event>, steps: &st
 fn assert_steps(
     rt: &(impl Abort + Alloc<A = Global>),
     steps: &str,
-    told: &[Told],
-    noted: &[Noted],
+    kinds: &[OutcomeKind],
+    entries: &[EntryKind],
     clock: u64,
 ) {
     let mut world = World::new(rt.alloc(), 0, 4, 2).expect(rt, "memory");
     play(rt, &mut world, steps);
-    assert_world(rt, &world, told, noted, clock);
+    assert_world(rt, &world, kinds, entries, clock);
     drop(world);
     let mut events = Vec::new(rt.alloc());
     check!(rt; add_words(rt, rt.alloc(), &mut events, steps));
     let listed = run_world(rt.alloc(), 0, 4, 2, events).expect(rt, "memory");
-    assert_world(rt, &listed, told, noted, clock);
+    assert_world(rt, &listed, kinds, entries, clock);
     drop(listed);
 }

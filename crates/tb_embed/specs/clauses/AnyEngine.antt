@@ -1,6 +1,7 @@
 -- An engine over any ledger: what was queued in it, which replies were read, and what follows. Its ledger's journal may be in a
 -- file. So definitions speak of each ledger that it may be, by `is`.
 use Rattle.std.specs.Prelude.{◌≡◌, ℕ, Bool, false, List, [], ◌∷◌, ◌++◌, replicate}
+use Rattle.tb_layout.specs.claim.Bounds.{submitters_max}
 use Rattle.tb_machine.specs.claim.Replay.{replay}
 use Rattle.tb_work.specs.claim.Ahead.{ahead, items_in}
 use Rattle.tb_work.specs.claim.Packet.{ReplyValue}
@@ -56,7 +57,7 @@ pub record IsOpenedBy {L : Type 0} (is : L → LedgerState → Type 0) (ledger :
   pub limited : engine.front.limit ≡ limit
   pub counted : engine.front.submitters ≡ submitters
   pub nothing : HoldsNothingBy engine
-  pub numbers : engine.numbers ≡ replicate 16 0
+  pub numbers : engine.numbers ≡ replicate submitters_max 0
   pub unclosed : engine.front.closed ≡ false
   pub goes : engine.front.stopped ≡ false
   pub unshut : engine.shut ≡ false

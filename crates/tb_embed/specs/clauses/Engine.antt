@@ -41,7 +41,7 @@ pub record IsEngine (limit submitters : ℕ) (front : FrontState) (numbers : Lis
   pub counted : front.submitters ≡ submitters
   pub few : limit ≤ batch_max
   pub among : submitters ≤ submitters_max
-  pub each : length numbers ≡ 16
+  pub each : length numbers ≡ submitters_max
   pub goes : front.stopped ≡ false
 
 -- the state of the machine

@@ -2,7 +2,7 @@
 use Rattle.std.specs.Prelude.{◌≡◌, ◌<◌, ◌≤◌, ℕ, ◌+◌, List, [], ◌∷◌, length, map, min, slice_index, ◌-◌, ◌^◌}
 use Rattle.std.specs.List.{AllByRecursion, flat_map}
 use Rattle.tb_layout.specs.claim.Events.{Input, Pulse}
-use Rattle.tb_layout.specs.claim.Bounds.{places_max}
+use Rattle.tb_layout.specs.claim.Bounds.{places_max, submitters_max}
 use Rattle.tb_work.specs.claim.Packet.{input_of}
 use Rattle.tb_core.specs.claim.EachSubmitter.{moments_in, packets_of}
 use Rattle.tb_batch.specs.claim.Grouping.{events_together}
@@ -43,4 +43,4 @@ pub record AreCounts (groups : List (List Input)) (counts : Counts) : Type 0 whe
   pub places : counts.packets + counts.pulses ≡ length (inputs_of groups)
   pub pulses : counts.pulses ≡ length (moments_in (inputs_of groups))
   pub events : counts.events ≡ capped (events_together (inputs_of groups))
-  pub submitters : (k : ℕ) → k < 16 → slice_index counts.submitters k ≡ length (packets_of k (inputs_of groups))
+  pub submitters : (k : ℕ) → k < submitters_max → slice_index counts.submitters k ≡ length (packets_of k (inputs_of groups))

@@ -1,5 +1,5 @@
 -- The bounds that packets, moments and counts keep.
-use Rattle.std.specs.Prelude.{ℕ, ◌^◌}
+use Rattle.std.specs.Prelude.{ℕ, ◌+◌, ◌^◌}
 
 -- the most events of a batch
 abbrev pub batch_max : ℕ
@@ -24,3 +24,7 @@ places_max = 2 ^ 63
 -- the most submitters of a front
 abbrev pub submitters_max : ℕ
 submitters_max = 16
+
+-- the most senders of a front: its submitters and the control
+abbrev pub senders_max : ℕ
+senders_max = submitters_max + 1

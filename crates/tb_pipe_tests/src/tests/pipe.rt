@@ -16,7 +16,7 @@ use tb_core::Entry;
 use tb_layout::{CREATE_ACCOUNTS, NoMemory};
 use tb_pipe::{Gate, Opened, Options, Pipeline, Report, settle};
 use tb_submit::{Control, ControlEnd, Ended, Intake, Submitter};
-use tb_test_makers::{account, accounts_packet, check};
+use tb_test_makers::{OutcomeKind, account, accounts_packet, check, kind_of};
 use tb_work::{Outcome, Packet, Refusal, Reply};
 
 mod blocked;
@@ -51,22 +51,11 @@ fn look_of(packet: &Packet) -> (u8, usize, u64) {
     (packet.operation, packet.bytes.as_slice().len(), packet.user)
 }
 
-/// What a reply says of its packet's place.
-#[derive(Clone, Copy, PartialEq, Eq)]
-enum Told {
-    Committed(u64),
-    Shutdown,
-    Stopped,
-}
-
-fn told_by(reply: Reply) -> Told {
-    let told = match &reply.outcome {
-        Outcome::Committed { place, answer: _ } => Told::Committed(*place),
-        Outcome::Shutdown => Told::Shutdown,
-        Outcome::Stopped => Told::Stopped,
-    };
+/// Returns the outcome of a reply's packet, and frees the reply.
+fn outcome_kind(reply: Reply) -> OutcomeKind {
+    let kind = kind_of(&reply);
     drop(reply);
-    told
+    kind
 }
 
 /// Returns a pipeline whose clock starts at 0.
@@ -309,7 +298,7 @@ fn finish_started<R: Threads + Wait + Sync + Abort, G: Gate>(
 }
 
 /// Compares the clock of a run with one submitter, and its unread replies.
-fn assert_run(rt: &impl Abort, report: Report, wanted_clock: u64, wanted: &[Told]) {
+fn assert_run(rt: &impl Abort, report: Report, wanted_clock: u64, wanted: &[OutcomeKind]) {
     let mut report = report;
     assert_report(rt, &mut report, wanted_clock, 0, wanted);
     drop(report);
@@ -321,23 +310,23 @@ fn assert_report(
     report: &mut Report,
     wanted_clock: u64,
     submitter: usize,
-    wanted: &[Told],
+    wanted: &[OutcomeKind],
 ) {
     check!(rt; clock(report) == wanted_clock);
     let ended = report
         .ends
         .get_mut(submitter)
         .expect(rt, "there is such a submitter");
-    for told in wanted {
-        check!(rt; next_told(ended) == Some(*told));
+    for kind in wanted {
+        check!(rt; next_kind(ended) == Some(*kind));
     }
-    check!(rt; next_told(ended).is_none());
+    check!(rt; next_kind(ended).is_none());
 }
 
 /// Returns the place in the next unread reply of a submitter.
-fn next_told(ended: &mut Ended) -> Option<Told> {
+fn next_kind(ended: &mut Ended) -> Option<OutcomeKind> {
     let reply = ended.reply()?;
-    Some(told_by(reply))
+    Some(outcome_kind(reply))
 }
 
 /// Compares the number of packets of each entry of the journal, 0 for a pulse.

@@ -22,13 +22,13 @@ const WAITS: [Step; 8] = [
 const WAITS_SEEN: [Saw; 15] = [
     Saw::Asked,
     Saw::Asked,
-    Saw::Told(Ok(0)),
+    Saw::Response(Ok(0)),
     Saw::Asked,
     Saw::Given(0, 0, 7),
     Saw::Asked,
-    Saw::Told(Ok(1)),
+    Saw::Response(Ok(1)),
     Saw::Asked,
-    Saw::Told(Ok(2)),
+    Saw::Response(Ok(2)),
     Saw::Asked,
     Saw::Given(0, 1, 7),
     Saw::Asked,
@@ -63,11 +63,11 @@ fn receive_sleeps_until_there_is_a_reply(rt: HostRuntime) {
 /// What a driver sees that waits for each of two replies.
 const TWO_RECEIVED: [Saw; 9] = [
     Saw::Asked,
-    Saw::Told(Ok(0)),
+    Saw::Response(Ok(0)),
     Saw::Asked,
     Saw::Given(0, 0, 7),
     Saw::Asked,
-    Saw::Told(Ok(1)),
+    Saw::Response(Ok(1)),
     Saw::Asked,
     Saw::Given(0, 1, 7),
     Saw::Asked,
@@ -80,9 +80,9 @@ const TWO: [Step; 3] = [SUBMIT, SUBMIT, Step::Receive];
 fn two_seen(submitter: u32, user: u64) -> [Saw; 7] {
     [
         Saw::Asked,
-        Saw::Told(Ok(0)),
+        Saw::Response(Ok(0)),
         Saw::Asked,
-        Saw::Told(Ok(1)),
+        Saw::Response(Ok(1)),
         Saw::Asked,
         Saw::Given(submitter, 0, user),
         Saw::Asked,
@@ -124,7 +124,7 @@ fn drivers_in_order(rt: HostRuntime) {
 /// its end or not.
 fn is_one(seen: &Seen, submitter: u32) -> bool {
     let given = Saw::Given(submitter, 0, seen.user);
-    let front = [Saw::Asked, Saw::Told(Ok(0)), Saw::Asked];
+    let front = [Saw::Asked, Saw::Response(Ok(0)), Saw::Asked];
     let by_driver = seen.by_driver.as_slice();
     if seen.left.is_empty() {
         by_driver.len() == 4 && by_driver.starts_with(&front) && by_driver.ends_with(&[given])
@@ -135,7 +135,7 @@ fn is_one(seen: &Seen, submitter: u32) -> bool {
 
 /// Sixteen packets for a queue of one slot: no driver receives `Full`.
 #[test]
-fn not_told_of_a_full_queue(rt: HostRuntime) {
+fn no_response_to_a_full_queue(rt: HostRuntime) {
     let alloc = rt.alloc();
     let finished = run(&rt, alloc, 4, 1, 16, sixteen(&rt, alloc, &[SUBMIT]));
     let seen = seen_in(&rt, alloc, finished);

@@ -25,6 +25,6 @@ abbrev pub operations_run : ParsedScript → List ℕ
 operations_run parsed = flat_map operations_of (shares_of 0 (submitters_of parsed.settings) (items_of parsed))
 
 -- a faulty script has none
-abbrev pub operations_told : (ParsedScript → List ℕ) → Result ParsedScript (List ℕ) → List ℕ
-operations_told operations (Ok parsed) = operations parsed
-operations_told operations (Err line) = []
+abbrev pub operations_if_faultless : (ParsedScript → List ℕ) → Result ParsedScript (List ℕ) → List ℕ
+operations_if_faultless operations (Ok parsed) = operations parsed
+operations_if_faultless operations (Err line) = []

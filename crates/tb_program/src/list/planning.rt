@@ -1,7 +1,7 @@
 //! The plan of a script's items.
 
 ghost use Rattle.std.specs.Prelude.{◌≡◌, ◌<◌, ◌≤◌, [], ℕ, get_or, OnOk, IfOk};
-ghost use Rattle.tb_layout.specs.claim.Bounds.{batch_max};
+ghost use Rattle.tb_layout.specs.claim.Bounds.{batch_max, submitters_max};
 ghost use Rattle.tb_program.specs.clauses.Plan.{Packet as PacketPlanned, Close as ClosePlanned, number_in, pulse_as, planned_as, plan_after};
 ghost use Rattle.tb_program.specs.inside.SplitPlan.{with_planned, split_plan};
 ghost use Rattle.tb_program_text.specs.declared.item.ScriptItem.TheVariants.{Packet as PacketItem};
@@ -9,7 +9,7 @@ ghost use Rattle.tb_program_text.specs.declared.item.ScriptItem.TheVariants.{Pac
 use crate::list::plan::Line;
 use std::alloc::Global;
 use std::marker::Model;
-use tb_layout::{MOMENT_MAX, NoMemory};
+use tb_layout::{MOMENT_MAX, NoMemory, SUBMITTERS_LENGTH};
 use tb_program_text::{ScriptItem, SubmitterNumber};
 use tb_work::{Job, Moment, Packet, Refusal};
 
@@ -25,11 +25,12 @@ pub(crate) struct PlanParts {
 pub(crate) struct Plan {
     queue: Vec<tb_work::Item>,
     lines: Vec<Line>,
-    numbers: [u64; 16],
+    numbers: [u64; SUBMITTERS_LENGTH],
 }
 
 impl Model for Plan {
     ghost use Rattle.std.specs.Prelude.{◌≡◌, ◌<◌, ℕ, get_or};
+    ghost use Rattle.tb_layout.specs.claim.Bounds.{submitters_max};
     ghost use Rattle.tb_program.specs.inside.SplitPlan.{SplitPlan};
     ghost use Rattle.tb_program.specs.clauses.Plan.{number_in};
 
@@ -37,7 +38,7 @@ impl Model for Plan {
 
     ghost view = { λ plan. record { queue = plan.queue.items; lines = plan.lines.items } };
 
-    ghost invariant = { λ plan. (submitter : ℕ) → submitter < 16
+    ghost invariant = { λ plan. (submitter : ℕ) → submitter < submitters_max
         → get_or plan.numbers submitter 0 ≡ number_in submitter plan.queue.items };
 }
 
@@ -49,13 +50,13 @@ impl Plan {
         Ok(Plan {
             queue: Vec::with_capacity(alloc, items)?,
             lines: Vec::with_capacity(alloc, items)?,
-            numbers: [0; 16],
+            numbers: [0; SUBMITTERS_LENGTH],
         })
     }
 
     /// Queues a packet with its submitter's next number.
     fn queue_packet(&mut self, job: Job) -> Result<(), NoMemory>
-        requires few { job.submitter < 16 }
+        requires few { job.submitter < submitters_max }
         requires number { job.number ≡ number_in job.submitter self.old.queue }
         ensures { OnOk result (self.new ≡ with_planned self.old (PacketPlanned job)) }
     {

@@ -6,10 +6,10 @@ use Rattle.tb_program_text.specs.declared.parsing.ScriptError.TheVariants.{NoMem
 use Rattle.tb_program_text.specs.clauses.Script.{ParsedScript}
 
 abbrev pub FailsAt : ScriptError → Result ParsedScript (ℕ × Fault) → Type 0
-FailsAt NoMemory told = Unit {0}
-FailsAt (Faulty number fault) told = told ≡ Err (number, fault)
+FailsAt NoMemory result = Unit {0}
+FailsAt (Faulty number fault) result = result ≡ Err (number, fault)
 
 -- the result is the expected one, unless memory ran out
 abbrev pub Parses : Result ParsedScript ScriptError → Result ParsedScript (ℕ × Fault) → Type 0
-Parses (Ok parsed) told = told ≡ Ok parsed
-Parses (Err e) told = FailsAt e told
+Parses (Ok parsed) result = result ≡ Ok parsed
+Parses (Err e) result = FailsAt e result

@@ -14,15 +14,15 @@ abbrev pub script_max : ℕ
 script_max = 16777216
 
 -- a script, or the line that is printed of its first fault
-abbrev pub source_told : Result ParsedScript (ℕ × Fault) → Result ParsedScript (List ℕ)
-source_told (Ok parsed) = Ok parsed
-source_told (Err (number, fault)) = Err (fault_line number (fault_text fault))
+abbrev pub source_or_line : Result ParsedScript (ℕ × Fault) → Result ParsedScript (List ℕ)
+source_or_line (Ok parsed) = Ok parsed
+source_or_line (Err (number, fault)) = Err (fault_line number (fault_text fault))
 
 -- what bytes are, however many
 abbrev pub source_in : List ℕ → Result ParsedScript (List ℕ)
 source_in bytes =
     if nat_lt script_max (length bytes) then Err (fault_line 0 (codes "script too long"))
-    else source_told (script_of bytes)
+    else source_or_line (script_of bytes)
 
 -- a source is what was found
 abbrev pub IsFound : Source → Result ParsedScript (List ℕ) → Type 0

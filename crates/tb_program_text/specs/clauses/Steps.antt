@@ -17,24 +17,24 @@ look_up word ((name, value) ∷ rows) = if bytes_eq word name then Some value el
 
 -- what a function returned, seen by a view, is the expected result
 abbrev pub Tells : {X Y E : Type 0} → (X → Y) → Result X E → Result Y E → Type 0
-Tells view (Ok x) told = told ≡ Ok (view x)
-Tells view (Err e) told = told ≡ Err e
+Tells view (Ok x) result = result ≡ Ok (view x)
+Tells view (Err e) result = result ≡ Err e
 
 -- what a call left is the expected result
 abbrev pub Makes : {X Y : Type 0} → Result X Fault → Y → Result Y Fault → Type 0
-Makes (Ok x) new told = told ≡ Ok new
-Makes (Err e) new told = told ≡ Err e
+Makes (Ok x) new result = result ≡ Ok new
+Makes (Err e) new result = result ≡ Err e
 
 -- the fault that a function returned is the expected one, unless memory ran out
 abbrev pub Fails : {Y : Type 0} → LineError → Result Y Fault → Type 0
-Fails errors.NoMemory told = Unit {0}
-Fails (errors.Fault fault) told = told ≡ Err fault
+Fails errors.NoMemory result = Unit {0}
+Fails (errors.Fault fault) result = result ≡ Err fault
 
 abbrev pub Gives : {X Y : Type 0} → (X → Y) → Result X LineError → Result Y Fault → Type 0
-Gives view (Ok x) told = told ≡ Ok (view x)
-Gives view (Err e) told = Fails e told
+Gives view (Ok x) result = result ≡ Ok (view x)
+Gives view (Err e) result = Fails e result
 
 -- what a call left is the expected result, unless memory ran out
 abbrev pub Leaves : {X Y : Type 0} → Result X LineError → Y → Result Y Fault → Type 0
-Leaves (Ok x) new told = told ≡ Ok new
-Leaves (Err e) new told = Fails e told
+Leaves (Ok x) new result = result ≡ Ok new
+Leaves (Err e) new result = Fails e result

@@ -90,11 +90,11 @@ fn as_many_events_as_the_limit(rt: HostRuntime) {
 
 /// Asserts that two packets get replies, and that refusals follow once the replies were read: of a packet of each kind of
 /// fault, and of one without.
-fn told_behind(
+fn assert_refused_after(
     rt: &(impl Abort + Wait + Alloc<A = Global>),
     first: Says,
     second: Says,
-    told: Refusal,
+    refusal: Refusal,
 ) {
     let (mut submitter, mut ends) = queue_of(rt, 4, 4, 2);
     check!(rt; submit(rt, &mut submitter, 129, 128) == Ok(0));
@@ -105,22 +105,22 @@ fn told_behind(
     check!(rt; reads_reply(&mut submitter));
     check!(rt; reads_reply(&mut submitter));
     for (operation, length) in [(129, 128), (200, 127), (129, 127), (129, 640)] {
-        check!(rt; submit(rt, &mut submitter, operation, length) == Err(told));
+        check!(rt; submit(rt, &mut submitter, operation, length) == Err(refusal));
     }
     drop(submitter);
     drop(ends);
 }
 
 #[test]
-fn told_of_a_shutdown(rt: HostRuntime) {
-    told_behind(&rt, Says::Committed, Says::Shutdown, Refusal::Shutdown);
-    told_behind(&rt, Says::Shutdown, Says::Stopped, Refusal::Shutdown);
+fn a_shutdown_refuses_later_packets(rt: HostRuntime) {
+    assert_refused_after(&rt, Says::Committed, Says::Shutdown, Refusal::Shutdown);
+    assert_refused_after(&rt, Says::Shutdown, Says::Stopped, Refusal::Shutdown);
 }
 
 #[test]
-fn told_of_a_stop(rt: HostRuntime) {
-    told_behind(&rt, Says::Committed, Says::Stopped, Refusal::Stopped);
-    told_behind(&rt, Says::Stopped, Says::Shutdown, Refusal::Stopped);
+fn a_stop_refuses_later_packets(rt: HostRuntime) {
+    assert_refused_after(&rt, Says::Committed, Says::Stopped, Refusal::Stopped);
+    assert_refused_after(&rt, Says::Stopped, Says::Shutdown, Refusal::Stopped);
 }
 
 /// Pulses five times: the greatest moment is 2^62, and two pulses fill the queue.

@@ -8,7 +8,7 @@ use Rattle.tb_world.proofs.progress.Steps.{Steps, steps}
 use Rattle.tb_world.proofs.orders.Pushed.{packets_in}
 use Rattle.tb_world.proofs.orders.Holding.{unrouted, Holds}
 use Rattle.tb_world.proofs.orders.Runs.{all_holds}
-use Rattle.tb_world.proofs.orders.Told.{far_prefix}
+use Rattle.tb_world.proofs.orders.Lawful.{far_prefix}
 
 -- ---- what is in flight stays within the credit
 

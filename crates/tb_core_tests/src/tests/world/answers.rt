@@ -2,7 +2,7 @@
 
 use super::assert_steps;
 use crate::tests::made::creating;
-use crate::tests::told::Noted;
+use crate::tests::outcomes::EntryKind;
 use std::alloc::Global;
 use std::process::Abort;
 use tb_layout::Account;
@@ -72,6 +72,10 @@ outcome-pop !outcome-pop reply-push !outcome-pop reply-push outcome-pop";
 
 #[test]
 fn stages_that_have_to_push_first(rt: HostRuntime) {
-    let noted = [Noted::Batch(2), Noted::Pulse(5), Noted::Batch(1)];
-    assert_steps(&rt, STAGES_WITH_SOMETHING, &[], &noted, 6);
+    let entries = [
+        EntryKind::Batch(2),
+        EntryKind::Pulse(5),
+        EntryKind::Batch(1),
+    ];
+    assert_steps(&rt, STAGES_WITH_SOMETHING, &[], &entries, 6);
 }

@@ -1,10 +1,10 @@
 //! Worked examples, step by step.
 
 use super::assert_steps;
-use crate::tests::told::{Noted, Told};
+use crate::tests::outcomes::EntryKind;
 use std::alloc::Global;
 use std::process::Abort;
-use tb_test_makers::check;
+use tb_test_makers::{OutcomeKind, check};
 use tb_work::Refusal;
 use tb_world::World;
 
@@ -13,9 +13,9 @@ const ONE_PACKET: &str =
 
 #[test]
 fn world_one_packet(rt: HostRuntime) {
-    let told = [Told::Committed(0)];
-    let noted = [Noted::Batch(1)];
-    assert_steps(&rt, ONE_PACKET, &told, &noted, 1);
+    let kinds = [OutcomeKind::Committed(0)];
+    let entries = [EntryKind::Batch(1)];
+    assert_steps(&rt, ONE_PACKET, &kinds, &entries, 1);
 }
 
 const REFUSED_COMMIT: &str =
@@ -23,7 +23,7 @@ const REFUSED_COMMIT: &str =
 
 #[test]
 fn world_refused_commit(rt: HostRuntime) {
-    assert_steps(&rt, REFUSED_COMMIT, &[Told::Stopped], &[], 0);
+    assert_steps(&rt, REFUSED_COMMIT, &[OutcomeKind::Stopped], &[], 0);
 }
 
 const REFUSED_SECOND_COMMIT: &str =
@@ -33,9 +33,9 @@ batch-pop-refused batch-pop outcome-push outcome-pop reply-push outcome-pop repl
 
 #[test]
 fn world_refused_second_commit(rt: HostRuntime) {
-    let told = [Told::Committed(0), Told::Stopped];
-    let noted = [Noted::Batch(1)];
-    assert_steps(&rt, REFUSED_SECOND_COMMIT, &told, &noted, 1);
+    let kinds = [OutcomeKind::Committed(0), OutcomeKind::Stopped];
+    let entries = [EntryKind::Batch(1)];
+    assert_steps(&rt, REFUSED_SECOND_COMMIT, &kinds, &entries, 1);
 }
 
 const REFUSED_JOIN: &str =
@@ -45,9 +45,13 @@ batch-pop outcome-push outcome-pop reply-push 0:reply";
 
 #[test]
 fn world_refused_join(rt: HostRuntime) {
-    let told = [Told::Committed(0), Told::Stopped, Told::Stopped];
-    let noted = [Noted::Batch(1)];
-    assert_steps(&rt, REFUSED_JOIN, &told, &noted, 1);
+    let kinds = [
+        OutcomeKind::Committed(0),
+        OutcomeKind::Stopped,
+        OutcomeKind::Stopped,
+    ];
+    let entries = [EntryKind::Batch(1)];
+    assert_steps(&rt, REFUSED_JOIN, &kinds, &entries, 1);
 }
 
 /// The events of the example, and what they answer.
@@ -56,12 +60,12 @@ const WITH_CLOSE: &str =
 batch-push !batch-push batch-pop outcome-push batch-pop outcome-push batch-pop outcome-push
 outcome-pop reply-push outcome-pop reply-push outcome-pop !reply-push 0:reply 0:reply !0:reply";
 
-const WITH_CLOSE_TOLD: [Told; 2] = [Told::Committed(0), Told::Shutdown];
+const WITH_CLOSE_KINDS: [OutcomeKind; 2] = [OutcomeKind::Committed(0), OutcomeKind::Shutdown];
 
 #[test]
 fn world_with_close(rt: HostRuntime) {
-    let noted = [Noted::Batch(1)];
-    assert_steps(&rt, WITH_CLOSE, &WITH_CLOSE_TOLD, &noted, 1);
+    let entries = [EntryKind::Batch(1)];
+    assert_steps(&rt, WITH_CLOSE, &WITH_CLOSE_KINDS, &entries, 1);
 }
 
 /// Returns why a World isn't opened.

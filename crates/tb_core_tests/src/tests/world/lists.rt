@@ -3,12 +3,11 @@
 use super::{Step, answer};
 use crate::tests::made::Made;
 use crate::tests::push;
-use crate::tests::told::{Told, told_by};
 use std::alloc::Global;
 use std::process::Abort;
 use tb_core::{Entry, Ledger};
 use tb_layout::{CLOCK_MAX, CREATE_TRANSFERS, LOOKUP_ACCOUNTS, MOMENT_MAX};
-use tb_test_makers::check;
+use tb_test_makers::{OutcomeKind, check, kind_of};
 use tb_work::{Reply, Stub};
 use tb_world::World;
 
@@ -236,16 +235,16 @@ fn committed(rt: &(impl Abort + Alloc<A = Global>), journal: &[Entry]) -> Vec<Pu
 }
 
 /// Returns what becomes of a packet if this number of those ahead were committed.
-fn due(ahead: &[Pushed], committed: usize, packet: Pushed) -> Told {
+fn due(ahead: &[Pushed], committed: usize, packet: Pushed) -> OutcomeKind {
     for (place, one) in ahead.iter().enumerate() {
         if *one == packet && place < committed {
-            return Told::Committed(place as u64);
+            return OutcomeKind::Committed(place as u64);
         }
         if *one == packet {
-            return Told::Stopped;
+            return OutcomeKind::Stopped;
         }
     }
-    Told::Shutdown
+    OutcomeKind::Shutdown
 }
 
 /// Asserts that each reply is the one due: the submitter's next packet's, with its outcome.
@@ -253,7 +252,7 @@ fn assert_due(rt: &impl Abort, replies: &[Reply], sender: u32, ahead: &[Pushed],
     for (place, reply) in replies.iter().enumerate() {
         let number = place as u64;
         let wanted = due(ahead, committed, Pushed::Packet { sender, number });
-        let found = (reply.submitter, reply.number, told_by(reply));
+        let found = (reply.submitter, reply.number, kind_of(reply));
         check!(rt; found == (sender, number, wanted), number);
     }
 }

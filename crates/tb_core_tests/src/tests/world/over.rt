@@ -2,13 +2,13 @@
 
 use super::{Step, add_words, answer, play};
 use crate::tests::made::{Made, creating, first_transferring};
-use crate::tests::told::{Noted, SIX_PLACES, Told, assert_failures, assert_noted, assert_told};
+use crate::tests::outcomes::{EntryKind, assert_entries, assert_failures, assert_kinds};
 use std::alloc::Global;
 use std::process::Abort;
 use tb_core::Ledger;
 use tb_layout::{Failure, Transfer};
 use tb_tables::Status;
-use tb_test_makers::{account, check, transfer};
+use tb_test_makers::{OutcomeKind, SIX_PLACES, account, check, transfer};
 use tb_work::{Item, Job, Refusal, Ticket};
 use tb_world::{Event, World};
 
@@ -49,7 +49,7 @@ fn end_all(rt: &(impl Abort + Alloc<A = Global>), world: &mut World) {
 /// Asserts that a submitter received one reply, of a packet at a place, with these failures.
 fn assert_one(rt: &impl Abort, world: &World, sender: u32, place: u64, failures: &[Failure]) {
     let replies = world.received(sender);
-    assert_told(rt, replies, &[Told::Committed(place)]);
+    assert_kinds(rt, replies, &[OutcomeKind::Committed(place)]);
     assert_failures(rt, replies.first(), failures);
     check!(rt; replies.first().is_some_and(|reply| reply.number == 0));
 }
@@ -109,20 +109,20 @@ fn resolve_in_a_world(rt: &(impl Abort + Alloc<A = Global>), ledger: Ledger) -> 
     assert_one(rt, &world, 15, 2, &[]);
     assert_one(rt, &world, 0, 3, &[]);
     assert_one(rt, &world, 3, 5, &[Failure { index: 0, code: 35 }]);
-    assert_told(rt, world.received(1), &[]);
+    assert_kinds(rt, world.received(1), &[]);
     world.into_ledger().ok().expect(rt, "it is at rest")
 }
 
 /// Asserts the journal of both Worlds, and what became of the holds.
 fn assert_resolved(rt: &impl Abort, ledger: &Ledger) {
-    let noted = [
-        Noted::Batch(1),
-        Noted::Batch(1),
-        Noted::Batch(2),
-        Noted::Pulse(OVER),
-        Noted::Batch(1),
+    let entries = [
+        EntryKind::Batch(1),
+        EntryKind::Batch(1),
+        EntryKind::Batch(2),
+        EntryKind::Pulse(OVER),
+        EntryKind::Batch(1),
     ];
-    assert_noted(rt, ledger.journal(), &noted);
+    assert_entries(rt, ledger.journal(), &entries);
     let machine = ledger.machine();
     check!(rt; machine.clock() == OVER + 1);
     check!(rt; machine.status(1) == Some(Status::Posted));
@@ -184,7 +184,7 @@ fn world_that_holds_something_keeps_its_ledger(rt: HostRuntime) {
         &mut world,
         "pop pop batch-push batch-pop outcome-push outcome-pop",
     );
-    assert_told(&rt, world.received(0), &[Told::Committed(0)]);
+    assert_kinds(&rt, world.received(0), &[OutcomeKind::Committed(0)]);
     let ledger = world.into_ledger().ok().expect(&rt, "it is at rest");
     check!(&rt; ledger.places() == 1);
     drop(ledger);
@@ -228,8 +228,8 @@ fn go_through_and_finish(rt: &impl Abort, alloc: Global, world: &mut World) -> b
     }
     check!(rt; world.is_at_rest());
     let replies = world.received(0);
-    let told = SIX_PLACES.get(..replies.len()).expect(rt, "six at most");
-    assert_told(rt, replies, told);
+    let kinds = SIX_PLACES.get(..replies.len()).expect(rt, "six at most");
+    assert_kinds(rt, replies, kinds);
     gone && replies.len() == 6
 }
 

@@ -2,14 +2,12 @@
 
 use super::{Step, add_step, add_words};
 use crate::tests::made::{Made, creating, transferring};
-use crate::tests::told::{
-    Noted, SIX_PLACES, Told, assert_failures, assert_noted, assert_told, told_by,
-};
+use crate::tests::outcomes::{EntryKind, assert_entries, assert_failures, assert_kinds};
 use std::alloc::Global;
 use std::process::Abort;
 use std::slice;
 use tb_layout::{Account, CLOCK_MAX, Failure, Transfer};
-use tb_test_makers::{account, check, transfer};
+use tb_test_makers::{OutcomeKind, SIX_PLACES, account, check, kind_of, transfer};
 use tb_work::{Item, Job, Refusal, Ticket};
 use tb_world::{Event, World, run_to_rest, run_world};
 
@@ -41,9 +39,13 @@ fn run_pulsed(rt: &impl Abort, alloc: Global) -> bool {
     }
     match run_world(alloc, 0, 4, 1, events) {
         Ok(world) => {
-            assert_told(rt, world.received(0), &SIX_PLACES);
-            let noted = [Noted::Batch(2), Noted::Pulse(5), Noted::Batch(4)];
-            assert_noted(rt, world.ledger().journal(), &noted);
+            assert_kinds(rt, world.received(0), &SIX_PLACES);
+            let entries = [
+                EntryKind::Batch(2),
+                EntryKind::Pulse(5),
+                EntryKind::Batch(4),
+            ];
+            assert_entries(rt, world.ledger().journal(), &entries);
             check!(rt; world.ledger().machine().clock() == 9);
             drop(world);
             true
@@ -115,15 +117,19 @@ const CHAIN_FAILURES: [Failure; 3] = [
 /// Asserts what the example says.
 fn assert_joined(rt: &impl Abort, world: &World) {
     let replies = world.received(0);
-    let told = [Told::Committed(0), Told::Committed(1), Told::Committed(2)];
-    assert_told(rt, replies, &told);
+    let kinds = [
+        OutcomeKind::Committed(0),
+        OutcomeKind::Committed(1),
+        OutcomeKind::Committed(2),
+    ];
+    assert_kinds(rt, replies, &kinds);
     assert_failures(rt, replies.first(), &[]);
     assert_failures(rt, replies.get(1), &CHAIN_FAILURES);
     assert_failures(rt, replies.get(2), &[Failure { index: 0, code: 54 }]);
-    assert_noted(
+    assert_entries(
         rt,
         world.ledger().journal(),
-        &[Noted::Batch(1), Noted::Batch(2)],
+        &[EntryKind::Batch(1), EntryKind::Batch(2)],
     );
     assert_untouched(rt, world);
 }
@@ -194,10 +200,10 @@ fn sixteen_submitters(rt: HostRuntime) {
     let events = sixteen_events(&rt);
     let world = run_world(rt.alloc(), 0, 4, 16, events).expect(&rt, "memory");
     for sender in 0..16 {
-        let told = [Told::Committed(u64::from(sender))];
-        assert_told(&rt, world.received(sender), &told);
+        let kinds = [OutcomeKind::Committed(u64::from(sender))];
+        assert_kinds(&rt, world.received(sender), &kinds);
     }
-    assert_noted(&rt, world.ledger().journal(), &[Noted::Batch(4); 4]);
+    assert_entries(&rt, world.ledger().journal(), &[EntryKind::Batch(4); 4]);
     check!(&rt; world.ledger().machine().clock() == 16);
     drop(world);
 }
@@ -250,13 +256,17 @@ fn a_thousand_replies_and_many_pulses(rt: HostRuntime) {
     let replies = world.received(0);
     check!(&rt; replies.len() as u64 == EMPTY);
     for (place, reply) in replies.iter().enumerate() {
-        check!(&rt; told_by(reply) == Told::Committed(place as u64));
+        check!(&rt; kind_of(reply) == OutcomeKind::Committed(place as u64));
     }
     let journal = world.ledger().journal();
     check!(&rt; journal.len() as u64 == PULSES + 1);
-    assert_noted(&rt, &journal[..1], &[Noted::Batch(EMPTY as usize)]);
+    assert_entries(&rt, &journal[..1], &[EntryKind::Batch(EMPTY as usize)]);
     for (moment, entry) in journal[1..].iter().enumerate() {
-        assert_noted(&rt, slice::from_ref(entry), &[Noted::Pulse(moment as u64)]);
+        assert_entries(
+            &rt,
+            slice::from_ref(entry),
+            &[EntryKind::Pulse(moment as u64)],
+        );
     }
     check!(&rt; world.ledger().machine().clock() == PULSES - 1);
     drop(world);
@@ -271,7 +281,7 @@ fn pushes_come_to_rest(rt: HostRuntime) {
     let mut events = Vec::new(rt.alloc());
     check!(&rt; add_words(&rt, rt.alloc(), &mut events, PUSHES));
     let world = run_to_rest(rt.alloc(), 0, 4, 1, events).expect(&rt, "memory");
-    assert_told(&rt, world.received(0), &SIX_PLACES);
+    assert_kinds(&rt, world.received(0), &SIX_PLACES);
     drop(world);
 }
 
@@ -314,7 +324,7 @@ fn ten_thousand_packets_come_to_rest(rt: HostRuntime) {
         let pushed = if sender == 0 { OF_THE_FIRST } else { EACH };
         check!(&rt; replies.len() as u64 == pushed);
         for (number, reply) in replies.iter().enumerate() {
-            check!(&rt; told_by(reply) == Told::Committed(place_in_turns(number as u64, sender)));
+            check!(&rt; kind_of(reply) == OutcomeKind::Committed(place_in_turns(number as u64, sender)));
         }
     }
     check!(&rt; world.ledger().machine().clock() == 7);

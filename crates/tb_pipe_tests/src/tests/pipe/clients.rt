@@ -5,7 +5,7 @@ ghost use Rattle.tb_submit.specs.clauses.Ends.{control_seat, origin_of};
 ghost use Rattle.tb_pipe_tests.specs.inside.Together.{AreTogether};
 
 use super::{
-    Lone, Told, assert_run, end_control, lone_of, opened, packet_of, put, room_for_ends, told_by,
+    Lone, assert_run, end_control, lone_of, opened, outcome_kind, packet_of, put, room_for_ends,
 };
 use std::alloc::Global;
 use std::process::Abort;
@@ -16,7 +16,7 @@ use tb_blocking::Client;
 use tb_drive::Stop;
 use tb_layout::CREATE_ACCOUNTS;
 use tb_pipe::{Open, Report, settle};
-use tb_test_makers::check;
+use tb_test_makers::{OutcomeKind, check};
 use tb_work::Refusal;
 
 /// Opens a pipeline for one submitter, whose queue has one slot.
@@ -48,11 +48,11 @@ pub(super) fn submit<R: Wait + Abort>(
 }
 
 /// Waits for the next reply, and returns its packet's place.
-pub(super) fn receive<R: Wait>(rt: &R, client: &mut Client<'_>) -> Option<Told>
+pub(super) fn receive<R: Wait>(rt: &R, client: &mut Client<'_>) -> Option<OutcomeKind>
     ensures { origin_of client.new ≡ origin_of client.old }
 {
     match client.receive(rt) {
-        Some(reply) => Some(told_by(reply)),
+        Some(reply) => Some(outcome_kind(reply)),
         None => None,
     }
 }
@@ -63,12 +63,12 @@ pub(super) fn exchange<R: Wait + Abort>(
     alloc: Global,
     client: &mut Client<'_>,
     id: u8,
-) -> Result<Option<Told>, Refusal>
+) -> Result<Option<OutcomeKind>, Refusal>
     ensures { origin_of client.new ≡ origin_of client.old }
 {
     let packet = packet_of(alloc, CREATE_ACCOUNTS, id).expect(rt, "memory");
     match client.exchange(rt, alloc, packet) {
-        Ok(Some(reply)) => Ok(Some(told_by(reply))),
+        Ok(Some(reply)) => Ok(Some(outcome_kind(reply))),
         Ok(None) => Ok(None),
         Err((packet, refusal)) => {
             drop(packet);
@@ -86,10 +86,10 @@ fn trade<R: Wait + Abort>(rt: &R, alloc: Global, client: &mut Client<'_>)
         check!(rt; submit(rt, alloc, client, id) == Ok(number));
         check!(rt; submit(rt, alloc, client, 9) == Err(Refusal::InFlight));
         check!(rt; exchange(rt, alloc, client, 9) == Err(Refusal::InFlight));
-        check!(rt; receive(rt, client) == Some(Told::Committed(number)));
+        check!(rt; receive(rt, client) == Some(OutcomeKind::Committed(number)));
     }
     check!(rt; receive(rt, client).is_none());
-    check!(rt; exchange(rt, alloc, client, 4) == Ok(Some(Told::Committed(3))));
+    check!(rt; exchange(rt, alloc, client, 4) == Ok(Some(OutcomeKind::Committed(3))));
 }
 
 /// Serves a client that trades in a thread of its own. The control's end is in the queue's only slot until then.

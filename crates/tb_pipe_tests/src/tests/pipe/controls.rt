@@ -6,7 +6,7 @@ ghost use Rattle.tb_pipe_tests.specs.inside.Together.{AreTogether};
 
 use super::clients::open_narrow;
 use super::{
-    Ends, Lone, Told, assert_entries, assert_run, end_one, finish_started, open_lone, queue,
+    Ends, Lone, assert_entries, assert_run, end_one, finish_started, open_lone, queue,
     room_for_ends,
 };
 use std::alloc::Global;
@@ -19,7 +19,7 @@ use tb_drive::Stop;
 use tb_layout::CREATE_ACCOUNTS;
 use tb_pipe::{Open, Pipeline, Report, settle};
 use tb_submit::{Control, ControlEnd, Ended};
-use tb_test_makers::check;
+use tb_test_makers::{OutcomeKind, check};
 use tb_work::Refusal;
 
 /// More nanoseconds than a pulse may have.
@@ -141,7 +141,7 @@ fn serve_shut<R: Threads + Wait + Sync + Abort>(rt: &R, alloc: Global, lone: Lon
 fn control_that_shuts_in_a_thread(rt: HostRuntime) {
     let lone = open_lone(&rt, rt.alloc(), 4, 4, 1);
     let report = serve_shut(&rt, rt.alloc(), lone);
-    assert_run(&rt, report, 0, &[Told::Shutdown]);
+    assert_run(&rt, report, 0, &[OutcomeKind::Shutdown]);
 }
 
 /// Gives up a run that nobody serves, while a pulse is in the queue's only slot. The next pulse is refused, and the control can't end.

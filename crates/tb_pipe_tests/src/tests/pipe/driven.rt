@@ -6,7 +6,7 @@ ghost use Rattle.tb_pipe_tests.specs.inside.Together.{AreTogether, IsRun};
 
 use super::gates::Counted;
 use super::{
-    Lone, MOST_TURNS, Told, clock, end_all, opened, packet_of, put, queue, submit, told_by,
+    Lone, MOST_TURNS, clock, end_all, opened, outcome_kind, packet_of, put, queue, submit,
 };
 use std::alloc::Global;
 use std::process::Abort;
@@ -17,7 +17,7 @@ use std::thread::{Promise, Threads};
 use tb_layout::{CREATE_ACCOUNTS, CREATE_TRANSFERS};
 use tb_pipe::{Opened, Pipeline, Report, settle};
 use tb_submit::{Control, ControlEnd, Ended, Submitter};
-use tb_test_makers::check;
+use tb_test_makers::{OutcomeKind, check};
 use tb_work::{Packet, Refusal};
 
 /// How often a reply is looked for that the gate holds back.
@@ -41,11 +41,11 @@ pub(super) enum Course {
 #[derive(Clone, Copy, PartialEq, Eq)]
 pub(super) enum Saw {
     /// Two replies, and why the packet after them was refused.
-    Replies(Option<Told>, Option<Told>, Option<Refusal>),
+    Replies(Option<OutcomeKind>, Option<OutcomeKind>, Option<Refusal>),
     /// So many replies, the first committed at place 0 and each of the others at the next place.
     Indices(u64),
     /// Of two batches: whether a reply came while it was held, and the reply that came then.
-    Held([(bool, Option<Told>); 2]),
+    Held([(bool, Option<OutcomeKind>); 2]),
 }
 
 /// The ends of one submitter and of the control, and what their driver saw.
@@ -106,12 +106,12 @@ fn end_control<R: Wait>(rt: &R, control: Control, shut: bool) -> ControlEnd
 }
 
 /// Returns the next reply; None if it doesn't come in this number of turns.
-fn reply_within(submitter: &mut Submitter, turns: u32) -> Option<Told>
+fn reply_within(submitter: &mut Submitter, turns: u32) -> Option<OutcomeKind>
     ensures { origin_of submitter.new ≡ origin_of submitter.old }
 {
     for _ in 0..turns {
         if let Some(reply) = submitter.reply() {
-            return Some(told_by(reply));
+            return Some(outcome_kind(reply));
         }
         thread::yield_now();
     }
@@ -119,14 +119,19 @@ fn reply_within(submitter: &mut Submitter, turns: u32) -> Option<Told>
 }
 
 /// Returns the next reply; None if it doesn't come in time.
-fn wait_for_reply(submitter: &mut Submitter) -> Option<Told>
+fn wait_for_reply(submitter: &mut Submitter) -> Option<OutcomeKind>
     ensures { origin_of submitter.new ≡ origin_of submitter.old }
 {
     reply_within(submitter, MOST_TURNS)
 }
 
 /// Queues a packet with this account and waits for its reply.
-fn round<R: Wait + Abort>(rt: &R, alloc: Global, submitter: &mut Submitter, id: u8) -> Option<Told>
+fn round<R: Wait + Abort>(
+    rt: &R,
+    alloc: Global,
+    submitter: &mut Submitter,
+    id: u8,
+) -> Option<OutcomeKind>
     ensures { origin_of submitter.new ≡ origin_of submitter.old }
 {
     let packet = packet_of(alloc, CREATE_ACCOUNTS, id).ok()?;
@@ -150,7 +155,7 @@ fn read_one(submitter: &mut Submitter, next: &mut u64)
     ensures { origin_of submitter.new ≡ origin_of submitter.old }
 {
     if let Some(reply) = submitter.reply() {
-        if told_by(reply) == Told::Committed(*next) {
+        if outcome_kind(reply) == OutcomeKind::Committed(*next) {
             *next = next.wrapping_add(1);
         }
     }
@@ -189,14 +194,14 @@ fn submit_fifty<R: Wait + Abort>(rt: &R, alloc: Global, submitter: &mut Submitte
             submit_trying(rt, alloc, submitter, packet, &mut next);
         }
     }
-    if wait_for_reply(submitter) == Some(Told::Committed(next)) {
+    if wait_for_reply(submitter) == Some(OutcomeKind::Committed(next)) {
         next = next.wrapping_add(1);
     }
     next
 }
 
 /// Returns whether a reply comes while the gate holds a batch, and the next reply once it lets that through.
-fn hold(submitter: &mut Submitter, gate: &Counted, batch: u64) -> (bool, Option<Told>)
+fn hold(submitter: &mut Submitter, gate: &Counted, batch: u64) -> (bool, Option<OutcomeKind>)
     ensures { origin_of submitter.new ≡ origin_of submitter.old }
 {
     gate.wait_until_asked(batch);
@@ -403,8 +408,8 @@ fn assert_driven<R: Threads + Wait + Sync + Abort>(
 #[test]
 fn close_between_two_packets(rt: HostRuntime) {
     let wanted = Saw::Replies(
-        Some(Told::Committed(0)),
-        Some(Told::Shutdown),
+        Some(OutcomeKind::Committed(0)),
+        Some(OutcomeKind::Shutdown),
         Some(Refusal::Shutdown),
     );
     for submitters in [1, 2, 16] {
@@ -426,8 +431,8 @@ fn one_place_one_credit(rt: HostRuntime) {
 fn held_by_the_gate(rt: HostRuntime) {
     let driving = opened_driving(&rt, rt.alloc(), 64, 64, 1);
     let wanted = Saw::Held([
-        (false, Some(Told::Committed(0))),
-        (false, Some(Told::Committed(1))),
+        (false, Some(OutcomeKind::Committed(0))),
+        (false, Some(OutcomeKind::Committed(1))),
     ]);
     assert_driven(&rt, rt.alloc(), driving, Course::Held, wanted, 1, 2);
 }

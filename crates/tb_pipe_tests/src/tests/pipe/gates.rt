@@ -1,7 +1,7 @@
 //! What the gate sees: batches sealed ahead of their commits, and both stages at once.
 
 use super::queued::{Step, run_queued};
-use super::{MOST_TURNS, Told, assert_run};
+use super::{MOST_TURNS, assert_run};
 use std::alloc::Global;
 use std::process::Abort;
 use std::sync::Wait;
@@ -11,7 +11,7 @@ use std::thread;
 use std::thread::Threads;
 use tb_layout::{CREATE_ACCOUNTS, CREATE_TRANSFERS};
 use tb_pipe::Gate;
-use tb_test_makers::check;
+use tb_test_makers::{OutcomeKind, check};
 
 /// Gives way until a counter has reached a number; false if it doesn't in time.
 fn waits_for(counter: &AtomicU64, number: u64) -> bool {
@@ -179,7 +179,7 @@ fn batcher_and_committer_overlap(rt: HostRuntime) {
     let gate = Meeting::new(2, true);
     let report = run_queued(&rt, rt.alloc(), &EMPTY, false, &[], &gate);
     check!(&rt; !gate.marked.load(SeqCst));
-    let places = [Told::Committed(0), Told::Committed(1)];
+    let places = [OutcomeKind::Committed(0), OutcomeKind::Committed(1)];
     assert_run(&rt, report, 0, &places);
 }
 
@@ -192,12 +192,12 @@ fn twenty_in_turn() -> [Step; 20] {
     steps
 }
 
-fn twenty_places() -> [Told; 20] {
-    let mut told = [Told::Stopped; 20];
+fn twenty_places() -> [OutcomeKind; 20] {
+    let mut kinds = [OutcomeKind::Stopped; 20];
     for place in 0..20usize {
-        told[place] = Told::Committed(place as u64);
+        kinds[place] = OutcomeKind::Committed(place as u64);
     }
-    told
+    kinds
 }
 
 /// Asserts that this number of batches is sealed while batch 0 is held.
@@ -239,7 +239,12 @@ fn assert_asked<R: Threads + Wait + Sync + Abort>(rt: &R, alloc: Global, yes_at:
     let gate = Notes::new(yes_at);
     let report = run_queued(rt, alloc, &steps, false, &[], &gate);
     check!(rt; gate.sealed.load(SeqCst) == 12 && gate.asked.load(SeqCst) == asked);
-    assert_run(rt, report, 6, &[Told::Committed(0), Told::Committed(2)]);
+    assert_run(
+        rt,
+        report,
+        6,
+        &[OutcomeKind::Committed(0), OutcomeKind::Committed(2)],
+    );
 }
 
 /// Each batch is asked for once, and the pulse isn't.
@@ -260,6 +265,6 @@ fn sealed_after_the_push(rt: HostRuntime) {
     let gate = Meeting::new(1, true);
     let report = run_queued(&rt, rt.alloc(), &EMPTY, false, &[], &gate);
     check!(&rt; !gate.marked.load(SeqCst));
-    let places = [Told::Committed(0), Told::Committed(1)];
+    let places = [OutcomeKind::Committed(0), OutcomeKind::Committed(1)];
     assert_run(&rt, report, 0, &places);
 }

@@ -9,7 +9,7 @@ ghost use Rattle.tb_pipe_tests.specs.inside.Together.{AreTogether};
 use super::driven::{Course, Driving, Saw, drive_lone, run};
 use super::gates::Counted;
 use super::{
-    Ends, Lone, Told, clock, end_control, end_one, finish, next_told, opened_lone, packet_of,
+    Ends, Lone, clock, end_control, end_one, finish, next_kind, opened_lone, packet_of,
     queue_pulse, room_for_ends, submit,
 };
 use std::alloc::Global;
@@ -19,18 +19,18 @@ use std::thread::Threads;
 use tb_layout::{CREATE_ACCOUNTS, NoMemory};
 use tb_pipe::{Open, Report};
 use tb_submit::{Control, Ended, Intake, Submitter};
-use tb_test_makers::check;
+use tb_test_makers::{OutcomeKind, check};
 use tb_work::{Item, Refusal, Ticket};
 
 /// Returns a pipeline of one submitter, opened again if memory ran out, and whether it did.
-fn open_again(rt: &impl Abort, alloc: Global, told: &mut bool) -> Result<Lone, Refusal>
+fn open_again(rt: &impl Abort, alloc: Global, was_refused: &mut bool) -> Result<Lone, Refusal>
     ensures { IfOk result (λ lone. AreTogether lone.pipeline (lone.submitter ∷ []) lone.control) }
 {
     match opened_lone(alloc, 4, 64, 64) {
         Ok(lone) => Ok(lone),
         Err(refusal) => {
             check!(rt; refusal == Refusal::NoMemory);
-            *told = true;
+            *was_refused = true;
             opened_lone(alloc, 4, 64, 64)
         }
     }
@@ -123,25 +123,25 @@ fn ten_tickets<R: Wait>(rt: &R, intake: &mut Intake) -> [Option<(u32, ParsedScri
 }
 
 /// Returns the first seven replies to submitter 0.
-fn seven_replies(report: &mut Report) -> [Option<Told>; 7] {
+fn seven_replies(report: &mut Report) -> [Option<OutcomeKind>; 7] {
     let mut replies = [None; 7];
     if let Some(ended) = report.ends.get_mut(0) {
         for k in 0..7usize {
-            replies[k] = next_told(ended);
+            replies[k] = next_kind(ended);
         }
     }
     replies
 }
 
 /// Returns the replies to the six packets of the seven items, if this number is committed.
-fn replies_where(committed: u64) -> [Option<Told>; 7] {
+fn replies_where(committed: u64) -> [Option<OutcomeKind>; 7] {
     let mut replies = [None; 7];
     let places = [0, 1, 3, 4, 5, 6];
     for k in 0..6usize {
         replies[k] = Some(if places[k] < committed {
-            Told::Committed(places[k])
+            OutcomeKind::Committed(places[k])
         } else {
-            Told::Stopped
+            OutcomeKind::Stopped
         });
     }
     replies
@@ -151,9 +151,9 @@ fn replies_where(committed: u64) -> [Option<Told>; 7] {
 const CLOCKS: [u64; 8] = [0, 1, 2, 5, 6, 7, 8, 9];
 
 /// Asserts that some of the seven items are committed, and all of them unless a stop was reported.
-fn assert_seven(rt: &impl Abort, report: &mut Report, told: bool) {
+fn assert_seven(rt: &impl Abort, report: &mut Report, was_refused: bool) {
     let committed = report.ledger.places();
-    check!(rt; committed < 7 && !told || committed == 7);
+    check!(rt; committed < 7 && !was_refused || committed == 7);
     check!(rt; clock(report) == CLOCKS[committed as usize]);
     check!(rt; seven_replies(report) == replies_where(committed));
 }
@@ -169,14 +169,14 @@ fn assert_each_growth<R: Threads + Wait + Sync + Abort>(
     rt: &R,
     lone: Lone,
     room: Vec<Ended>,
-    told: bool,
+    was_refused: bool,
 )
     requires together { AreTogether lone.pipeline (lone.submitter ∷ []) lone.control }
     requires none { room.items ≡ [] }
 {
     match serve_seven(rt, lone, room) {
         Ok(mut report) => {
-            assert_seven(rt, &mut report, told);
+            assert_seven(rt, &mut report, was_refused);
             drop(report);
         }
         Err((mut intake, refusal)) => {
@@ -188,11 +188,11 @@ fn assert_each_growth<R: Threads + Wait + Sync + Abort>(
 
 #[test]
 fn each_growth_refused_memory(rt: HostRuntime) -> Result<(), Refusal> {
-    let mut told = false;
-    let mut lone = open_again(&rt, rt.alloc(), &mut told)?;
+    let mut was_refused = false;
+    let mut lone = open_again(&rt, rt.alloc(), &mut was_refused)?;
     let queued = queue_seven(&rt, rt.alloc(), &mut lone.submitter, &mut lone.control);
     match (queued, room_for_ends(rt.alloc())) {
-        (Ok(()), Ok(room)) => assert_each_growth(&rt, lone, room, told),
+        (Ok(()), Ok(room)) => assert_each_growth(&rt, lone, room, was_refused),
         _ => return Err(Refusal::NoMemory),
     }
     Ok(())
@@ -263,7 +263,7 @@ fn first_commit_refused_memory(rt: HostRuntime) -> Result<(), Refusal> {
 }
 
 const ALL_STOPPED: Saw = Saw::Replies(
-    Some(Told::Stopped),
-    Some(Told::Stopped),
+    Some(OutcomeKind::Stopped),
+    Some(OutcomeKind::Stopped),
     Some(Refusal::Stopped),
 );

@@ -6,7 +6,7 @@ ghost use Rattle.tb_submit.specs.clauses.Ends.{origin_of};
 use super::clients::{exchange, open_narrow, receive, submit};
 use super::controls::pulse;
 use super::stops::{ask_later, give_way};
-use super::{Lone, Told, opened};
+use super::{Lone, opened};
 use crate::tests::in_time;
 use std::alloc::Global;
 use std::process::Abort;
@@ -17,7 +17,7 @@ use tb_blocking::{Client, ControlClient};
 use tb_drive::Stop;
 use tb_pipe::{Open, Opened};
 use tb_submit::Control;
-use tb_test_makers::check;
+use tb_test_makers::{OutcomeKind, check};
 
 /// What sixteen clients and the control do.
 #[derive(Clone, Copy)]
@@ -40,7 +40,7 @@ fn trade_one<R: Wait + Abort>(rt: &R, alloc: Global, client: &mut Client<'_>, nu
     } else {
         None
     };
-    matches!(reply, Some(Told::Committed(_)))
+    matches!(reply, Some(OutcomeKind::Committed(_)))
 }
 
 /// Queues packets, which are all committed unless the run is given up.

@@ -1,8 +1,6 @@
 //! Openings and submissions that are refused, before anything is served.
 
-use super::{
-    Told, answer_to, assert_run, finish_lone, look_of, open_lone, opened, packet_of, submit,
-};
+use super::{answer_to, assert_run, finish_lone, look_of, open_lone, opened, packet_of, submit};
 use std::alloc::Global;
 use std::process::Abort;
 use std::sync::Wait;
@@ -10,7 +8,7 @@ use tb_core::Ledger;
 use tb_layout::{CLOCK_MAX, CREATE_ACCOUNTS};
 use tb_pipe::{Open, Opened, Options, open, submit_ahead};
 use tb_submit::Submitter;
-use tb_test_makers::check;
+use tb_test_makers::{OutcomeKind, check};
 use tb_work::Refusal;
 
 /// Returns why an opening with a credit of 4 is refused.
@@ -118,7 +116,7 @@ fn serves_over_a_new_ledger(rt: HostRuntime) {
     let mut lone = open_lone(&rt, rt.alloc(), 4, 4, 4);
     lone.pipeline = lone.pipeline.with_ledger(ledger);
     let report = finish_lone(&rt, rt.alloc(), lone, false, &[1], &Open);
-    assert_run(&rt, report, 6, &[Told::Committed(0)]);
+    assert_run(&rt, report, 6, &[OutcomeKind::Committed(0)]);
 }
 
 /// The credit is looked at after the packet's operation.

@@ -6,8 +6,8 @@ ghost use Rattle.tb_core.specs.claim.Ledger.{new_ledger};
 ghost use Rattle.tb_pipe_tests.specs.inside.Together.{AreTogether, IsRun};
 
 use super::{
-    Ends, Told, answer_to, assert_entries, assert_report, assert_run, end_all, end_control,
-    finish_lone, finish_started, open_lone, opened, queue, queue_pulse,
+    Ends, answer_to, assert_entries, assert_report, assert_run, end_all, end_control, finish_lone,
+    finish_started, open_lone, opened, queue, queue_pulse,
 };
 use std::alloc::Global;
 use std::process::Abort;
@@ -16,7 +16,7 @@ use std::thread::Threads;
 use tb_layout::CREATE_ACCOUNTS;
 use tb_pipe::{Gate, Open, Opened, Report};
 use tb_submit::{Control, Submitter};
-use tb_test_makers::check;
+use tb_test_makers::{OutcomeKind, SIX_PLACES, check};
 use tb_work::Refusal;
 
 /// What is queued ahead of the control's end.
@@ -73,15 +73,6 @@ const TWO_AND_FOUR: [Step; 7] = [
     Step::Packet(CREATE_ACCOUNTS, 6),
 ];
 
-const SIX_PLACES: [Told; 6] = [
-    Told::Committed(0),
-    Told::Committed(1),
-    Told::Committed(3),
-    Told::Committed(4),
-    Told::Committed(5),
-    Told::Committed(6),
-];
-
 /// Two packets are joined before the pulse, and four after it.
 #[test]
 fn pulse_between_batches(rt: HostRuntime) {
@@ -97,7 +88,12 @@ fn packet_behind_shut(rt: HostRuntime) {
     let ahead = [Step::Packet(CREATE_ACCOUNTS, 1)];
     let report = run_queued(&rt, rt.alloc(), &ahead, true, &[2], &Open);
     check!(&rt; report.ledger.machine().accounts() == 1);
-    assert_run(&rt, report, 1, &[Told::Committed(0), Told::Shutdown]);
+    assert_run(
+        &rt,
+        report,
+        1,
+        &[OutcomeKind::Committed(0), OutcomeKind::Shutdown],
+    );
 }
 
 const SIX_IDS: [u8; 6] = [1, 2, 3, 4, 5, 6];
@@ -118,21 +114,21 @@ fn closes_after<R: Threads + Wait + Sync + Abort>(rt: &R, alloc: Global, count: 
 }
 
 /// Returns the replies if this number of six packets is ahead of the Close.
-fn told_where(count: usize) -> [Told; 6] {
-    let mut told = [Told::Shutdown; 6];
+fn kinds_if_ahead(count: usize) -> [OutcomeKind; 6] {
+    let mut kinds = [OutcomeKind::Shutdown; 6];
     for k in 0..6usize {
         if k < count {
-            told[k] = Told::Committed(k as u64);
+            kinds[k] = OutcomeKind::Committed(k as u64);
         }
     }
-    told
+    kinds
 }
 
 #[test]
 fn close_anywhere(rt: HostRuntime) {
     for count in 0..7usize {
         let report = closes_after(&rt, rt.alloc(), count);
-        assert_run(&rt, report, count as u64, &told_where(count));
+        assert_run(&rt, report, count as u64, &kinds_if_ahead(count));
     }
 }
 
@@ -163,8 +159,12 @@ fn three_unread<R: Threads + Wait + Sync + Abort>(rt: &R, alloc: Global) -> Repo
 #[test]
 fn replies_after_settle(rt: HostRuntime) {
     let report = three_unread(&rt, rt.alloc());
-    let told = [Told::Committed(0), Told::Committed(1), Told::Committed(2)];
-    assert_run(&rt, report, 3, &told);
+    let kinds = [
+        OutcomeKind::Committed(0),
+        OutcomeKind::Committed(1),
+        OutcomeKind::Committed(2),
+    ];
+    assert_run(&rt, report, 3, &kinds);
 }
 
 /// Has each submitter queue a packet with the account after its number, and returns them.
@@ -225,8 +225,8 @@ fn sixteen_submitters(rt: HostRuntime) {
     let mut report = one_of_each(&rt, rt.alloc());
     assert_entries(&rt, &report, &[4, 4, 4, 4]);
     for sender in 0..16u8 {
-        let told = [Told::Committed(u64::from(sender))];
-        assert_report(&rt, &mut report, 16, usize::from(sender), &told);
+        let kinds = [OutcomeKind::Committed(u64::from(sender))];
+        assert_report(&rt, &mut report, 16, usize::from(sender), &kinds);
     }
     drop(report);
 }

@@ -4,7 +4,7 @@ ghost use Rattle.std.specs.Prelude.{◌≡◌};
 ghost use Rattle.tb_submit.specs.clauses.Ends.{origin_of};
 
 use super::clients::{open_narrow, receive, submit};
-use super::{Lone, Told, end_control, opened, packet_of};
+use super::{Lone, end_control, opened, packet_of};
 use crate::tests::in_time;
 use std::alloc::Global;
 use std::process::Abort;
@@ -18,7 +18,7 @@ use tb_drive::Stop;
 use tb_layout::CREATE_ACCOUNTS;
 use tb_pipe::{Gate, Opened};
 use tb_submit::Submitter;
-use tb_test_makers::check;
+use tb_test_makers::{OutcomeKind, check};
 
 /// How often a thread yields before it gives a run up, while others go to sleep.
 const SLEEP_TURNS: u32 = 10_000;
@@ -30,9 +30,9 @@ const MOST_PACKETS: u32 = 100_000;
 fn waits_in_vain<R: Wait + Abort>(rt: &R, alloc: Global, client: Client<'_>) -> bool {
     let mut client = client;
     check!(rt; submit(rt, alloc, &mut client, 1) == Ok(0));
-    let told: Option<Told> = receive(rt, &mut client);
+    let kind: Option<OutcomeKind> = receive(rt, &mut client);
     drop(client);
-    told.is_none()
+    kind.is_none()
 }
 
 /// Gives a run up while its clients sleep. Returns how many were woken without a reply.

@@ -1,18 +1,18 @@
 use Rattle.std.proofs.Common.{◌∙◌, sym, ap, Ok}
 use Rattle.tb_tables.proofs.Words.{contents_in}
-use Rattle.tb_tables.proofs.LookUps.{told-new-account}
+use Rattle.tb_tables.proofs.LookUps.{new-account-by-id}
 use Rattle.tb_tables.proofs.UndoList.{account-made}
 use Rattle.tb_tables.proofs.tables.Tables.insert_account.Goals as goal
 
 pub returns-then-not-branch-clause-new : goal.returns-then-not-branch-clause-new
 returns-then-not-branch-clause-new c =
     rw (← c.self.view_is) (sym c.if-not-branch.true ∙ c.in_ok-push_account.ensures.new
-    ∙ told-new-account c.self.invariant.consistent.hold c.args.event.now.id)
+    ∙ new-account-by-id c.self.invariant.consistent.hold c.args.event.now.id)
 
 pub returns-clause-new : goal.returns-clause-new
 returns-clause-new c =
     rw (← c.self.view_is) (sym c.if-not-branch.false ∙ c.in_ok-push_account.ensures.new
-    ∙ told-new-account c.self.invariant.consistent.hold c.args.event.now.id)
+    ∙ new-account-by-id c.self.invariant.consistent.hold c.args.event.now.id)
 
 pub invariant_of-self-2 : goal.invariant_of-self-2
 invariant_of-self-2 c =

@@ -1,6 +1,6 @@
 use Rattle.std.proofs.Common.{◌∙◌, ap, not, ◌&&◌}
 use Rattle.tb_tables.proofs.Words.{facts_of, its_pair, contents_in, stamped}
-use Rattle.tb_tables.proofs.LookUps.{is-done, isn't-done, told-new, transfers-length}
+use Rattle.tb_tables.proofs.LookUps.{is-done, isn't-done, new-by-id, transfers-length}
 use Rattle.tb_tables.proofs.StoredTransfers as stepping
 use Rattle.tb_tables.proofs.UndoList.{transfer-made, same-kept}
 use Rattle.tb_tables.proofs.tables.Tables.store.Goals as goal
@@ -53,10 +53,10 @@ invariant_of-self-else-eq c =
 
 pub returns-then-eq-clause-new : goal.returns-then-eq-clause-new
 returns-then-eq-clause-new c =
-    rw (← c.self.view_is) (rw (told-new c.self.invariant.consistent.hold c.args.event.now.id) at
+    rw (← c.self.view_is) (rw (new-by-id c.self.invariant.consistent.hold c.args.event.now.id) at
     c.push-added.ensures.new)
 
 pub returns-else-eq-clause-new : goal.returns-else-eq-clause-new
 returns-else-eq-clause-new c =
-    rw (← c.self.view_is) (rw (told-new c.self.invariant.consistent.hold c.args.event.now.id) at
+    rw (← c.self.view_is) (rw (new-by-id c.self.invariant.consistent.hold c.args.event.now.id) at
     c.push-added.ensures.new)

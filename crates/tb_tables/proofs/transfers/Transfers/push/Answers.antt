@@ -1,18 +1,18 @@
 use Rattle.std.proofs.Common.{◌∙◌, ap, ap₂, sym, not, Ok, ◌++◌, ◌∷◌, []}
 use Rattle.tb_tables.proofs.Words.{entries_of, stamped}
-use Rattle.tb_tables.proofs.Columns.{pushed-entry, told-found}
+use Rattle.tb_tables.proofs.Columns.{pushed-entry, found-with-status}
 use Rattle.tb_tables.proofs.transfers.Transfers.push.Goals as goal
 
 pub returns-then-not-branch-clause-new : goal.returns-then-not-branch-clause-new
 returns-then-not-branch-clause-new c =
     rw (← c.self.view_is) (sym c.if-not-branch.true ∙ c.in_ok-push_row.ensures.new
-    ∙ ap not (sym (told-found c.args.event.now.id c.self.inside.rows.entries c.self.inside.statuses.items
+    ∙ ap not (sym (found-with-status c.args.event.now.id c.self.inside.rows.entries c.self.inside.statuses.items
     c.self.invariant)))
 
 pub returns-clause-new : goal.returns-clause-new
 returns-clause-new c =
     rw (← c.self.view_is) (sym c.if-not-branch.false ∙ c.in_ok-push_row.ensures.new
-    ∙ ap not (sym (told-found c.args.event.now.id c.self.inside.rows.entries c.self.inside.statuses.items
+    ∙ ap not (sym (found-with-status c.args.event.now.id c.self.inside.rows.entries c.self.inside.statuses.items
     c.self.invariant)))
 
 pub returns-clause-added : goal.returns-clause-added

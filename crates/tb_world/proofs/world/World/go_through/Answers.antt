@@ -1,6 +1,6 @@
 use Rattle.std.proofs.Common.{◌≡◌, ◌∙◌, refl, sym, ap, subst, append_assoc, true, [], ◌∷◌, ◌++◌, List}
 use Rattle.tb_world.proofs.Words.{Result, Ok, Err, OnErr, is_some, Event, WorldState, after_event, moved, run, takes_memory, HasRun, nil_from_length}
-use Rattle.tb_world.proofs.orders.Told.{run_more, runs_go_on}
+use Rattle.tb_world.proofs.orders.Lawful.{run_more, runs_go_on}
 use Rattle.tb_world.proofs.world.World.go_through.Goals as goal
 
 on_err : {A E : Type 0} (result : Result A E) (P : Type 0) → P → OnErr result P

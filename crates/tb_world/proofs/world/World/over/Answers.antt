@@ -1,6 +1,6 @@
 use Rattle.std.proofs.Common.{refl, [], arith}
 use Rattle.tb_world.proofs.Words.{common_steps}
-use Rattle.tb_world.proofs.orders.Told.{has_run}
+use Rattle.tb_world.proofs.orders.Lawful.{has_run}
 use Rattle.tb_world.proofs.world.World.over.Goals as goal
 
 pub returns-clause-world : goal.returns-clause-world

@@ -22,19 +22,19 @@ const BAD: [Step; 4] = [
 
 const BAD_SEEN: [Saw; 9] = [
     Saw::Asked,
-    Saw::Told(Err(Refusal::InvalidOperation)),
+    Saw::Response(Err(Refusal::InvalidOperation)),
     Saw::Asked,
-    Saw::Told(Err(Refusal::InvalidDataSize)),
+    Saw::Response(Err(Refusal::InvalidDataSize)),
     Saw::Asked,
-    Saw::Told(Err(Refusal::TooMuchData)),
+    Saw::Response(Err(Refusal::TooMuchData)),
     Saw::Asked,
-    Saw::Told(Ok(0)),
+    Saw::Response(Ok(0)),
     Saw::Asked,
 ];
 
 /// A driver learns once why a packet is refused, and is asked again.
 #[test]
-fn told_why_it_is_refused(rt: HostRuntime) {
+fn a_refusal_is_the_response(rt: HostRuntime) {
     let seen = run_one(&rt, rt.alloc(), 4, 64, 16, &BAD, 0);
     check!(&rt; seen.by_driver.as_slice() == BAD_SEEN.as_slice());
     check!(&rt; seen.left.as_slice() == [Some(Saw::Given(0, 0, 7))].as_slice());
@@ -46,23 +46,23 @@ const FOUR: [Step; 4] = [SUBMIT; 4];
 /// With a credit of one, the reply to a packet is read before the next one is queued.
 const FOUR_SEEN: [Saw; 12] = [
     Saw::Asked,
-    Saw::Told(Ok(0)),
+    Saw::Response(Ok(0)),
     Saw::Asked,
     Saw::Given(0, 0, 7),
-    Saw::Told(Ok(1)),
+    Saw::Response(Ok(1)),
     Saw::Asked,
     Saw::Given(0, 1, 7),
-    Saw::Told(Ok(2)),
+    Saw::Response(Ok(2)),
     Saw::Asked,
     Saw::Given(0, 2, 7),
-    Saw::Told(Ok(3)),
+    Saw::Response(Ok(3)),
     Saw::Asked,
 ];
 
 /// No driver receives `InFlight` or `Full`: its packet is tried again. The last reply is read only if the queue was
 /// full as the submitter ended.
 #[test]
-fn not_told_of_a_used_up_credit(rt: HostRuntime) {
+fn no_response_to_a_used_up_credit(rt: HostRuntime) {
     let mut seen = run_one(&rt, rt.alloc(), 4, 1, 1, &FOUR, 0);
     if seen.left.is_empty() {
         check!(&rt; seen.by_driver.pop() == Some(Saw::Given(0, 3, 7)));
@@ -144,11 +144,11 @@ fn assert_refusal(rt: &(impl Abort + Print), refusal: Option<Refusal>) {
 
 /// `tools/gate/refuse-each-growth` counts the lines that this prints: some allocation is the job's, and the packet isn't tried again.
 #[test]
-fn driver_told_once_refused_memory(rt: HostRuntime) {
+fn driver_learns_once_refused_memory(rt: HostRuntime) {
     assert_refusal(&rt, refusal_by_driver(&rt, rt.alloc()));
 }
 
 #[test]
-fn client_told_once_refused_memory(rt: HostRuntime) {
+fn client_learns_once_refused_memory(rt: HostRuntime) {
     assert_refusal(&rt, refusal_of_client(&rt, rt.alloc()));
 }

@@ -1,4 +1,4 @@
--- What a World's steps tell: so far, if nothing was refused, and at rest.
+-- The reports of a World: so far, if nothing was refused, and at rest.
 use Rattle.std.proofs.Common.{refl, sym, ap, subst, ◌∙◌, ◌≡◌, ℕ, ◌<◌, ◌==◌, false, List, [], ◌∷◌, ◌++◌, map, length, append_assoc, append-nil, Option, Some, None}
 use Rattle.tb_world.proofs.Words.{map-append, Input, Numbered, ReplyValue, ahead, items_in, Item, Ticket, Outcomes, Parcel, Event, Pop, BatchPush, BatchPop, OutcomePush, OutcomePop, ReplyPush, ReplyPop, outcome_at, reply_due, all_due_from, all_due, replies_to, Place, Ahead, next_place, inputs_in, Decision, Admitted, AreDecisions, all_decisions_in, held_by, LedgerState, inputs, inputs_since, Commits, Ran, Mailbox, mailbox_at, after_pop_of, WorldState, pop, batch_push, batch_pop, outcome_push, outcome_pop, reply_push, reply_pop, received_of, after_event, run, world_over, IsPrefix, history, IsAtRest, IsLawfulSoFar, NoneStopped, IsLawfulAtRest, HasRun, RunsGoOn, WorldsFollow, is-prefix-trans, prefix-filter, ahead-first, none_of_first, none_among, SoFar, so_far, run_is_lawful}
 use Rattle.tb_world.proofs.orders.Pushed.{numbered_by, queue_of_all}
