@@ -201,7 +201,7 @@ pub struct Ledger {
 }
 
 // SAFETY: what is behind the handle is memory of the heap that belongs to no thread, which is proved of the library
-// (`crates/kip/proofs/held`). Each call takes `&mut self`, so none is made during another.
+// (`crates/kip/proofs/engine_pointer`). Each call takes `&mut self`, so none is made during another.
 unsafe impl Send for Ledger {}
 
 // SAFETY, of each call below: the handle was zeroed before it was opened, has one owner, and is changed only by these

@@ -1,4 +1,4 @@
 -- What clauses of public functions cite besides the claim.
-pub mod Held
+pub mod EnginePointer
 pub mod Handle
 pub mod Results

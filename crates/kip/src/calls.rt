@@ -88,9 +88,9 @@ fn open_handle(
     submitters: u32,
     seed: Seed,
 ) -> u32
-    ensures ok { result ≡ 0 → IsOpen (IsOpened clock limit submitters) kip.new.held.engine }
-    ensures status { IsOpeningStatus clock limit submitters kip.old.held.engine result }
-    ensures same { (result ≡ 0 → ⊥) → kip.new.held.engine ≡ kip.old.held.engine }
+    ensures ok { result ≡ 0 → IsOpen (IsOpened clock limit submitters) kip.new.pointer.engine }
+    ensures status { IsOpeningStatus clock limit submitters kip.old.pointer.engine result }
+    ensures same { (result ≡ 0 → ⊥) → kip.new.pointer.engine ≡ kip.old.pointer.engine }
 {
     if kip.is_open {
         return ALREADY_OPEN;
@@ -113,9 +113,9 @@ pub extern "C" fn kip_open(
     limit: u32,
     submitters: u32,
 ) -> u32
-    ensures ok { result ≡ 0 → IsOpen (IsOpened clock limit submitters) kip.new.held.engine }
-    ensures status { IsOpeningStatus clock limit submitters kip.old.held.engine result }
-    ensures same { (result ≡ 0 → ⊥) → kip.new.held.engine ≡ kip.old.held.engine }
+    ensures ok { result ≡ 0 → IsOpen (IsOpened clock limit submitters) kip.new.pointer.engine }
+    ensures status { IsOpeningStatus clock limit submitters kip.old.pointer.engine result }
+    ensures same { (result ≡ 0 → ⊥) → kip.new.pointer.engine ≡ kip.old.pointer.engine }
 {
     open_handle(alloc, kip, clock, limit, submitters, Seed::default())
 }
@@ -131,9 +131,9 @@ pub extern "C" fn kip_open_seeded(
     seed_low: u64,
     seed_high: u64,
 ) -> u32
-    ensures ok { result ≡ 0 → IsOpen (IsOpened clock limit submitters) kip.new.held.engine }
-    ensures status { IsOpeningStatus clock limit submitters kip.old.held.engine result }
-    ensures same { (result ≡ 0 → ⊥) → kip.new.held.engine ≡ kip.old.held.engine }
+    ensures ok { result ≡ 0 → IsOpen (IsOpened clock limit submitters) kip.new.pointer.engine }
+    ensures status { IsOpeningStatus clock limit submitters kip.old.pointer.engine result }
+    ensures same { (result ≡ 0 → ⊥) → kip.new.pointer.engine ≡ kip.old.pointer.engine }
 {
     let seed = Seed {
         low: seed_low,
@@ -150,8 +150,8 @@ pub extern "C" fn kip_reserve(
     accounts: usize,
     transfers: usize,
 ) -> u32
-    ensures status { IsStatusOf (λ engine. None) kip.old.held.engine result }
-    ensures same { kip.new.held.engine ≡ kip.old.held.engine }
+    ensures status { IsStatusOf (λ engine. None) kip.old.pointer.engine result }
+    ensures same { kip.new.pointer.engine ≡ kip.old.pointer.engine }
 {
     let Some(mut engine) = kip.take(alloc) else {
         return CLOSED;
@@ -164,8 +164,8 @@ pub extern "C" fn kip_reserve(
 /// Closes a handle and frees the engine inside it.
 #[unsafe(no_mangle)]
 pub extern "C" fn kip_close(alloc: Global, kip: &mut Kip) -> u32
-    ensures closed { kip.new.held.engine ≡ None }
-    ensures status { IsClosingStatus kip.old.held.engine result }
+    ensures closed { kip.new.pointer.engine ≡ None }
+    ensures status { IsClosingStatus kip.old.pointer.engine result }
 {
     match kip.take(alloc) {
         Some(engine) => {
@@ -249,10 +249,10 @@ pub extern "C" fn kip_submit_bytes(
 ) -> u32
     ensures ok { result ≡ 0 → Moves (λ old new. Queues old
         (packet_ticket submitter number.new (packet_with operation bytes.now user_data)) new)
-        kip.old.held.engine kip.new.held.engine }
+        kip.old.pointer.engine kip.new.pointer.engine }
     ensures status { IsStatusOf (λ engine. submit_refusal engine submitter (packet_with operation bytes.now user_data))
-        kip.old.held.engine result }
-    ensures same { (result ≡ 0 → ⊥) → (kip.new.held.engine ≡ kip.old.held.engine) × (number.new ≡ number.old) }
+        kip.old.pointer.engine result }
+    ensures same { (result ≡ 0 → ⊥) → (kip.new.pointer.engine ≡ kip.old.pointer.engine) × (number.new ≡ number.old) }
 {
     let Some(mut engine) = kip.take(alloc) else {
         return CLOSED;
@@ -274,9 +274,9 @@ pub extern "C" fn kip_submit_bytes(
 #[unsafe(no_mangle)]
 pub extern "C" fn kip_pulse(alloc: Global, kip: &mut Kip, nanoseconds: u64) -> u32
     ensures ok { result ≡ 0 → Moves (λ old new. Queues old
-        (ticket_of old.front.submitters (item.Pulse nanoseconds)) new) kip.old.held.engine kip.new.held.engine }
-    ensures status { IsStatusOf (λ engine. pulse_refusal engine nanoseconds) kip.old.held.engine result }
-    ensures same { (result ≡ 0 → ⊥) → kip.new.held.engine ≡ kip.old.held.engine }
+        (ticket_of old.front.submitters (item.Pulse nanoseconds)) new) kip.old.pointer.engine kip.new.pointer.engine }
+    ensures status { IsStatusOf (λ engine. pulse_refusal engine nanoseconds) kip.old.pointer.engine result }
+    ensures same { (result ≡ 0 → ⊥) → kip.new.pointer.engine ≡ kip.old.pointer.engine }
 {
     let Some(mut engine) = kip.take(alloc) else {
         return CLOSED;
@@ -290,9 +290,9 @@ pub extern "C" fn kip_pulse(alloc: Global, kip: &mut Kip, nanoseconds: u64) -> u
 #[unsafe(no_mangle)]
 pub extern "C" fn kip_shut(alloc: Global, kip: &mut Kip) -> u32
     ensures ok { result ≡ 0 → Moves (λ old new. Queues old
-        (ticket_of old.front.submitters item.Close) new) kip.old.held.engine kip.new.held.engine }
-    ensures status { IsStatusOf shut_refusal kip.old.held.engine result }
-    ensures same { (result ≡ 0 → ⊥) → kip.new.held.engine ≡ kip.old.held.engine }
+        (ticket_of old.front.submitters item.Close) new) kip.old.pointer.engine kip.new.pointer.engine }
+    ensures status { IsStatusOf shut_refusal kip.old.pointer.engine result }
+    ensures same { (result ≡ 0 → ⊥) → kip.new.pointer.engine ≡ kip.old.pointer.engine }
 {
     let Some(mut engine) = kip.take(alloc) else {
         return CLOSED;
@@ -305,11 +305,11 @@ pub extern "C" fn kip_shut(alloc: Global, kip: &mut Kip) -> u32
 /// Commits the packets that are held.
 #[unsafe(no_mangle)]
 pub extern "C" fn kip_flush(alloc: Global, kip: &mut Kip) -> u32
-    ensures ok { result ≡ 0 → Moves (λ old new. Continues old new) kip.old.held.engine kip.new.held.engine }
-    ensures held { result ≡ 0 → IsOpen (λ engine. engine.front.held ≡ []) kip.new.held.engine }
-    ensures needed { result ≡ number_of NoMemoryRefusal → IsOpen (λ engine. 0 < length engine.front.held) kip.old.held.engine }
-    ensures status { IsStatusOf (λ engine. None) kip.old.held.engine result }
-    ensures same { (result ≡ 0 → ⊥) → kip.new.held.engine ≡ kip.old.held.engine }
+    ensures ok { result ≡ 0 → Moves (λ old new. Continues old new) kip.old.pointer.engine kip.new.pointer.engine }
+    ensures held { result ≡ 0 → IsOpen (λ engine. engine.front.held ≡ []) kip.new.pointer.engine }
+    ensures needed { result ≡ number_of NoMemoryRefusal → IsOpen (λ engine. 0 < length engine.front.held) kip.old.pointer.engine }
+    ensures status { IsStatusOf (λ engine. None) kip.old.pointer.engine result }
+    ensures same { (result ≡ 0 → ⊥) → kip.new.pointer.engine ≡ kip.old.pointer.engine }
 {
     let Some(mut engine) = kip.take(alloc) else {
         return CLOSED;
@@ -358,7 +358,7 @@ pub extern "C" fn kip_reply_bytes(
     reply: &mut KipReply,
     results: &mut [u8],
 ) -> u32
-    ensures { IsReadingOf result reply.new results.old results.new kip.old.held.engine kip.new.held.engine }
+    ensures { IsReadingOf result reply.new results.old results.new kip.old.pointer.engine kip.new.pointer.engine }
 {
     let Some(mut engine) = kip.take(alloc) else {
         return CLOSED;
@@ -390,8 +390,8 @@ pub extern "C" fn kip_lookup_account(
     account: &mut [u8; 128],
 ) -> u32
     ensures lookup { IsAccountIn (λ engine. balanced_account (state_of engine).facts (id_of id_low id_high))
-        result account.old account.new kip.old.held.engine }
-    ensures same { kip.new.held.engine ≡ kip.old.held.engine }
+        result account.old account.new kip.old.pointer.engine }
+    ensures same { kip.new.pointer.engine ≡ kip.old.pointer.engine }
 {
     let Some(engine) = kip.engine() else {
         return CLOSED;
@@ -404,8 +404,8 @@ pub extern "C" fn kip_lookup_account(
 #[unsafe(no_mangle)]
 pub extern "C" fn kip_account_at(kip: &mut Kip, index: usize, account: &mut [u8; 128]) -> u32
     ensures lookup { IsAccountIn (λ engine. slice_get (balanced_accounts (state_of engine).facts) index)
-        result account.old account.new kip.old.held.engine }
-    ensures same { kip.new.held.engine ≡ kip.old.held.engine }
+        result account.old account.new kip.old.pointer.engine }
+    ensures same { kip.new.pointer.engine ≡ kip.old.pointer.engine }
 {
     let Some(engine) = kip.engine() else {
         return CLOSED;
@@ -455,8 +455,8 @@ pub extern "C" fn kip_lookup_transfer(
     pending_status: &mut u32,
 ) -> u32
     ensures lookup { IsTransferIn (λ facts. transfer_with facts (id_of id_low id_high)) result
-        (transfer.old, pending_status.old) (transfer.new, pending_status.new) kip.old.held.engine }
-    ensures same { kip.new.held.engine ≡ kip.old.held.engine }
+        (transfer.old, pending_status.old) (transfer.new, pending_status.new) kip.old.pointer.engine }
+    ensures same { kip.new.pointer.engine ≡ kip.old.pointer.engine }
 {
     let Some(engine) = kip.engine() else {
         return CLOSED;
@@ -476,8 +476,8 @@ pub extern "C" fn kip_transfer_at(
     pending_status: &mut u32,
 ) -> u32
     ensures lookup { IsTransferIn (λ facts. slice_get facts.transfers index) result
-        (transfer.old, pending_status.old) (transfer.new, pending_status.new) kip.old.held.engine }
-    ensures same { kip.new.held.engine ≡ kip.old.held.engine }
+        (transfer.old, pending_status.old) (transfer.new, pending_status.new) kip.old.pointer.engine }
+    ensures same { kip.new.pointer.engine ≡ kip.old.pointer.engine }
 {
     let Some(engine) = kip.engine() else {
         return CLOSED;
@@ -494,8 +494,8 @@ pub extern "C" fn kip_transfer_at(
 /// Returns whether the engine stopped: 0 if it didn't, 8 if it did.
 #[unsafe(no_mangle)]
 pub extern "C" fn kip_stopped(kip: &mut Kip) -> u32
-    ensures status { result ≡ stopped_status kip.old.held.engine }
-    ensures same { kip.new.held.engine ≡ kip.old.held.engine }
+    ensures status { result ≡ stopped_status kip.old.pointer.engine }
+    ensures same { kip.new.pointer.engine ≡ kip.old.pointer.engine }
 {
     let Some(engine) = kip.engine() else {
         return CLOSED;
@@ -511,8 +511,8 @@ pub extern "C" fn kip_stopped(kip: &mut Kip) -> u32
 /// Writes how much is stored.
 #[unsafe(no_mangle)]
 pub extern "C" fn kip_counts(kip: &mut Kip, counts: &mut KipCounts) -> u32
-    ensures counts { IsCountsOf result counts.old counts.new kip.old.held.engine }
-    ensures same { kip.new.held.engine ≡ kip.old.held.engine }
+    ensures counts { IsCountsOf result counts.old counts.new kip.old.pointer.engine }
+    ensures same { kip.new.pointer.engine ≡ kip.old.pointer.engine }
 {
     let Some(engine) = kip.engine() else {
         return CLOSED;
@@ -529,8 +529,8 @@ pub extern "C" fn kip_counts(kip: &mut Kip, counts: &mut KipCounts) -> u32
 /// Writes the clock in nanoseconds.
 #[unsafe(no_mangle)]
 pub extern "C" fn kip_clock(kip: &mut Kip, nanoseconds: &mut u64) -> u32
-    ensures clock { IsClockOf result nanoseconds.old nanoseconds.new kip.old.held.engine }
-    ensures same { kip.new.held.engine ≡ kip.old.held.engine }
+    ensures clock { IsClockOf result nanoseconds.old nanoseconds.new kip.old.pointer.engine }
+    ensures same { kip.new.pointer.engine ≡ kip.old.pointer.engine }
 {
     let Some(engine) = kip.engine() else {
         return CLOSED;

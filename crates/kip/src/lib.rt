@@ -7,7 +7,7 @@
 
 mod calls;
 mod counts;
+mod engine_pointer;
 mod handle;
-mod held;
-mod loose;
+mod raw_box;
 mod reading;

@@ -10,14 +10,14 @@ use Rattle.std_alloc.proofs.VecSteps.Shapes.{after}
 use Rattle.tb_embed.specs.contracts.engine.Engine as Engine
 use Rattle.kip.specs.inside.Lent.{with_engine}
 use Rattle.kip.proofs.AsBox.{E, some_of}
-use Rattle.kip.specs.contracts.held.Held as Held
-use Rattle.kip.specs.contracts.held.Held.as_mut as F
-use Rattle.kip.specs.contracts.held.Held.as_mut.Key.{name as #self}
-use Rattle.kip.proofs.held.Held.as_mut.Statement as stated
-use Rattle.kip.proofs.held.Held.as_mut.Code as code
+use Rattle.kip.specs.contracts.engine_pointer.EnginePointer as EnginePointer
+use Rattle.kip.specs.contracts.engine_pointer.EnginePointer.as_mut as F
+use Rattle.kip.specs.contracts.engine_pointer.EnginePointer.as_mut.Key.{name as #self}
+use Rattle.kip.proofs.engine_pointer.EnginePointer.as_mut.Statement as stated
+use Rattle.kip.proofs.engine_pointer.EnginePointer.as_mut.Code as code
 
 abbrev Whole : RattleType
-Whole = Held.the_row
+Whole = EnginePointer.the_row
 
 abbrev Inner : RattleType
 Inner = Engine.the_row
