@@ -30,6 +30,7 @@ use std::io::{Read, Write};
 use std::process::ExitCode;
 use std::sync::Wait;
 use std::thread::Threads;
+use std::time::Clock;
 use std::{env, io};
 use tb_core::{AnyLedger, BareLedger, Ledger, Seed};
 use tb_drive::{ControlPlan, PlanDriver};
@@ -48,7 +49,7 @@ fn drivers(alloc: Global, submitters: u32, load: Load) -> Option<Vec<LoadDriver>
 }
 
 /// Returns a whole run over a ledger, or None if the opening is refused, memory runs out or a thread can't be started.
-fn run<R: Threads + Wait + Sync, L: AnyLedger + Send>(
+fn run<R: Threads + Wait + Clock + Sync, L: AnyLedger + Send>(
     rt: &R,
     alloc: Global,
     request: Request,
@@ -103,7 +104,11 @@ fn line_of_run(
 }
 
 /// Returns the line that a request prints.
-fn line_of<R: Threads + Wait + Sync>(rt: &R, alloc: Global, request: Request) -> Option<String> {
+fn line_of<R: Threads + Wait + Clock + Sync>(
+    rt: &R,
+    alloc: Global,
+    request: Request,
+) -> Option<String> {
     let Finished {
         report,
         drivers,
@@ -118,7 +123,7 @@ fn line_of<R: Threads + Wait + Sync>(rt: &R, alloc: Global, request: Request) ->
 }
 
 /// Returns the line that a request prints if its ledger keeps no journal.
-fn line_of_bare<R: Threads + Wait + Sync>(
+fn line_of_bare<R: Threads + Wait + Clock + Sync>(
     rt: &R,
     alloc: Global,
     request: Request,
@@ -167,7 +172,7 @@ fn parties<'a, I: Read + Drop, O: Write + Drop>(
 }
 
 /// Returns a live run, until its input ends; None as for `run`.
-fn run_live<I: Read + Drop + Send, O: Write + Drop + Send, R: Threads + Wait + Sync>(
+fn run_live<I: Read + Drop + Send, O: Write + Drop + Send, R: Threads + Wait + Clock + Sync>(
     rt: &R,
     alloc: Global,
     request: LiveRequest,

@@ -21,6 +21,7 @@ use std::alloc::Global;
 use std::process::ExitCode;
 use std::sync::Wait;
 use std::thread::Threads;
+use std::time::Clock;
 use tb_core::Ledger;
 use tb_drive::ControlPlan;
 use tb_layout::Account;
@@ -69,7 +70,7 @@ fn existing(tellers: &[Teller]) -> (u32, u32) {
 
 /// Runs a day's pipeline over a ledger. None if the ledger has stopped, memory ran out before the run, or a thread couldn't
 /// be started.
-fn run_day<R: Threads + Wait + Sync>(
+fn run_day<R: Threads + Wait + Clock + Sync>(
     rt: &R,
     alloc: Global,
     ledger: Ledger,

@@ -10,6 +10,7 @@ use std::process::ExitCode;
 use std::sync::Wait;
 use std::thread;
 use std::thread::Threads;
+use std::time::Clock;
 use tb_blocking::{Client, ControlClient};
 use tb_drive::Stop;
 use tb_layout::{Account, Transfer};
@@ -18,7 +19,12 @@ use tb_submit::Submitter;
 use tb_work::{Packet, Reply};
 
 /// Opens two accounts, and then posts a transfer between them and one back. Waits for each reply.
-fn trade<R: Wait>(rt: &R, alloc: Global, client: &mut Client<'_>, ids: [u128; 2]) -> Option<Reply>
+fn trade<R: Wait + Clock>(
+    rt: &R,
+    alloc: Global,
+    client: &mut Client<'_>,
+    ids: [u128; 2],
+) -> Option<Reply>
     ensures { origin_of client.new ≡ origin_of client.old }
 {
     let accounts = ids.map(|id| Account {
@@ -54,7 +60,7 @@ fn both(submitters: Vec<Submitter>) -> Option<(Submitter, Submitter)>
 
 /// Opens a pipeline, starts the tellers and the control, serves until all have ended, joins them and settles. If a
 /// thread can't be started the run is given up, so that the others end too.
-fn run<R: Threads + Wait + Sync>(rt: &R, alloc: Global) -> Option<Report> {
+fn run<R: Threads + Wait + Clock + Sync>(rt: &R, alloc: Global) -> Option<Report> {
     let Ok(opened) = open(alloc, 0, 100, 64, 8, 2) else {
         return None;
     };

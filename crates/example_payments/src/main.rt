@@ -30,6 +30,7 @@ use std::alloc::Global;
 use std::process::ExitCode;
 use std::sync::Wait;
 use std::thread::Threads;
+use std::time::Clock;
 use tb_drive::{ControlPlan, PlanDriver};
 use tb_pipe::{Finished, Opened, drive_all, open, submit_ahead};
 use tb_work::Packet;
@@ -96,7 +97,12 @@ fn packets_ahead(alloc: Global, desk: u32) -> Option<Vec<Packet>> {
 }
 
 /// Queues a desk's first packets, and returns their number. None if one is refused.
-fn queue_ahead<R: Wait>(rt: &R, alloc: Global, opened: &mut Opened, desk: u32) -> Option<usize>
+fn queue_ahead<R: Wait>(
+    rt: &R,
+    alloc: Global,
+    opened: &mut Opened,
+    desk: u32,
+) -> Option<usize>
     requires desk { desk < DESKS }
     requires ready { IsReady opened.old }
     ensures { OnSome result (IsReady opened.new) }
@@ -140,7 +146,10 @@ fn open_for_desks(alloc: Global) -> Option<Opened>
 }
 
 /// Runs the service. None if memory ran out before the run, or a thread couldn't be started.
-fn run<R: Threads + Wait + Sync>(rt: &R, alloc: Global) -> Option<Finished<Desk, PlanDriver>>
+fn run<R: Threads + Wait + Clock + Sync>(
+    rt: &R,
+    alloc: Global,
+) -> Option<Finished<Desk, PlanDriver>>
     ensures counted { IfSome result (λ finished. HaveCounted finished.drivers.items finished.report.ends.items) }
     ensures ended { IfSome result (λ finished. HaveEnded finished.drivers.items finished.report.ends.items) }
 {

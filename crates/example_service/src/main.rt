@@ -33,6 +33,7 @@ use std::env;
 use std::process::ExitCode;
 use std::sync::Wait;
 use std::thread::Threads;
+use std::time::Clock;
 use tb_core::{AnyLedger, Seed};
 use tb_drive::ControlPlan;
 use tb_durable::{DurableLedger, LedgerFile, Settings, open_file};
@@ -163,7 +164,7 @@ fn figures_and_tills(
 
 /// Runs a pipeline over a ledger until all tills have ended, and counts what is committed. Returns the ledger, and whether no till gave
 /// up. None if memory ran out before the run, or a thread couldn't be started: what was committed is in the file.
-fn run_counted<R: Threads + Wait + Sync, L: AnyLedger + Send>(
+fn run_counted<R: Threads + Wait + Clock + Sync, L: AnyLedger + Send>(
     rt: &R,
     alloc: Global,
     ledger: CountedLedger<L>,
@@ -192,7 +193,7 @@ fn run_counted<R: Threads + Wait + Sync, L: AnyLedger + Send>(
 }
 
 /// Runs the tills over a ledger in a file, as `run_counted` does.
-fn run<R: Threads + Wait + Sync, S: Store + Drop + Send>(
+fn run<R: Threads + Wait + Clock + Sync, S: Store + Drop + Send>(
     rt: &R,
     alloc: Global,
     ledger: DurableLedger<S>,

@@ -9,6 +9,7 @@ use std::alloc::Global;
 use std::process::ExitCode;
 use std::sync::Wait;
 use std::thread::Threads;
+use std::time::Clock;
 use tb_drive::{Action, ControlPlan, Driver, PlanDriver};
 use tb_layout::{Account, Transfer};
 use tb_pipe::{Finished, Options, drive_all, submit_ahead};
@@ -55,7 +56,7 @@ fn new_teller(id: u128, debit_account_id: u128, credit_account_id: u128, amount:
 
 /// Runs the tellers' transfers, after a packet that the first one's submitter queues ahead. None if memory ran out before
 /// the run, or a thread couldn't be started.
-fn run_with<R: Threads + Wait + Sync>(
+fn run_with<R: Threads + Wait + Clock + Sync>(
     rt: &R,
     alloc: Global,
     accounts: Packet,
@@ -88,7 +89,10 @@ fn run_with<R: Threads + Wait + Sync>(
 }
 
 /// Makes two accounts and runs two tellers. None as `run_with`.
-fn run<R: Threads + Wait + Sync>(rt: &R, alloc: Global) -> Option<Finished<Teller, PlanDriver>> {
+fn run<R: Threads + Wait + Clock + Sync>(
+    rt: &R,
+    alloc: Global,
+) -> Option<Finished<Teller, PlanDriver>> {
     let first = Account {
         id: 1,
         ledger: 1,

@@ -16,6 +16,7 @@ use std::alloc::Global;
 use std::marker::Model;
 use std::sync::Wait;
 use std::thread::{PromisedHandle, Scope};
+use std::time::Clock;
 use tb_drive::{Stop, end_control};
 use tb_layout::QUEUED_MAX;
 use tb_rings::{IdleWait, PollWait};
@@ -67,7 +68,7 @@ impl<'s> Client<'s> {
     ///
     /// Errors: the packet with its refusal. `Full` means that the run is given up, or that this submitter has queued
     /// 2^56 packets, and `queued` says which.
-    pub fn submit<R: Wait>(
+    pub fn submit<R: Wait + Clock>(
         &mut self,
         rt: &R,
         alloc: Global,
@@ -101,7 +102,7 @@ impl<'s> Client<'s> {
 
     /// Waits for the next reply, and sleeps after some 30 microseconds. Returns `None` if no packet is in flight or the
     /// run is given up, and `in_flight` says which. Takes no memory.
-    pub fn receive<R: Wait>(&mut self, rt: &R) -> Option<Reply>
+    pub fn receive<R: Wait + Clock>(&mut self, rt: &R) -> Option<Reply>
         ensures own { origin_of self.new ≡ origin_of self.old }
         ensures some { IfSome result (λ reply. self.new
             ≡ record self.old { read = self.old.read ++ reply ∷ []; lying = self.new.lying }) }
@@ -130,7 +131,7 @@ impl<'s> Client<'s> {
     /// if no other packet was in flight. Returns `None` if the run is given up after the packet is queued.
     ///
     /// Errors: those of `submit`.
-    pub fn exchange<R: Wait>(
+    pub fn exchange<R: Wait + Clock>(
         &mut self,
         rt: &R,
         alloc: Global,
@@ -166,7 +167,7 @@ impl<'s> Client<'s> {
 
     /// Queues the submitter's end. While the queue is full it waits and tries again. Returns `None` if the run is
     /// given up and nobody serves. The end still returns the unread replies. Takes no memory.
-    pub fn end<R: Wait>(self, rt: &R) -> Option<Ended>
+    pub fn end<R: Wait + Clock>(self, rt: &R) -> Option<Ended>
         ensures { IfSome result (λ ended. ended ≡ ended_with self.entry item.End) }
     {
         let Client {
@@ -189,7 +190,7 @@ impl<'s> Client<'s> {
 
     /// Starts a thread that does `work` with this client and then ends it, whatever came of the work, since `serve`
     /// waits for each end. If the thread can't be started, gives the run up and returns `None`.
-    pub fn start<E, R: Wait + Sync, F: FnOnce(&mut Client<'_>) + Send + 's>(
+    pub fn start<E, R: Wait + Clock + Sync, F: FnOnce(&mut Client<'_>) + Send + 's>(
         self,
         scope: &Scope<'s, E>,
         rt: &'s R,
@@ -259,7 +260,7 @@ impl<'s> ControlClient<'s> {
     ///
     /// Errors: `MomentTooLarge`, or `Full` if the run is given up or the control has queued 2^56 pulses, and `queued` says
     /// which. Nothing is changed.
-    pub fn pulse<R: Wait>(&mut self, rt: &R, moment: u64) -> Result<(), Refusal>
+    pub fn pulse<R: Wait + Clock>(&mut self, rt: &R, moment: u64) -> Result<(), Refusal>
         ensures own { self.new.seat ≡ self.old.seat }
         ensures ok { OnOk result (self.new ≡ sender_with self.old (item.Pulse moment)) }
         ensures back { IfErr result (λ why. self.new ≡ self.old) }
@@ -291,7 +292,7 @@ impl<'s> ControlClient<'s> {
 
     /// Queues the control's end, so that all that is queued is committed. While the queue is full it waits and tries
     /// again. Returns `None` if the run is given up and nobody serves. Takes no memory.
-    pub fn end<R: Wait>(self, rt: &R) -> Option<ControlEnd>
+    pub fn end<R: Wait + Clock>(self, rt: &R) -> Option<ControlEnd>
         ensures { IfSome result (λ end. end ≡ sender_with self.entry item.End) }
     {
         end_control(rt, self.control, false, self.stop)
@@ -299,7 +300,7 @@ impl<'s> ControlClient<'s> {
 
     /// Queues the Close, so that packets behind it get `Shutdown`. While the queue is full it waits and tries again.
     /// Returns `None` if the run is given up and nobody serves. Takes no memory.
-    pub fn shut<R: Wait>(self, rt: &R) -> Option<ControlEnd>
+    pub fn shut<R: Wait + Clock>(self, rt: &R) -> Option<ControlEnd>
         ensures { IfSome result (λ end. end ≡ sender_with self.entry item.Close) }
     {
         end_control(rt, self.control, true, self.stop)
@@ -307,7 +308,7 @@ impl<'s> ControlClient<'s> {
 
     /// Starts a thread that does `work` with the control and then queues its End, not the Close. If the thread can't be started, gives the
     /// run up and returns `None`.
-    pub fn start<E, R: Wait + Sync, F: FnOnce(&mut ControlClient<'_>) + Send + 's>(
+    pub fn start<E, R: Wait + Clock + Sync, F: FnOnce(&mut ControlClient<'_>) + Send + 's>(
         self,
         scope: &Scope<'s, E>,
         rt: &'s R,

@@ -14,6 +14,7 @@ use std::marker::Model;
 use std::snapshot::Snapshot;
 use std::sync::Wait;
 use std::thread::Promise;
+use std::time::Clock;
 use tb_layout::QUEUED_MAX;
 use tb_rings::PollWait;
 use tb_submit::{Control, ControlEnd};
@@ -75,7 +76,7 @@ fn pulse_once<R: Wait>(rt: &R, control: &mut Control, moment: u64) -> Result<(),
 
 /// Queues a pulse, and while the queue is full tries again. The driver receives the result. None if the run is given
 /// up.
-fn pulse<C: ControlDriver, R: Wait>(
+fn pulse<C: ControlDriver, R: Wait + Clock>(
     rt: &R,
     control: &mut Control,
     driver: &mut C,
@@ -103,7 +104,7 @@ fn pulse<C: ControlDriver, R: Wait>(
 
 /// Queues the pulses that the driver asks for, until it ends. Returns whether it ends by the Close, and None if the run
 /// is given up.
-fn follow<C: ControlDriver, R: Wait>(
+fn follow<C: ControlDriver, R: Wait + Clock>(
     rt: &R,
     control: &mut Control,
     driver: &mut C,
@@ -132,7 +133,7 @@ fn follow<C: ControlDriver, R: Wait>(
 
 /// Queues the Close if `shuts`, else the control's end. While the queue is full it waits and tries again. Returns `None`
 /// if the run is given up and nobody serves. Takes no memory.
-pub fn end_control<R: Wait>(
+pub fn end_control<R: Wait + Clock>(
     rt: &R,
     control: Control,
     shuts: bool,
@@ -163,7 +164,7 @@ pub fn end_control<R: Wait>(
 impl<C: ControlDriver> ControlTask<C> {
     /// Does what the driver says, and then ends the control. If the run is given up, its End is queued all the same, and `None` is
     /// returned.
-    pub(crate) fn drive<R: Wait>(self, rt: &R, stop: &Stop) -> Option<ControlResult<C>>
+    pub(crate) fn drive<R: Wait + Clock>(self, rt: &R, stop: &Stop) -> Option<ControlResult<C>>
         ensures { IfSome result (IsControlResultOf C.has_ended self) }
     {
         let ControlTask {

@@ -19,6 +19,7 @@ use std::marker::Model;
 use std::snapshot::Snapshot;
 use std::sync::Wait;
 use std::thread::Promise;
+use std::time::Clock;
 use tb_layout::QUEUED_MAX;
 use tb_rings::{IdleWait, PollWait};
 use tb_submit::{Ended, Submitter};
@@ -134,7 +135,7 @@ fn read<D: Driver>(submitter: &mut Submitter, driver: &mut D) -> bool
 ///
 /// It serves who waits for a slot of the queue too: a packet in flight leaves the queue before its reply comes. A wait without a look
 /// before it could sleep over replies that are there.
-fn read_or_wait<D: Driver, R: Wait>(
+fn read_or_wait<D: Driver, R: Wait + Clock>(
     rt: &R,
     submitter: &mut Submitter,
     driver: &mut D,
@@ -161,7 +162,7 @@ fn read_or_wait<D: Driver, R: Wait>(
 
 /// Submits a packet. While the credit is used up or the queue is full, it reads replies or waits, and tries again, unless the run is
 /// given up. The driver receives the result.
-fn submit<D: Driver, R: Wait>(
+fn submit<D: Driver, R: Wait + Clock>(
     rt: &R,
     alloc: Global,
     submitter: &mut Submitter,
@@ -193,7 +194,12 @@ fn submit<D: Driver, R: Wait>(
 }
 
 /// Waits for the next reply, if one is to come and the run isn't given up.
-fn receive<D: Driver, R: Wait>(rt: &R, submitter: &mut Submitter, driver: &mut D, stop: &Stop)
+fn receive<D: Driver, R: Wait + Clock>(
+    rt: &R,
+    submitter: &mut Submitter,
+    driver: &mut D,
+    stop: &Stop,
+)
     ensures own { origin_of submitter.new ≡ origin_of submitter.old }
     ensures front { submitter.new.queued ≡ submitter.old.queued }
     ensures seen { HasSeen D.has_seen driver.old submitter.old → HasSeen D.has_seen driver.new submitter.new }
@@ -211,7 +217,7 @@ fn receive<D: Driver, R: Wait>(rt: &R, submitter: &mut Submitter, driver: &mut D
 }
 
 /// Does what the driver says until it ends, or until the run is given up.
-fn follow<D: Driver, R: Wait>(
+fn follow<D: Driver, R: Wait + Clock>(
     rt: &R,
     alloc: Global,
     submitter: &mut Submitter,
@@ -244,7 +250,7 @@ fn follow<D: Driver, R: Wait>(
 
 /// Ends the submitter, and while the queue is full reads replies and tries again. None if the
 /// run is given up and nobody serves.
-fn end<D: Driver, R: Wait>(
+fn end<D: Driver, R: Wait + Clock>(
     rt: &R,
     submitter: Submitter,
     driver: &mut D,
@@ -274,7 +280,12 @@ fn end<D: Driver, R: Wait>(
 }
 
 /// Queues the End of a submitter whose run is given up, since a `serve` that runs waits for it.
-fn end_given_up<D: Driver, R: Wait>(rt: &R, submitter: Submitter, driver: &mut D, stop: &Stop)
+fn end_given_up<D: Driver, R: Wait + Clock>(
+    rt: &R,
+    submitter: Submitter,
+    driver: &mut D,
+    stop: &Stop,
+)
     ensures { D.share driver.new ≡ D.share driver.old }
 {
     drop(end(rt, submitter, driver, stop));
@@ -283,7 +294,12 @@ fn end_given_up<D: Driver, R: Wait>(rt: &R, submitter: Submitter, driver: &mut D
 impl<D: Driver> SubmitterTask<D> {
     /// Does what the driver says, and then ends the submitter. If the run is given up, its End is queued all the same, since
     /// `serve` waits for it, but isn't returned.
-    pub(crate) fn drive<R: Wait>(self, rt: &R, alloc: Global, stop: &Stop) -> SubmitterResult<D>
+    pub(crate) fn drive<R: Wait + Clock>(
+        self,
+        rt: &R,
+        alloc: Global,
+        stop: &Stop,
+    ) -> SubmitterResult<D>
         ensures { IsResultOf self result }
     {
         let SubmitterTask {

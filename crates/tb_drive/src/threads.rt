@@ -18,6 +18,7 @@ use std::marker::Model;
 use std::snapshot::Snapshot;
 use std::sync::Wait;
 use std::thread::{PromisedHandle, Scope, Threads};
+use std::time::Clock;
 use tb_submit::{Control, Ended, Submitter};
 
 /// All senders of a run with their drivers, before their threads are started.
@@ -103,7 +104,7 @@ fn assign<D: Driver>(
 
 impl<D: Driver> SubmitterTask<D> {
     /// Starts the submitter's thread.
-    fn start<'s, E, R: Wait + Sync>(
+    fn start<'s, E, R: Wait + Clock + Sync>(
         self,
         scope: &Scope<'s, E>,
         rt: &'s R,
@@ -166,7 +167,7 @@ impl<D: Driver> SubmitterThreads<D> {
 }
 
 /// Starts the submitters' threads in their order; there is room for their handles.
-fn start_all<'s, D: Driver + Send + 's, E, R: Wait + Sync>(
+fn start_all<'s, D: Driver + Send + 's, E, R: Wait + Clock + Sync>(
     tasks: Vec<SubmitterTask<D>>,
     handles: &mut Vec<SubmitterThread<D>>,
     scope: &Scope<'s, E>,
@@ -186,7 +187,7 @@ fn start_all<'s, D: Driver + Send + 's, E, R: Wait + Sync>(
 
 impl<C: ControlDriver> ControlTask<C> {
     /// Starts the control's thread.
-    fn start<'s, E, R: Wait + Sync>(
+    fn start<'s, E, R: Wait + Clock + Sync>(
         self,
         scope: &Scope<'s, E>,
         rt: &'s R,
@@ -245,7 +246,7 @@ impl<D: Driver + Send, C: ControlDriver + Send> Tasks<D, C> {
     ///
     /// Errors: `NoMemory`, or `NoThread` if a thread can't be started. Threads that run already continue until `stop` is
     /// asked.
-    pub fn start<'s, E, R: Wait + Sync>(
+    pub fn start<'s, E, R: Wait + Clock + Sync>(
         self,
         scope: &Scope<'s, E>,
         rt: &'s R,

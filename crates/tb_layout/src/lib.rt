@@ -36,8 +36,8 @@ pub use failure::{Failure, read_failure, write_failure};
 pub use failure_room::FailureRoom;
 pub use id::{read_id, write_id};
 pub use limits::{
-    BATCH_MAX, CAPACITY_MAX, CLOCK_MAX, MOMENT_MAX, NANOSECONDS_PER_SECOND, PLACES_MAX, QUEUED_MAX,
-    SUBMITTERS_MAX,
+    BATCH_MAX, CAPACITY_MAX, CLOCK_MAX, EVENT_SIZE, ID_SIZE, MOMENT_MAX, NANOSECONDS_PER_SECOND,
+    PLACES_MAX, QUEUED_MAX, SUBMITTERS_LENGTH, SUBMITTERS_MAX,
 };
 pub use no_memory::NoMemory;
 pub use number::U64_VALUES;

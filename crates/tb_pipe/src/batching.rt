@@ -12,6 +12,7 @@ use crate::waiting::give_waiting;
 use arrayvec::ArrayVec;
 use std::mem;
 use std::sync::Wait;
+use std::time::Clock;
 use tb_core::{Front, Parcel};
 use tb_rings::{IdleWait, Outlet};
 use tb_submit::Intake;
@@ -50,7 +51,7 @@ impl<'g, G: Gate> BatchRing<'g, G> {
     }
 
     /// Gives a parcel, and reports it to the gate if it is a batch.
-    fn give<R: Wait>(&mut self, rt: &R, parcel: Parcel)
+    fn give<R: Wait + Clock>(&mut self, rt: &R, parcel: Parcel)
         ensures ring { SameOutlet self.old.outlet self.new.outlet }
         ensures given { given self.new.outlet ≡ given self.old.outlet ++ parcel ∷ [] }
         ensures counted { self.new.batches ≡ next_number self.old.batches parcel }
@@ -64,7 +65,7 @@ impl<'g, G: Gate> BatchRing<'g, G> {
     }
 
     /// Gives parcels in order, and leaves none.
-    fn give_all<R: Wait>(&mut self, rt: &R, parcels: &mut ArrayVec<Parcel, 2>)
+    fn give_all<R: Wait + Clock>(&mut self, rt: &R, parcels: &mut ArrayVec<Parcel, 2>)
         ensures ring { SameOutlet self.old.outlet self.new.outlet }
         ensures given { given self.new.outlet ≡ given self.old.outlet ++ parcels.old.items }
         ensures counted { self.new.batches ≡ number_after self.old.batches parcels.old.items }
@@ -79,7 +80,7 @@ impl<'g, G: Gate> BatchRing<'g, G> {
     }
 
     /// Passes one ticket through the front. `parcels` lends capacity for what the front yields.
-    fn pass_ticket<R: Wait>(
+    fn pass_ticket<R: Wait + Clock>(
         &mut self,
         rt: &R,
         front: &mut Front,
@@ -99,7 +100,7 @@ impl<'g, G: Gate> BatchRing<'g, G> {
     }
 
     /// Gives the group held, if there is one, so that no later packet joins it.
-    fn pass_group<R: Wait>(&mut self, rt: &R, front: &mut Front)
+    fn pass_group<R: Wait + Clock>(&mut self, rt: &R, front: &mut Front)
         ensures ring { SameOutlet self.old.outlet self.new.outlet }
         ensures batched { (intake : IntakeState) → MaySeal intake front.old
             → IsBatched intake front.old (given self.old.outlet)
@@ -114,7 +115,7 @@ impl<'g, G: Gate> BatchRing<'g, G> {
 
 /// Takes tickets and gives parcels until each sender has ended, and then gives the last parcel. What can't join the group
 /// held seals it, and so does an empty queue.
-pub(crate) fn batch_all<R: Wait, G: Gate>(
+pub(crate) fn batch_all<R: Wait + Clock, G: Gate>(
     rt: &R,
     intake: &mut Intake,
     front: &mut Front,

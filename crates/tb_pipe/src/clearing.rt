@@ -6,6 +6,7 @@ ghost use Rattle.tb_pipe.specs.clauses.Carried.{is_batch, next_number};
 use crate::gate::Gate;
 use std::marker::Model;
 use std::sync::Wait;
+use std::time::Clock;
 use tb_core::Parcel;
 use tb_rings::PollWait;
 
@@ -43,7 +44,7 @@ pub(crate) fn is_batch(parcel: &Parcel) -> bool
 }
 
 /// Waits until the gate lets the batch through.
-fn wait_for<R: Wait, G: Gate>(rt: &R, gate: &G, batch: u64)
+fn wait_for<R: Wait + Clock, G: Gate>(rt: &R, gate: &G, batch: u64)
     ensures { G.lets_through gate.now batch }
 {
     let poll = PollWait::new();
@@ -58,7 +59,7 @@ fn wait_for<R: Wait, G: Gate>(rt: &R, gate: &G, batch: u64)
 
 /// Waits until the parcel may be applied. A batch is asked for, by the number of those before it, and then counted;
 /// nothing else is.
-pub(crate) fn clear<R: Wait, G: Gate>(
+pub(crate) fn clear<R: Wait + Clock, G: Gate>(
     rt: &R,
     gate: &G,
     parcel: Parcel,

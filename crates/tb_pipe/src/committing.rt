@@ -12,6 +12,7 @@ use crate::waiting::give_waiting;
 use std::snapshot::Snapshot;
 use std::sync::Wait;
 use std::thread::Promise;
+use std::time::Clock;
 use tb_core::{AnyLedger, Outcomes, Parcel};
 use tb_rings::{IdleWait, Inlet, Outlet};
 
@@ -52,7 +53,7 @@ fn is_last(parcel: &Parcel) -> bool
 }
 
 /// Gives the outcomes of a parcel; nothing for a pulse.
-fn give_on<R: Wait>(rt: &R, outlet: &mut Outlet<Outcomes>, outcomes: Outcomes)
+fn give_on<R: Wait + Clock>(rt: &R, outlet: &mut Outlet<Outcomes>, outcomes: Outcomes)
     ensures ring { SameOutlet outlet.old outlet.new }
     ensures given { given outlet.new ≡ given outlet.old ++ given_on outcomes }
 {
@@ -63,7 +64,7 @@ fn give_on<R: Wait>(rt: &R, outlet: &mut Outlet<Outcomes>, outcomes: Outcomes)
 }
 
 /// Passes one parcel through the ledger; whether it is the last.
-fn commit<R: Wait, L: AnyLedger>(
+fn commit<R: Wait + Clock, L: AnyLedger>(
     rt: &R,
     ledger: &mut L,
     outlet: &mut Outlet<Outcomes>,
@@ -84,7 +85,7 @@ fn commit<R: Wait, L: AnyLedger>(
 impl<L: AnyLedger> Committer<L> {
     /// Commits until the last parcel, and gives all replies on, and then the last outcome. The gate let each batch
     /// through, by its number among those that were taken here.
-    pub(crate) fn commit_all<R: Wait, G: Gate>(&mut self, rt: &R, gate: &G)
+    pub(crate) fn commit_all<R: Wait + Clock, G: Gate>(&mut self, rt: &R, gate: &G)
         ensures same { SameInlet self.old.inlet self.new.inlet × SameOutlet self.old.outlet self.new.outlet }
         ensures all { (start : LedgerState)
             → IsCommitted start (taken self.old.inlet) (L.is self.old.ledger) (given self.old.outlet)

@@ -17,6 +17,7 @@ use std::snapshot::Snapshot;
 use std::sync::Wait;
 use std::thread;
 use std::thread::{Scope, Threads};
+use std::time::Clock;
 use tb_core::{AnyLedger, Ledger};
 use tb_drive::{
     ControlDriver, ControlResult, DriveFault, Driver, Joined, Stop, Tasks, submit_once,
@@ -74,7 +75,7 @@ fn run<'s, E, D, C, R, L>(
 where
     D: Driver + Send + 's,
     C: ControlDriver + Send + 's,
-    R: Threads + Wait + Sync,
+    R: Threads + Wait + Clock + Sync,
     L: AnyLedger + Send,
     requires { AreTogether pipeline (map task_submitter tasks.submitters) tasks.control.control }
     ensures reported { (opened : Opened L) → AreTasksOf opened pipeline tasks
@@ -108,7 +109,7 @@ where
 /// its own, the control has its driver and one more, and the calling thread serves. Returns the drivers in their order
 /// with the report; a submitter's end still gives the replies that its driver hasn't taken. If a thread can't be
 /// started the others are stopped, and what was queued is lost with the pipeline.
-pub fn drive_all<D: Driver + Send, C: ControlDriver + Send, R: Threads + Wait + Sync>(
+pub fn drive_all<D: Driver + Send, C: ControlDriver + Send, R: Threads + Wait + Clock + Sync>(
     rt: &R,
     alloc: Global,
     opened: Opened,
@@ -138,7 +139,7 @@ pub fn drive_over<D, C, R, L>(
 where
     D: Driver + Send,
     C: ControlDriver + Send,
-    R: Threads + Wait + Sync,
+    R: Threads + Wait + Clock + Sync,
     L: AnyLedger + Send,
     requires together { AreTogether opened.pipeline opened.submitters.items opened.control }
     requires number { length drivers.items ≡ length opened.pipeline.submitters }

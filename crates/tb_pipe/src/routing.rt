@@ -10,6 +10,7 @@ use crate::waiting::give_waiting;
 use std::snapshot::Snapshot;
 use std::sync::Wait;
 use std::thread::Promise;
+use std::time::Clock;
 use tb_core::Outcomes;
 use tb_rings::{IdleWait, Inlet, Outlet};
 use tb_work::Reply;
@@ -38,7 +39,7 @@ impl Promise<Demultiplexer> for Routing {
 /// Puts a reply into its submitter's ring. There is room: the ring has as many slots as its submitter may have packets
 /// in flight, so no stage waits for a submitter. Were it full all the same, this would wait until the submitter reads.
 #[inline(always)]
-fn route<R: Wait>(rt: &R, outlets: &mut Vec<Outlet<Reply>>, reply: Reply)
+fn route<R: Wait + Clock>(rt: &R, outlets: &mut Vec<Outlet<Reply>>, reply: Reply)
     ensures same { SameOutlets outlets.old.items outlets.new.items }
     ensures more { AllMore (reply ∷ []) outlets.old.items outlets.new.items }
 {
@@ -50,7 +51,7 @@ fn route<R: Wait>(rt: &R, outlets: &mut Vec<Outlet<Reply>>, reply: Reply)
 }
 
 /// Puts the replies of an outcome into their rings; whether the outcome is the last.
-fn route_all<R: Wait>(rt: &R, outlets: &mut Vec<Outlet<Reply>>, outcomes: Outcomes) -> bool
+fn route_all<R: Wait + Clock>(rt: &R, outlets: &mut Vec<Outlet<Reply>>, outcomes: Outcomes) -> bool
     ensures same { SameOutlets outlets.old.items outlets.new.items }
     ensures more { AllMore (replies_in outcomes) outlets.old.items outlets.new.items }
     ensures last { result ≡ is_final outcomes }
@@ -73,7 +74,7 @@ fn route_all<R: Wait>(rt: &R, outlets: &mut Vec<Outlet<Reply>>, outcomes: Outcom
 
 impl Demultiplexer {
     /// Hands replies out until the last outcome.
-    pub(crate) fn route_until_last<R: Wait>(&mut self, rt: &R)
+    pub(crate) fn route_until_last<R: Wait + Clock>(&mut self, rt: &R)
         requires { AllGiven (answers_in (taken self.old.inlet)) self.old.outlets.items }
         ensures same { SameInlet self.old.inlet self.new.inlet × SameOutlets self.old.outlets.items self.new.outlets.items }
         ensures all { AllRouted (taken self.new.inlet) self.new.outlets.items }

@@ -12,6 +12,7 @@ use std::marker::Model;
 use std::sync::Wait;
 use std::thread;
 use std::thread::Threads;
+use std::time::Clock;
 use tb_core::{AnyLedger, Ledger};
 use tb_submit::Intake;
 use tb_work::Refusal;
@@ -116,7 +117,7 @@ impl<L: AnyLedger> Pipeline<L> {
     /// then the demultiplexer, and joins both. If one of them can't be started, or the run was given up before, nothing was
     /// taken (`NoThread`): the intake comes back, to take what is queued, and the pipeline is spent. If memory runs out the pipeline
     /// stops, and answers.
-    pub fn serve<R: Threads + Wait + Sync, G: Gate>(
+    pub fn serve<R: Threads + Wait + Clock + Sync, G: Gate>(
         self,
         rt: &R,
         gate: &G,

@@ -15,6 +15,7 @@ use crate::waiting::give_waiting;
 use std::snapshot::Snapshot;
 use std::sync::Wait;
 use std::thread::{PromisedHandle, Scope, Threads};
+use std::time::Clock;
 use tb_core::{AnyLedger, Front, Parcel};
 use tb_rings::Outlet;
 use tb_submit::Intake;
@@ -42,7 +43,7 @@ pub(crate) struct StoppedStages<L> {
 }
 
 /// Starts the committer.
-fn start_committer<'s, E, R: Wait + Sync, G: Gate, L: AnyLedger + Send + 's>(
+fn start_committer<'s, E, R: Wait + Clock + Sync, G: Gate, L: AnyLedger + Send + 's>(
     scope: &Scope<'s, E>,
     rt: &'s R,
     gate: &'s G,
@@ -70,7 +71,7 @@ fn start_committer<'s, E, R: Wait + Sync, G: Gate, L: AnyLedger + Send + 's>(
 }
 
 /// Starts the demultiplexer.
-fn start_demultiplexer<'s, E, R: Wait + Sync>(
+fn start_demultiplexer<'s, E, R: Wait + Clock + Sync>(
     scope: &Scope<'s, E>,
     rt: &'s R,
     stage: Demultiplexer,
@@ -156,7 +157,7 @@ impl<L: AnyLedger> Stages<L> {
 
     /// Runs the stages until each sender has ended: starts the committer and the demultiplexer, is the batcher, and joins
     /// both. If a thread can't be started the intake comes back.
-    pub(crate) fn run<'s, E, R: Threads + Wait + Sync, G: Gate>(
+    pub(crate) fn run<'s, E, R: Threads + Wait + Clock + Sync, G: Gate>(
         self,
         scope: &Scope<'s, E>,
         rt: &'s R,

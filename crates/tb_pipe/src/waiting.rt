@@ -4,11 +4,12 @@ ghost use Rattle.std.specs.Prelude.{◌≡◌, [], ◌∷◌, ◌++◌};
 ghost use Rattle.tb_rings.specs.clauses.Ends.{given, SameOutlet};
 
 use std::sync::Wait;
+use std::time::Clock;
 use tb_rings::{IdleWait, Outlet};
 
 /// Gives a value as soon as there is a free slot.
 #[inline(always)]
-pub(crate) fn give_waiting<T: Drop, R: Wait>(rt: &R, outlet: &mut Outlet<T>, value: T)
+pub(crate) fn give_waiting<T: Drop, R: Wait + Clock>(rt: &R, outlet: &mut Outlet<T>, value: T)
     ensures ring { SameOutlet outlet.old outlet.new }
     ensures given { given outlet.new ≡ given outlet.old ++ value ∷ [] }
 {
@@ -21,7 +22,7 @@ pub(crate) fn give_waiting<T: Drop, R: Wait>(rt: &R, outlet: &mut Outlet<T>, val
 ///
 /// It is a call of its own because a loop copies the value that it keeps, and a ring is rarely full.
 #[inline(never)]
-fn give_later<T: Drop, R: Wait>(rt: &R, outlet: &mut Outlet<T>, value: T)
+fn give_later<T: Drop, R: Wait + Clock>(rt: &R, outlet: &mut Outlet<T>, value: T)
     ensures ring { SameOutlet outlet.old outlet.new }
     ensures given { given outlet.new ≡ given outlet.old ++ value ∷ [] }
 {

@@ -31,6 +31,7 @@ use std::alloc::Global;
 use std::io::{Read, Write};
 use std::sync::Wait;
 use std::thread::Threads;
+use std::time::Clock;
 use tb_drive::ControlPlan;
 use tb_layout::NoMemory;
 use tb_pipe::{Opened, drive_all, open};
@@ -81,7 +82,7 @@ fn drivers(alloc: Global, packets: Vec<Vec<Packet>>) -> Result<Vec<ScriptDriver>
 }
 
 /// Runs what is opened until all of its senders have ended; the output of the run.
-fn run_opened<T: Threads + Wait + Sync>(
+fn run_opened<T: Threads + Wait + Clock + Sync>(
     rt: &T,
     alloc: Global,
     opened: Opened,
@@ -106,7 +107,7 @@ fn run_opened<T: Threads + Wait + Sync>(
 }
 
 /// Returns the text of a run of these shares with these settings.
-fn text_for<T: Threads + Wait + Sync>(
+fn text_for<T: Threads + Wait + Clock + Sync>(
     rt: &T,
     alloc: Global,
     settings: &Settings,
@@ -127,7 +128,7 @@ fn text_for<T: Threads + Wait + Sync>(
 }
 
 /// Returns the output for a script that has no fault.
-fn output_for<T: Threads + Wait + Sync>(
+fn output_for<T: Threads + Wait + Clock + Sync>(
     rt: &T,
     alloc: Global,
     script: Script,
@@ -149,7 +150,7 @@ fn output_for<T: Threads + Wait + Sync>(
 
 /// Reads a script to its end, and returns what `run_threads` writes of it, whether it has no fault, and if it has one a remark on that for
 /// people.
-pub fn run_output<T: Threads + Wait + Sync, R: Read>(
+pub fn run_output<T: Threads + Wait + Clock + Sync, R: Read>(
     rt: &T,
     alloc: Global,
     reader: &mut R,
@@ -175,7 +176,7 @@ pub fn run_output<T: Threads + Wait + Sync, R: Read>(
 /// result of each packet, the packets of submitter 0 first, then the pulses, the clock and the accounts. Returns
 /// whether the script has no fault; only the fault is printed if it has one, and no thread is started. All output is
 /// made before its first byte is written.
-pub fn run_threads<T: Threads + Wait + Sync, R: Read, W: Write>(
+pub fn run_threads<T: Threads + Wait + Clock + Sync, R: Read, W: Write>(
     rt: &T,
     alloc: Global,
     reader: &mut R,

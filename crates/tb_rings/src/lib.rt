@@ -20,6 +20,7 @@ pub use laws::{no_wake_up_is_lost, waking_ends};
 use rtrb::{Consumer, Producer, RingBuffer};
 use std::alloc::Global;
 use std::sync::Wait;
+use std::time::Clock;
 use tb_layout::NoMemory;
 pub use waiting::{IdleWait, PollWait, Sleeper, Waker};
 
@@ -110,7 +111,7 @@ impl<T: Drop> Outlet<T> {
     }
 
     /// Waits for a slot as `Sleeper::wait` does; each value that is taken wakes it.
-    pub fn wait<R: Wait>(&self, rt: &R, idle: &IdleWait) {
+    pub fn wait<R: Wait + Clock>(&self, rt: &R, idle: &IdleWait) {
         self.sleeper.wait(rt, idle);
     }
 }
@@ -157,7 +158,7 @@ impl<T: Drop> Inlet<T> {
     }
 
     /// Waits for a value as `Sleeper::wait` does; each value that is given wakes it.
-    pub fn wait<R: Wait>(&self, rt: &R, idle: &IdleWait) {
+    pub fn wait<R: Wait + Clock>(&self, rt: &R, idle: &IdleWait) {
         self.sleeper.wait(rt, idle);
     }
 

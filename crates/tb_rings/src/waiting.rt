@@ -4,45 +4,114 @@ use crossbeam_utils::sync::{Parker, Unparker};
 use std::alloc::Global;
 use std::cell::Cell;
 use std::sync::Wait;
-use std::thread;
-use std::time::Duration;
+use std::time::{Clock, Duration, Instant};
+use std::{hint, io, thread};
 use tb_layout::NoMemory;
 
-/// How many times a thread yields before it sleeps: together some 30 microseconds, about what it takes to go to sleep and
-/// be woken.
-const YIELDS: u32 = 64;
+/// How many times a thread looks again before it sleeps. With a yield between two looks that takes some 30 microseconds, about what it
+/// takes to go to sleep and be woken.
+const LOOKS: u32 = 64;
+
+/// How many microseconds a yield takes at most if the processor goes to a thread of the same pipeline. Another program keeps it for its
+/// time slice, some milliseconds.
+const YIELD_MICROSECONDS: u64 = 1_000;
+
+/// For how many waits a thread doesn't yield after two yields in a row took longer.
+const WAITS_WITHOUT_YIELDS: u32 = 100;
 
 /// How many microseconds a thread sleeps between two looks at what nobody wakes it for: a look takes some two of processor time.
 const POLL_MICROSECONDS: u64 = 50;
 
-/// How long a thread has had nothing to do. It yields first, and then sleeps. It doesn't idle, since what it waits for is the
-/// work of another thread, which may need this processor.
+/// How a thread pauses between two looks. It yields, since what it waits for is the work of another thread, which may need this processor.
+/// If other programs want it too, a yield costs a time slice. Then the thread keeps the processor for a while as it looks, and soon
+/// sleeps: a thread that is woken gets a processor sooner than one that yielded. Now and then it yields again, to see whether that pays.
+#[derive(Drop)]
+struct Pausing {
+    /// How many yields in a row took long, at most two.
+    long_yields: Cell<u32>,
+    /// For how many waits it doesn't yield.
+    without_yields: Cell<u32>,
+}
+
+impl Pausing {
+    /// Returns the state of a thread, after this number of yields took long.
+    fn new(long_yields: u32) -> Pausing {
+        Pausing {
+            long_yields: Cell::new(long_yields),
+            without_yields: Cell::new(0),
+        }
+    }
+
+    /// Begins a wait.
+    fn begin(&self) {
+        self.without_yields
+            .set(self.without_yields.get().saturating_sub(1));
+    }
+
+    /// Notes whether a yield took long.
+    fn note(&self, is_long: bool) {
+        if !is_long {
+            self.long_yields.set(0);
+        } else if self.long_yields.get() == 0 {
+            self.long_yields.set(1);
+        } else {
+            self.without_yields.set(WAITS_WITHOUT_YIELDS);
+        }
+    }
+
+    /// Yields, or pauses for some nanoseconds.
+    fn pause<R: Clock>(&self, rt: &R) {
+        if self.without_yields.get() > 0 {
+            hint::spin_loop();
+            return;
+        }
+        let before = Instant::now(rt);
+        thread::yield_now();
+        self.note(took_long(rt, before));
+    }
+}
+
+/// Returns whether more than `YIELD_MICROSECONDS` went by since a moment. False if the clock can't be read.
+fn took_long<R: Clock>(rt: &R, before: io::Result<Instant>) -> bool {
+    let Ok(before) = before else {
+        return false;
+    };
+    let Ok(elapsed) = before.elapsed(rt) else {
+        return false;
+    };
+    elapsed > Duration::from_micros(YIELD_MICROSECONDS)
+}
+
+/// How long a thread has had nothing to do. It looks again a number of times, and then sleeps.
 #[derive(Drop)]
 pub struct IdleWait {
-    yields: Cell<u32>,
+    looks: Cell<u32>,
 }
 
 impl IdleWait {
     /// Returns the state after something was done. Takes no memory.
     pub fn new() -> IdleWait {
         IdleWait {
-            yields: Cell::new(0),
+            looks: Cell::new(0),
         }
     }
 
     /// Begins again, since there was something to do.
     pub fn reset(&self) {
-        self.yields.set(0);
+        self.looks.set(0);
     }
 
-    /// Yields once. False if it has yielded long enough.
-    fn pause(&self) -> bool {
-        let yields = self.yields.get();
-        if yields >= YIELDS {
+    /// Pauses until the next look. False if it has looked often enough.
+    fn pause<R: Clock>(&self, rt: &R, pausing: &Pausing) -> bool {
+        let looks = self.looks.get();
+        if looks >= LOOKS {
             return false;
         }
-        self.yields.set(yields + 1);
-        thread::yield_now();
+        if looks == 0 {
+            pausing.begin();
+        }
+        self.looks.set(looks + 1);
+        pausing.pause(rt);
         true
     }
 }
@@ -52,6 +121,7 @@ impl IdleWait {
 #[derive(Drop)]
 pub struct PollWait {
     idle: IdleWait,
+    pausing: Pausing,
     parker: thread::Parker,
 }
 
@@ -60,6 +130,8 @@ impl PollWait {
     pub fn new() -> PollWait {
         PollWait {
             idle: IdleWait::new(),
+            // (most are made for one wait, so that one long yield is enough)
+            pausing: Pausing::new(1),
             parker: thread::Parker::new(),
         }
     }
@@ -69,9 +141,10 @@ impl PollWait {
         self.idle.reset();
     }
 
-    /// Yields once, or sleeps for a moment once it has yielded long enough.
-    pub fn wait<R: Wait>(&self, rt: &R) {
-        if !self.idle.pause() {
+    /// Yields once, or sleeps for a moment once it has yielded often enough. It doesn't yield while yields take long, as on a machine
+    /// whose processors are all wanted by other programs.
+    pub fn wait<R: Wait + Clock>(&self, rt: &R) {
+        if !self.idle.pause(rt, &self.pausing) {
             self.parker
                 .park_timeout(rt, Duration::from_micros(POLL_MICROSECONDS));
         }
@@ -81,12 +154,13 @@ impl PollWait {
 /// What one thread waits with.
 pub struct Sleeper {
     parker: Parker,
+    pausing: Pausing,
 }
 
 impl Drop for Sleeper {
     /// Frees everything held in one call, so that no owner's proof repeats it.
     fn drop(self) {
-        let Sleeper { parker } = self;
+        let Sleeper { parker, pausing: _ } = self;
         drop(parker);
     }
 }
@@ -109,6 +183,7 @@ impl Sleeper {
     pub fn new(alloc: Global) -> Result<Sleeper, NoMemory> {
         Ok(Sleeper {
             parker: Parker::new(alloc)?,
+            pausing: Pausing::new(0),
         })
     }
 
@@ -120,13 +195,13 @@ impl Sleeper {
         })
     }
 
-    /// Yields once, or sleeps until a waker is used, once it has yielded long enough. It may return early, so the caller
-    /// looks again at what it waits for.
+    /// Yields once, or sleeps until a waker is used, once it has yielded often enough. It doesn't yield while yields take long, as on a
+    /// machine whose processors are all wanted by other programs. It may return early, so the caller looks again at what it waits for.
     ///
     /// Tested, not proved: a waker that was used since the last sleep keeps the next from starting. What was changed before
     /// the waker was used is then seen.
-    pub fn wait<R: Wait>(&self, rt: &R, idle: &IdleWait) {
-        if !idle.pause() {
+    pub fn wait<R: Wait + Clock>(&self, rt: &R, idle: &IdleWait) {
+        if !idle.pause(rt, &self.pausing) {
             self.parker.park(rt);
         }
     }

@@ -6,6 +6,7 @@ ghost use Rattle.tb_submit.specs.clauses.Ends.{new_intake, with_empty, with_take
 use crate::reader::Reader;
 use std::marker::Model;
 use std::sync::Wait;
+use std::time::Clock;
 use tb_rings::IdleWait;
 use tb_work::Ticket;
 
@@ -73,7 +74,7 @@ impl Intake {
 
     /// Waits for something to take: yields once, or sleeps until a sender queues something, once it has yielded long
     /// enough. It may return early, so take again after it. Takes no memory.
-    pub fn wait<R: Wait>(&self, rt: &R, idle: &IdleWait) {
+    pub fn wait<R: Wait + Clock>(&self, rt: &R, idle: &IdleWait) {
         self.reader.wait(rt, idle);
     }
 }

@@ -12,6 +12,7 @@ use crate::service::Service;
 use std::alloc::Global;
 use std::marker::Model;
 use std::sync::{Arc, Wait};
+use std::time::Clock;
 use tb_layout::NoMemory;
 use tb_rings::{IdleWait, Sleeper};
 use tb_work::Ticket;
@@ -145,7 +146,7 @@ impl Reader {
     }
 
     /// Waits as `Sleeper::wait` does; each push wakes it.
-    pub(crate) fn wait<R: Wait>(&self, rt: &R, idle: &IdleWait) {
+    pub(crate) fn wait<R: Wait + Clock>(&self, rt: &R, idle: &IdleWait) {
         self.sleeper.wait(rt, idle);
     }
 

@@ -18,6 +18,7 @@ use crate::sender::Sender;
 use std::alloc::Global;
 use std::marker::Model;
 use std::sync::Wait;
+use std::time::Clock;
 use tb_layout::NoMemory;
 use tb_rings::{IdleWait, Inlet, Waker};
 use tb_work::{Item, Job, Outcome, Packet, Refusal, Reply};
@@ -167,7 +168,7 @@ impl Submitter {
     /// Waits for a reply: yields once, or sleeps until a reply is given or a waker of this submitter is used, once it has
     /// yielded long enough. It may return early, so read again after it. Takes no memory. With no packet in flight
     /// nothing but a waker ends the sleep.
-    pub fn wait<R: Wait>(&self, rt: &R, idle: &IdleWait) {
+    pub fn wait<R: Wait + Clock>(&self, rt: &R, idle: &IdleWait) {
         self.inlet.wait(rt, idle);
     }
 

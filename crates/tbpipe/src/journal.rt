@@ -20,6 +20,7 @@ use std::alloc::Global;
 use std::fs;
 use std::sync::Wait;
 use std::thread::Threads;
+use std::time::Clock;
 use tb_core::Seed;
 use tb_durable::{DurableLedger, Settings, open_file};
 use tb_layout::BATCH_MAX;
@@ -116,7 +117,7 @@ pub(crate) fn list_into(rt: &HostRuntime, path: &str) -> Result<Journaled, Journ
 }
 
 /// Reads a script and commits it to the ledger at a path by a pipeline. Returns what is written of it, as `tb_program::run_output` does.
-pub(crate) fn run_into<T: Threads + Wait + Sync>(
+pub(crate) fn run_into<T: Threads + Wait + Clock + Sync>(
     rt: &HostRuntime,
     threads: &T,
     path: &str,

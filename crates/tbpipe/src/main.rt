@@ -15,6 +15,7 @@ use std::process::ExitCode;
 use std::rt::Env;
 use std::sync::Wait;
 use std::thread::Threads;
+use std::time::Clock;
 use std::{env, io};
 use tb_program::{Output, list_output, run_output};
 use tb_program_text::{
@@ -107,7 +108,7 @@ fn list(rt: &HostRuntime, options: &Options) -> Result<Ending, JournalFault> {
     }
 }
 
-fn run<T: Threads + Wait + Sync>(
+fn run<T: Threads + Wait + Clock + Sync>(
     rt: &HostRuntime,
     threads: &T,
     options: &Options,
@@ -129,7 +130,10 @@ fn print_ledger(rt: &HostRuntime, path: &FilePath) -> Result<Ending, JournalFaul
 }
 
 /// Does what the arguments ask for. Returns how the program ends. Only `main` has a runtime with threads, so they come apart.
-fn answer<T: Threads + Wait + Sync>(rt: &HostRuntime, threads: &T) -> Result<Ending, JournalFault> {
+fn answer<T: Threads + Wait + Clock + Sync>(
+    rt: &HostRuntime,
+    threads: &T,
+) -> Result<Ending, JournalFault> {
     match read_arguments(rt) {
         Ok(Request::List(options)) => list(rt, &options),
         Ok(Request::Run(options)) => run(rt, threads, &options),

@@ -24,6 +24,7 @@ use crate::run::{drivers, open_for};
 use std::alloc::Global;
 use std::sync::Wait;
 use std::thread::Threads;
+use std::time::Clock;
 use tb_core::AnyLedger;
 use tb_drive::ControlPlan;
 use tb_layout::NoMemory;
@@ -57,7 +58,7 @@ fn lines_of(alloc: Global, drivers: Vec<ScriptDriver>, ends: Vec<Ended>) -> Resu
 }
 
 /// Runs what is opened until all of its senders have ended.
-fn run_opened_over<T: Threads + Wait + Sync, L: AnyLedger + Send>(
+fn run_opened_over<T: Threads + Wait + Clock + Sync, L: AnyLedger + Send>(
     rt: &T,
     alloc: Global,
     opened: Opened<L>,
@@ -108,7 +109,7 @@ fn run_opened_over<T: Threads + Wait + Sync, L: AnyLedger + Send>(
 /// # Errors
 ///
 /// `NoMemory` or `NoThread`. What was committed before that is where the ledger keeps its journal.
-pub fn run_over<T: Threads + Wait + Sync, L: AnyLedger + Send>(
+pub fn run_over<T: Threads + Wait + Clock + Sync, L: AnyLedger + Send>(
     rt: &T,
     alloc: Global,
     ledger: L,

@@ -37,7 +37,7 @@ pub data Step : Type 0 where
   Wake : Step  -- the same, its call of the kernel if the word was PARKED
   Look : Step  -- `Inlet::take`: self.has_value(), and pop_known() if so; `Outlet::give`; `Reader::take`: self.queue.pop_as(..)
   See : Step  -- `Client::receive`, `receive` of tb_drive: stop.is_given_up()
-  Yield : Step  -- `IdleWait::pause`: thread::yield_now()
+  Yield : Step  -- `IdleWait::pause`: it yields, or only looks again
   Park : Step  -- `Sleeper::wait`: self.parker.park(rt), its exchange of EMPTY for PARKED
   Try : Step  -- the same, its exchange of NOTIFIED for EMPTY
   Doze : Step  -- the same, its call of the kernel, which sleeps only if the word is PARKED

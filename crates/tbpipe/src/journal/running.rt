@@ -12,6 +12,7 @@ use sqlite_trees::store::Store;
 use std::alloc::{AllocError, Global};
 use std::sync::Wait;
 use std::thread::Threads;
+use std::time::Clock;
 use tb_durable::DurableLedger;
 use tb_layout::BATCH_MAX;
 use tb_program::{Output, RunOver, put_state, run_over};
@@ -63,7 +64,7 @@ fn journaled<S: Store + Drop>(
 }
 
 /// Commits a script to a ledger that hasn't stopped, and notes the places of its pulses.
-fn run_noting<R: Threads + Wait + Sync, S: Store + Drop + Send>(
+fn run_noting<R: Threads + Wait + Clock + Sync, S: Store + Drop + Send>(
     rt: &R,
     alloc: Global,
     ledger: DurableLedger<S>,
@@ -83,7 +84,7 @@ fn run_noting<R: Threads + Wait + Sync, S: Store + Drop + Send>(
 }
 
 /// Commits a script to the ledger of a store, with a thread for each submitter. Packets are numbered from 0, as in each run.
-pub(crate) fn run_script<R: Threads + Wait + Sync, S: Store + Drop + Send>(
+pub(crate) fn run_script<R: Threads + Wait + Clock + Sync, S: Store + Drop + Send>(
     rt: &R,
     alloc: Global,
     store: S,
