@@ -173,7 +173,7 @@ impl Driver for Noter {
 }
 
 /// Runs a pipeline with a submitter for each driver, without a pulse or a Close.
-fn run<R: Threads + Wait + Sync + Abort>(
+fn run<R: Threads + Wait + Clock + Sync + Abort>(
     rt: &R,
     alloc: Global,
     limit: u32,
@@ -229,7 +229,7 @@ fn seen_in(rt: &impl Abort, alloc: Global, finished: Finished<Noter, PlanDriver>
 }
 
 /// Runs one submitter with these steps, without a pulse or a Close: what was seen of it.
-fn run_one<R: Threads + Wait + Sync + Abort>(
+fn run_one<R: Threads + Wait + Clock + Sync + Abort>(
     rt: &R,
     alloc: Global,
     limit: u32,

@@ -5,6 +5,7 @@ use std::alloc::Global;
 use std::process::Abort;
 use std::sync::Wait;
 use std::thread::Threads;
+use std::time::Clock;
 use tb_program::{run_script, run_threads};
 use tb_test_makers::check;
 
@@ -22,7 +23,10 @@ fn listed(rt: &(impl Abort + Alloc<A = Global>), script: &str) -> String {
 }
 
 /// Returns what `run` writes for a script.
-fn ran<R: Abort + Threads + Wait + Sync + Alloc<A = Global>>(rt: &R, script: &str) -> String {
+fn ran<R: Abort + Threads + Wait + Clock + Sync + Alloc<A = Global>>(
+    rt: &R,
+    script: &str,
+) -> String {
     let mut out = Vec::new(rt.alloc());
     let _ = run_threads(rt, rt.alloc(), &mut script.as_bytes(), &mut out).expect(rt, "memory");
     String::from_utf8(out).ok().expect(rt, "text")
@@ -35,7 +39,7 @@ fn assert_list(rt: &(impl Abort + Alloc<A = Global>), script: &str, output: &str
 }
 
 /// Asserts what `run` writes for a script.
-fn assert_run<R: Abort + Threads + Wait + Sync + Alloc<A = Global>>(
+fn assert_run<R: Abort + Threads + Wait + Clock + Sync + Alloc<A = Global>>(
     rt: &R,
     script: &str,
     output: &str,
@@ -45,7 +49,7 @@ fn assert_run<R: Abort + Threads + Wait + Sync + Alloc<A = Global>>(
 }
 
 /// Asserts what both write, for a script in which the schedule decides nothing.
-fn assert_both<R: Abort + Threads + Wait + Sync + Alloc<A = Global>>(
+fn assert_both<R: Abort + Threads + Wait + Clock + Sync + Alloc<A = Global>>(
     rt: &R,
     script: &str,
     output: &str,

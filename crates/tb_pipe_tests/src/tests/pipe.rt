@@ -12,6 +12,7 @@ use std::alloc::{AllocError, Global};
 use std::process::Abort;
 use std::sync::Wait;
 use std::thread::Threads;
+use std::time::Clock;
 use tb_core::Entry;
 use tb_layout::{CREATE_ACCOUNTS, NoMemory};
 use tb_pipe::{Gate, Opened, Options, Pipeline, Report, settle};
@@ -125,7 +126,7 @@ fn open_lone(rt: &impl Abort, alloc: Global, limit: u32, capacity: u32, credit: 
 }
 
 /// Submits a packet: its number. If it is refused it comes back.
-fn submit<R: Wait + Abort>(
+fn submit<R: Wait + Clock + Abort>(
     rt: &R,
     alloc: Global,
     submitter: &mut Submitter,
@@ -138,7 +139,7 @@ fn submit<R: Wait + Abort>(
 }
 
 /// Returns the answer to a packet of an operation with one account: its number, or why it is refused.
-fn answer_to<R: Wait + Abort>(
+fn answer_to<R: Wait + Clock + Abort>(
     rt: &R,
     alloc: Global,
     submitter: &mut Submitter,
@@ -158,20 +159,26 @@ fn answer_to<R: Wait + Abort>(
 }
 
 /// Queues a packet of an operation with one account, or without events if the id is 0.
-fn queue<R: Wait + Abort>(rt: &R, alloc: Global, submitter: &mut Submitter, operation: u8, id: u8)
+fn queue<R: Wait + Clock + Abort>(
+    rt: &R,
+    alloc: Global,
+    submitter: &mut Submitter,
+    operation: u8,
+    id: u8,
+)
     ensures { origin_of submitter.new ≡ origin_of submitter.old }
 {
     check!(rt; answer_to(rt, alloc, submitter, operation, id).is_ok());
 }
 
-fn queue_pulse<R: Wait + Abort>(rt: &R, control: &mut Control, moment: u64)
+fn queue_pulse<R: Wait + Clock + Abort>(rt: &R, control: &mut Control, moment: u64)
     ensures { control.new.seat ≡ control.old.seat }
 {
     check!(rt; control.queued() < 1 << 56);
     check!(rt; control.pulse(rt, moment).is_ok());
 }
 
-fn end_control<R: Wait + Abort>(rt: &R, control: Control, shut: bool) -> ControlEnd
+fn end_control<R: Wait + Clock + Abort>(rt: &R, control: Control, shut: bool) -> ControlEnd
     ensures { result.seat ≡ control.seat }
 {
     let ended = if shut {
@@ -193,7 +200,7 @@ fn room_for_ends(alloc: Global) -> Result<Vec<Ended>, AllocError>
 }
 
 /// Ends a submitter, and adds its end after the others; there is room for it.
-fn end_one<R: Wait + Abort>(rt: &R, ends: &mut Vec<Ended>, submitter: Submitter)
+fn end_one<R: Wait + Clock + Abort>(rt: &R, ends: &mut Vec<Ended>, submitter: Submitter)
     ensures { map end_origin ends.new.items ≡ map end_origin ends.old.items ++ origin_of submitter ∷ [] }
 {
     let ended = submitter
@@ -209,7 +216,7 @@ fn put(rt: &impl Abort, ends: &mut Vec<Ended>, ended: Ended)
     ends.push(ended).expect(rt, "there is room");
 }
 
-fn end_all<R: Wait + Abort>(rt: &R, alloc: Global, submitters: Vec<Submitter>) -> Vec<Ended>
+fn end_all<R: Wait + Clock + Abort>(rt: &R, alloc: Global, submitters: Vec<Submitter>) -> Vec<Ended>
     ensures { map end_origin result.items ≡ map origin_of submitters.items }
 {
     let mut ends = room_for_ends(alloc).expect(rt, "memory");
@@ -220,7 +227,12 @@ fn end_all<R: Wait + Abort>(rt: &R, alloc: Global, submitters: Vec<Submitter>) -
 }
 
 /// Queues accounts, each in its packet.
-fn queue_accounts<R: Wait + Abort>(rt: &R, alloc: Global, submitter: &mut Submitter, ids: &[u8])
+fn queue_accounts<R: Wait + Clock + Abort>(
+    rt: &R,
+    alloc: Global,
+    submitter: &mut Submitter,
+    ids: &[u8],
+)
     ensures { origin_of submitter.new ≡ origin_of submitter.old }
 {
     for id in ids {
@@ -236,7 +248,7 @@ struct Ends {
 }
 
 /// Serves what is queued, once all have ended, and settles.
-fn finish<R: Threads + Wait + Sync, G: Gate>(
+fn finish<R: Threads + Wait + Clock + Sync, G: Gate>(
     rt: &R,
     pipeline: Pipeline,
     ends: Ends,
@@ -252,7 +264,7 @@ fn finish<R: Threads + Wait + Sync, G: Gate>(
 }
 
 /// Ends the control, queues accounts after that, ends the submitter, serves what is queued, and settles.
-fn finish_lone<R: Threads + Wait + Sync + Abort, G: Gate>(
+fn finish_lone<R: Threads + Wait + Clock + Sync + Abort, G: Gate>(
     rt: &R,
     alloc: Global,
     lone: Lone,
@@ -281,7 +293,7 @@ fn finish_lone<R: Threads + Wait + Sync + Abort, G: Gate>(
 }
 
 /// Serves and settles as `finish` does, if threads can be started.
-fn finish_started<R: Threads + Wait + Sync + Abort, G: Gate>(
+fn finish_started<R: Threads + Wait + Clock + Sync + Abort, G: Gate>(
     rt: &R,
     pipeline: Pipeline,
     ends: Ends,

@@ -8,6 +8,7 @@ use super::packet_of;
 use std::alloc::Global;
 use std::sync::Wait;
 use std::thread::Threads;
+use std::time::Clock;
 use tb_drive::{Action, ControlPlan, Driver, PlanDriver};
 use tb_layout::CREATE_ACCOUNTS;
 use tb_pipe::{Finished, drive_all, open};
@@ -79,7 +80,7 @@ impl Driver for Reader {
 }
 
 /// Runs one reader over a queue of 8 slots, with a credit of 4. None if the run is given up.
-fn run_reader<R: Threads + Wait + Sync>(
+fn run_reader<R: Threads + Wait + Clock + Sync>(
     rt: &R,
     alloc: Global,
     reader: Reader,

@@ -5,6 +5,7 @@ use std::alloc::Global;
 use std::process::Abort;
 use std::sync::Wait;
 use std::thread::Threads;
+use std::time::Clock;
 use tb_blocking::Client;
 use tb_drive::{Action, ControlPlan, Driver, Stop};
 use tb_layout::NoMemory;
@@ -103,7 +104,7 @@ impl Driver for Asker {
 }
 
 /// Returns the first refusal that a driver receives; None if there is none, or the run is given up.
-fn refusal_by_driver<R: Threads + Wait + Sync>(rt: &R, alloc: Global) -> Option<Refusal> {
+fn refusal_by_driver<R: Threads + Wait + Clock + Sync>(rt: &R, alloc: Global) -> Option<Refusal> {
     let mut drivers = Vec::new(alloc);
     let asker = Asker {
         left: 20,
@@ -122,7 +123,7 @@ fn refusal_by_driver<R: Threads + Wait + Sync>(rt: &R, alloc: Global) -> Option<
 }
 
 /// Returns the refusal of a client's packet; None if there is none, or no client.
-fn refusal_of_client<R: Wait>(rt: &R, alloc: Global) -> Option<Refusal> {
+fn refusal_of_client<R: Wait + Clock>(rt: &R, alloc: Global) -> Option<Refusal> {
     let mut opened = open(alloc, 0, 4, 4, 4, 1).ok()?;
     let stop = Stop::of(alloc, &opened.submitters).ok()?;
     let mut client = Client::new(opened.submitters.pop()?, &stop);

@@ -6,6 +6,7 @@ use std::process::Abort;
 use std::sync::Wait;
 use std::thread;
 use std::thread::Threads;
+use std::time::Clock;
 use tb_drive::{Action, ControlPlan, Driver};
 use tb_layout::CREATE_ACCOUNTS;
 use tb_pipe::{drive_all, open};
@@ -82,7 +83,7 @@ impl Driver for WakingSender {
 
 /// Runs a driver for each of the seeds and a control that pulses. Asserts that each driver was given a reply to each packet, and that
 /// all packets and pulses are committed.
-fn assert_replies<R: Threads + Wait + Sync + Abort>(
+fn assert_replies<R: Threads + Wait + Clock + Sync + Abort>(
     rt: &R,
     alloc: Global,
     packets: u32,

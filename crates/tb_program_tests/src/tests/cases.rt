@@ -5,6 +5,7 @@ use std::alloc::Global;
 use std::process::Abort;
 use std::sync::Wait;
 use std::thread::Threads;
+use std::time::Clock;
 
 /// Each case is a line with who runs it and its name, then its script, `--` and the end of its line, and the output. `list`
 /// or `run` runs it, or `both` if the schedule decides nothing.
@@ -351,7 +352,7 @@ account 2 2 0 0 0 5
 ];
 
 /// Asserts the output of a case whose script follows a setup.
-fn assert_case<R: Abort + Threads + Wait + Sync + Alloc<A = Global>>(
+fn assert_case<R: Abort + Threads + Wait + Clock + Sync + Alloc<A = Global>>(
     rt: &R,
     setup: &str,
     case: &str,

@@ -9,6 +9,7 @@ use std::process::Abort;
 use std::sync::Wait;
 use std::thread;
 use std::thread::Threads;
+use std::time::Clock;
 use tb_blocking::{Client, ControlClient};
 use tb_drive::{Action, ControlAction, ControlDriver, DriveFault, Driver, Stop, Tasks};
 use tb_layout::CREATE_ACCOUNTS;
@@ -47,7 +48,7 @@ const CALLS: [Blocked; 7] = [
 
 /// Fills the queue with packets and pulses in turn, and then makes the call. Returns whether it says that the run is given up. A
 /// reply is waited for twice: only the first time a waker is used.
-fn gives_up<R: Wait + Abort>(
+fn gives_up<R: Wait + Clock + Abort>(
     rt: &R,
     alloc: Global,
     submitter: Submitter,
@@ -79,7 +80,7 @@ fn gives_up<R: Wait + Abort>(
 }
 
 /// Makes a call in a thread of its own while another gives the run up. Returns whether the call says so.
-fn call_and_stop<R: Threads + Wait + Sync + Abort>(
+fn call_and_stop<R: Threads + Wait + Clock + Sync + Abort>(
     rt: &R,
     alloc: Global,
     slots: u32,
@@ -167,7 +168,7 @@ impl ControlDriver for Busy {
 }
 
 /// Runs drivers in threads of their own while another gives the run up. Returns why the run gives nothing.
-fn drive_and_stop<R: Threads + Wait + Sync + Abort>(
+fn drive_and_stop<R: Threads + Wait + Clock + Sync + Abort>(
     rt: &R,
     alloc: Global,
     slots: u32,

@@ -12,6 +12,7 @@ use std::process::Abort;
 use std::sync::Wait;
 use std::thread;
 use std::thread::Threads;
+use std::time::Clock;
 use tb_blocking::Client;
 use tb_drive::Stop;
 use tb_layout::CREATE_ACCOUNTS;
@@ -29,7 +30,7 @@ pub(super) fn open_narrow(rt: &impl Abort, alloc: Global, credit: u32) -> (Lone,
 }
 
 /// Submits a packet with this account. Returns its number, or why it is refused.
-pub(super) fn submit<R: Wait + Abort>(
+pub(super) fn submit<R: Wait + Clock + Abort>(
     rt: &R,
     alloc: Global,
     client: &mut Client<'_>,
@@ -48,7 +49,7 @@ pub(super) fn submit<R: Wait + Abort>(
 }
 
 /// Waits for the next reply, and returns its packet's place.
-pub(super) fn receive<R: Wait>(rt: &R, client: &mut Client<'_>) -> Option<OutcomeKind>
+pub(super) fn receive<R: Wait + Clock>(rt: &R, client: &mut Client<'_>) -> Option<OutcomeKind>
     ensures { origin_of client.new ≡ origin_of client.old }
 {
     match client.receive(rt) {
@@ -58,7 +59,7 @@ pub(super) fn receive<R: Wait>(rt: &R, client: &mut Client<'_>) -> Option<Outcom
 }
 
 /// Exchanges a packet with this account for the next reply. Returns its packet's place, or why it is refused.
-pub(super) fn exchange<R: Wait + Abort>(
+pub(super) fn exchange<R: Wait + Clock + Abort>(
     rt: &R,
     alloc: Global,
     client: &mut Client<'_>,
@@ -78,7 +79,7 @@ pub(super) fn exchange<R: Wait + Abort>(
 }
 
 /// Queues a packet at a time with a credit of one, and waits for each reply. One packet is too many in between.
-fn trade<R: Wait + Abort>(rt: &R, alloc: Global, client: &mut Client<'_>)
+fn trade<R: Wait + Clock + Abort>(rt: &R, alloc: Global, client: &mut Client<'_>)
     ensures { origin_of client.new ≡ origin_of client.old }
 {
     check!(rt; receive(rt, client).is_none());
@@ -93,7 +94,7 @@ fn trade<R: Wait + Abort>(rt: &R, alloc: Global, client: &mut Client<'_>)
 }
 
 /// Serves a client that trades in a thread of its own. The control's end is in the queue's only slot until then.
-fn serve_trade<R: Threads + Wait + Sync + Abort>(
+fn serve_trade<R: Threads + Wait + Clock + Sync + Abort>(
     rt: &R,
     alloc: Global,
     lone: Lone,

@@ -14,6 +14,7 @@ use std::process::Abort;
 use std::sync::Wait;
 use std::thread;
 use std::thread::Threads;
+use std::time::Clock;
 use tb_blocking::{ControlClient, OwnControlEnd};
 use tb_drive::Stop;
 use tb_layout::CREATE_ACCOUNTS;
@@ -25,14 +26,14 @@ use tb_work::Refusal;
 /// More nanoseconds than a pulse may have.
 const TOO_LATE: u64 = (1 << 62) + 1;
 
-pub(super) fn pulse<R: Wait + Abort>(rt: &R, control: &mut ControlClient<'_>, moment: u64)
+pub(super) fn pulse<R: Wait + Clock + Abort>(rt: &R, control: &mut ControlClient<'_>, moment: u64)
     ensures { control.new.seat ≡ control.old.seat }
 {
     check!(rt; control.pulse(rt, moment) == Ok(()));
 }
 
 /// Pulses three times. A pulse that is too late is refused in between.
-fn pulse_thrice<R: Wait + Abort>(rt: &R, control: &mut ControlClient<'_>)
+fn pulse_thrice<R: Wait + Clock + Abort>(rt: &R, control: &mut ControlClient<'_>)
     ensures { control.new.seat ≡ control.old.seat }
 {
     pulse(rt, control, 1);
@@ -42,7 +43,7 @@ fn pulse_thrice<R: Wait + Abort>(rt: &R, control: &mut ControlClient<'_>)
 }
 
 /// Serves a control that pulses in a thread of its own.
-fn serve_pulses<R: Threads + Wait + Sync + Abort>(
+fn serve_pulses<R: Threads + Wait + Clock + Sync + Abort>(
     rt: &R,
     pipeline: Pipeline,
     ends: Vec<Ended>,
@@ -89,7 +90,7 @@ fn control_in_a_thread_with_one_slot(rt: HostRuntime) {
 }
 
 /// Queues the Close from a thread of its own.
-fn shut_in_thread<R: Threads + Wait + Sync + Abort>(
+fn shut_in_thread<R: Threads + Wait + Clock + Sync + Abort>(
     rt: &R,
     control: Control,
     stop: &Stop,
@@ -116,7 +117,7 @@ fn shut_in_thread<R: Threads + Wait + Sync + Abort>(
 }
 
 /// Queues a packet behind a Close from another thread, and serves.
-fn serve_shut<R: Threads + Wait + Sync + Abort>(rt: &R, alloc: Global, lone: Lone) -> Report
+fn serve_shut<R: Threads + Wait + Clock + Sync + Abort>(rt: &R, alloc: Global, lone: Lone) -> Report
     requires { AreTogether lone.pipeline (lone.submitter ∷ []) lone.control }
 {
     let Lone {
@@ -145,7 +146,7 @@ fn control_that_shuts_in_a_thread(rt: HostRuntime) {
 }
 
 /// Gives up a run that nobody serves, while a pulse is in the queue's only slot. The next pulse is refused, and the control can't end.
-fn assert_given_up<R: Wait + Abort>(rt: &R, alloc: Global, shuts: bool) {
+fn assert_given_up<R: Wait + Clock + Abort>(rt: &R, alloc: Global, shuts: bool) {
     let (lone, stop) = open_narrow(rt, alloc, 1);
     let Lone {
         pipeline,

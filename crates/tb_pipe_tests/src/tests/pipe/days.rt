@@ -8,6 +8,7 @@ use std::alloc::Global;
 use std::process::Abort;
 use std::sync::Wait;
 use std::thread::Threads;
+use std::time::Clock;
 use tb_core::{AnyLedger, BareLedger, Ledger, Seed};
 use tb_drive::{Action, ControlPlan, Driver};
 use tb_layout::Transfer;
@@ -179,7 +180,7 @@ fn clerks(rt: &impl Abort, alloc: Global, first: u64) -> Vec<Clerk> {
 
 /// Runs the clerks over a ledger that has this number of places, after a packet that makes their accounts. Returns the ledger, and
 /// how many transfers were made and how many were there already.
-fn run_clerks<R: Threads + Wait + Sync + Abort, L: AnyLedger + Send>(
+fn run_clerks<R: Threads + Wait + Clock + Sync + Abort, L: AnyLedger + Send>(
     rt: &R,
     alloc: Global,
     ledger: L,

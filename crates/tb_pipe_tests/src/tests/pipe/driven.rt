@@ -14,6 +14,7 @@ use std::snapshot::Snapshot;
 use std::sync::Wait;
 use std::thread;
 use std::thread::{Promise, Threads};
+use std::time::Clock;
 use tb_layout::{CREATE_ACCOUNTS, CREATE_TRANSFERS};
 use tb_pipe::{Opened, Pipeline, Report, settle};
 use tb_submit::{Control, ControlEnd, Ended, Submitter};
@@ -72,7 +73,7 @@ impl Promise<Driven> for ComesBack {
 }
 
 /// Ends a submitter, again and again while the queue is full.
-fn end<R: Wait>(rt: &R, submitter: Submitter) -> Ended
+fn end<R: Wait + Clock>(rt: &R, submitter: Submitter) -> Ended
     ensures { end_origin result ≡ origin_of submitter }
 {
     let mut submitter = submitter;
@@ -86,7 +87,7 @@ fn end<R: Wait>(rt: &R, submitter: Submitter) -> Ended
     unreachable!()
 }
 
-fn end_control<R: Wait>(rt: &R, control: Control, shut: bool) -> ControlEnd
+fn end_control<R: Wait + Clock>(rt: &R, control: Control, shut: bool) -> ControlEnd
     ensures { result.seat ≡ control.seat }
 {
     let mut control = control;
@@ -126,7 +127,7 @@ fn wait_for_reply(submitter: &mut Submitter) -> Option<OutcomeKind>
 }
 
 /// Queues a packet with this account and waits for its reply.
-fn round<R: Wait + Abort>(
+fn round<R: Wait + Clock + Abort>(
     rt: &R,
     alloc: Global,
     submitter: &mut Submitter,
@@ -140,7 +141,11 @@ fn round<R: Wait + Abort>(
 }
 
 /// Returns why a packet of an unknown operation, without events, is refused; it takes no memory.
-fn refusal<R: Wait + Abort>(rt: &R, alloc: Global, submitter: &mut Submitter) -> Option<Refusal>
+fn refusal<R: Wait + Clock + Abort>(
+    rt: &R,
+    alloc: Global,
+    submitter: &mut Submitter,
+) -> Option<Refusal>
     ensures { origin_of submitter.new ≡ origin_of submitter.old }
 {
     let packet = packet_of(alloc, 200, 0).ok()?;
@@ -163,7 +168,7 @@ fn read_one(submitter: &mut Submitter, next: &mut u64)
 
 /// Submits a packet until it is queued or refused for another reason than a full queue or the credit, and reads
 /// replies meanwhile.
-fn submit_trying<R: Wait + Abort>(
+fn submit_trying<R: Wait + Clock + Abort>(
     rt: &R,
     alloc: Global,
     submitter: &mut Submitter,
@@ -185,7 +190,7 @@ fn submit_trying<R: Wait + Abort>(
 }
 
 /// Submits fifty packets, and returns how many replies were committed at the next place each.
-fn submit_fifty<R: Wait + Abort>(rt: &R, alloc: Global, submitter: &mut Submitter) -> u64
+fn submit_fifty<R: Wait + Clock + Abort>(rt: &R, alloc: Global, submitter: &mut Submitter) -> u64
     ensures { origin_of submitter.new ≡ origin_of submitter.old }
 {
     let mut next = 0;
@@ -211,7 +216,7 @@ fn hold(submitter: &mut Submitter, gate: &Counted, batch: u64) -> (bool, Option<
 }
 
 /// Does what comes ahead of the control's end.
-fn drive_first<R: Wait + Abort>(
+fn drive_first<R: Wait + Clock + Abort>(
     rt: &R,
     alloc: Global,
     submitter: &mut Submitter,
@@ -233,7 +238,7 @@ fn drive_first<R: Wait + Abort>(
 }
 
 /// Does what follows the control's end.
-fn drive_last<R: Wait + Abort>(
+fn drive_last<R: Wait + Clock + Abort>(
     rt: &R,
     alloc: Global,
     submitter: &mut Submitter,
@@ -252,7 +257,7 @@ fn drive_last<R: Wait + Abort>(
     Saw::Replies(first, second, refusal(rt, alloc, submitter))
 }
 
-fn drive<R: Wait + Abort>(
+fn drive<R: Wait + Clock + Abort>(
     rt: &R,
     alloc: Global,
     submitter: Submitter,
@@ -284,7 +289,7 @@ pub(super) struct Driving {
 
 /// Serves while a thread drives the last submitter and the control, and returns the report and what the driver saw.
 /// There is room for the last end. From opening to the report it is proved lawful by the clauses of the calls.
-pub(super) fn run<R: Threads + Wait + Sync + Abort>(
+pub(super) fn run<R: Threads + Wait + Clock + Sync + Abort>(
     rt: &R,
     alloc: Global,
     driving: Driving,
@@ -353,7 +358,7 @@ pub(super) fn drive_lone(lone: Lone, ends: Vec<Ended>) -> Driving
 }
 
 /// Opens a pipeline whose submitters but the last end at once.
-fn opened_driving<R: Wait + Abort>(
+fn opened_driving<R: Wait + Clock + Abort>(
     rt: &R,
     alloc: Global,
     capacity: u32,
@@ -380,7 +385,7 @@ fn opened_driving<R: Wait + Abort>(
 }
 
 /// Compares what the driver saw, the clock after the run, and how many batches the gate saw and let through.
-fn assert_driven<R: Threads + Wait + Sync + Abort>(
+fn assert_driven<R: Threads + Wait + Clock + Sync + Abort>(
     rt: &R,
     alloc: Global,
     driving: Driving,

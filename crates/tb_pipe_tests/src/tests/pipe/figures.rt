@@ -107,7 +107,7 @@ fn senders(rt: &impl Abort, alloc: Global, figures: &Figures) -> Vec<CountedDriv
 }
 
 /// Runs the senders over a ledger, with pulses, and returns it.
-fn run_senders<R: Threads + Wait + Sync + Abort, L: AnyLedger + Send>(
+fn run_senders<R: Threads + Wait + Clock + Sync + Abort, L: AnyLedger + Send>(
     rt: &R,
     alloc: Global,
     figures: &Figures,
@@ -165,7 +165,7 @@ fn watch<R: Abort>(rt: &R, figures: &Figures, is_done: &AtomicBool) -> FiguresRe
 }
 
 /// Runs the senders over a ledger while another thread reads figures. Returns the ledger, and what was read last.
-fn run_watched<R: Threads + Wait + Sync + Abort, L: AnyLedger + Send>(
+fn run_watched<R: Threads + Wait + Clock + Sync + Abort, L: AnyLedger + Send>(
     rt: &R,
     alloc: Global,
     figures: &Figures,
@@ -212,7 +212,7 @@ fn assert_figures<L: AnyLedger>(
 }
 
 /// Runs the senders twice over a ledger.
-fn run_twice<R: Threads + Wait + Sync + Abort, L: AnyLedger + Send>(
+fn run_twice<R: Threads + Wait + Clock + Sync + Abort, L: AnyLedger + Send>(
     rt: &R,
     alloc: Global,
     ledger: L,

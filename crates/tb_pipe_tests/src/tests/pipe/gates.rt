@@ -9,6 +9,7 @@ use std::sync::atomic::Ordering::SeqCst;
 use std::sync::atomic::{AtomicBool, AtomicU64};
 use std::thread;
 use std::thread::Threads;
+use std::time::Clock;
 use tb_layout::{CREATE_ACCOUNTS, CREATE_TRANSFERS};
 use tb_pipe::Gate;
 use tb_test_makers::{OutcomeKind, check};
@@ -201,7 +202,11 @@ fn twenty_places() -> [OutcomeKind; 20] {
 }
 
 /// Asserts that this number of batches is sealed while batch 0 is held.
-fn assert_sealed_ahead<R: Threads + Wait + Sync + Abort>(rt: &R, alloc: Global, number: u64) {
+fn assert_sealed_ahead<R: Threads + Wait + Clock + Sync + Abort>(
+    rt: &R,
+    alloc: Global,
+    number: u64,
+) {
     let gate = Meeting::new(number, false);
     let report = run_queued(rt, alloc, &twenty_in_turn(), false, &[], &gate);
     check!(rt; !gate.marked.load(SeqCst));
@@ -230,7 +235,12 @@ fn batcher_sleeps_for_a_slot(rt: HostRuntime) {
 
 /// Queues two packets with a pulse between them. Asserts that the gate sees batches 0 and 1, each once and in order,
 /// and is asked for them as noted.
-fn assert_asked<R: Threads + Wait + Sync + Abort>(rt: &R, alloc: Global, yes_at: u64, asked: u64) {
+fn assert_asked<R: Threads + Wait + Clock + Sync + Abort>(
+    rt: &R,
+    alloc: Global,
+    yes_at: u64,
+    asked: u64,
+) {
     let steps = [
         Step::Packet(CREATE_ACCOUNTS, 1),
         Step::Pulse(5),

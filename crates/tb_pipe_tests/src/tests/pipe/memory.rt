@@ -16,6 +16,7 @@ use std::alloc::Global;
 use std::process::Abort;
 use std::sync::Wait;
 use std::thread::Threads;
+use std::time::Clock;
 use tb_layout::{CREATE_ACCOUNTS, NoMemory};
 use tb_pipe::{Open, Report};
 use tb_submit::{Control, Ended, Intake, Submitter};
@@ -37,7 +38,7 @@ fn open_again(rt: &impl Abort, alloc: Global, was_refused: &mut bool) -> Result<
 }
 
 /// Submits a packet with this account. It takes no memory, since the room for one failure is in the job.
-fn submit_account<R: Wait + Abort>(
+fn submit_account<R: Wait + Clock + Abort>(
     rt: &R,
     alloc: Global,
     submitter: &mut Submitter,
@@ -54,7 +55,7 @@ fn submit_account<R: Wait + Abort>(
 }
 
 /// Queues two accounts, a pulse, and four accounts, each in its packet.
-fn queue_seven<R: Wait + Abort>(
+fn queue_seven<R: Wait + Clock + Abort>(
     rt: &R,
     alloc: Global,
     submitter: &mut Submitter,
@@ -73,7 +74,7 @@ fn queue_seven<R: Wait + Abort>(
 }
 
 /// Ends both, and serves: the report, or the intake if a thread couldn't be started. There is room for the end.
-fn serve_seven<R: Threads + Wait + Sync + Abort>(
+fn serve_seven<R: Threads + Wait + Clock + Sync + Abort>(
     rt: &R,
     lone: Lone,
     room: Vec<Ended>,
@@ -111,7 +112,7 @@ fn said_by(ticket: &Ticket) -> (u32, ParsedScript) {
 }
 
 /// Returns the first ten tickets of a queue, each with its sender.
-fn ten_tickets<R: Wait>(rt: &R, intake: &mut Intake) -> [Option<(u32, ParsedScript)>; 10] {
+fn ten_tickets<R: Wait + Clock>(rt: &R, intake: &mut Intake) -> [Option<(u32, ParsedScript)>; 10] {
     let mut tickets = [None; 10];
     for k in 0..10usize {
         if let Some(ticket) = intake.take(rt) {
@@ -159,13 +160,13 @@ fn assert_seven(rt: &impl Abort, report: &mut Report, was_refused: bool) {
 }
 
 /// Asserts that a thread couldn't be started, and the intake has all that was queued.
-fn assert_none_taken<R: Wait + Abort>(rt: &R, intake: &mut Intake, refusal: Refusal) {
+fn assert_none_taken<R: Wait + Clock + Abort>(rt: &R, intake: &mut Intake, refusal: Refusal) {
     check!(rt; refusal == Refusal::NoThread);
     check!(rt; ten_tickets(rt, intake) == ALL_TICKETS);
 }
 
 /// Serves everything queued, and compares the results.
-fn assert_each_growth<R: Threads + Wait + Sync + Abort>(
+fn assert_each_growth<R: Threads + Wait + Clock + Sync + Abort>(
     rt: &R,
     lone: Lone,
     room: Vec<Ended>,
@@ -213,7 +214,7 @@ const ALL_TICKETS: [Option<(u32, ParsedScript)>; 10] = [
 ];
 
 /// Queues two accounts, each in its packet, and a pulse.
-fn queue_three<R: Wait + Abort>(
+fn queue_three<R: Wait + Clock + Abort>(
     rt: &R,
     alloc: Global,
     submitter: &mut Submitter,
@@ -230,7 +231,7 @@ fn queue_three<R: Wait + Abort>(
 
 /// Drives what is queued. If the first commit is refused the journal stays empty, and the submitter learns it twice,
 /// and then by a refusal.
-fn assert_first_commit<R: Threads + Wait + Sync + Abort + Print>(
+fn assert_first_commit<R: Threads + Wait + Clock + Sync + Abort + Print>(
     rt: &R,
     alloc: Global,
     driving: Driving,

@@ -13,6 +13,7 @@ use std::process::Abort;
 use std::sync::Wait;
 use std::thread;
 use std::thread::Threads;
+use std::time::Clock;
 use tb_blocking::{Client, ControlClient};
 use tb_drive::Stop;
 use tb_pipe::{Open, Opened};
@@ -30,7 +31,12 @@ struct Trading {
 }
 
 /// Queues a packet without events and waits for its reply, every second time by `exchange`. Returns whether it was committed.
-fn trade_one<R: Wait + Abort>(rt: &R, alloc: Global, client: &mut Client<'_>, number: u64) -> bool
+fn trade_one<R: Wait + Clock + Abort>(
+    rt: &R,
+    alloc: Global,
+    client: &mut Client<'_>,
+    number: u64,
+) -> bool
     ensures { origin_of client.new ≡ origin_of client.old }
 {
     let reply = if number % 2 == 0 {
@@ -44,7 +50,13 @@ fn trade_one<R: Wait + Abort>(rt: &R, alloc: Global, client: &mut Client<'_>, nu
 }
 
 /// Queues packets, which are all committed unless the run is given up.
-fn trade<R: Wait + Abort>(rt: &R, alloc: Global, client: &mut Client<'_>, packets: u64, stop: &Stop)
+fn trade<R: Wait + Clock + Abort>(
+    rt: &R,
+    alloc: Global,
+    client: &mut Client<'_>,
+    packets: u64,
+    stop: &Stop,
+)
     ensures { origin_of client.new ≡ origin_of client.old }
 {
     for number in 0..packets {
@@ -57,7 +69,12 @@ fn trade<R: Wait + Abort>(rt: &R, alloc: Global, client: &mut Client<'_>, packet
 }
 
 /// Pulses, each time after some turns.
-fn pulse_often<R: Wait + Abort>(rt: &R, control: &mut ControlClient<'_>, pulses: u64, gap: u32)
+fn pulse_often<R: Wait + Clock + Abort>(
+    rt: &R,
+    control: &mut ControlClient<'_>,
+    pulses: u64,
+    gap: u32,
+)
     ensures { control.new.seat ≡ control.old.seat }
 {
     for moment in 0..pulses {
@@ -74,7 +91,7 @@ fn stop_after(stop: &Stop, turns: Option<u32>) {
 }
 
 /// Serves sixteen clients that trade and a control that pulses. Returns whether they were served, and whether all queued their ends.
-fn serve_sixteen<R: Threads + Wait + Sync + Abort>(
+fn serve_sixteen<R: Threads + Wait + Clock + Sync + Abort>(
     rt: &R,
     alloc: Global,
     trading: Trading,
@@ -117,7 +134,7 @@ fn serve_sixteen<R: Threads + Wait + Sync + Abort>(
     })
 }
 
-fn assert_served<R: Threads + Wait + Sync + Abort>(rt: &R, alloc: Global, packets: u64) {
+fn assert_served<R: Threads + Wait + Clock + Sync + Abort>(rt: &R, alloc: Global, packets: u64) {
     let trading = Trading {
         packets,
         pulses: packets,
@@ -146,7 +163,7 @@ fn sixteen_clients_of_a_run_that_is_given_up(rt: HostRuntime) {
 }
 
 /// Pulses, and then queues the Close or the End. Returns whether that was queued.
-fn pulse_and_end<R: Wait + Abort>(
+fn pulse_and_end<R: Wait + Clock + Abort>(
     rt: &R,
     control: Control,
     stop: &Stop,
@@ -163,7 +180,7 @@ fn pulse_and_end<R: Wait + Abort>(
 }
 
 /// Serves a control in a thread of its own; the submitter has ended. Returns whether the control queued its end.
-fn serve_control<R: Threads + Wait + Sync + Abort>(
+fn serve_control<R: Threads + Wait + Clock + Sync + Abort>(
     rt: &R,
     alloc: Global,
     gap: u32,

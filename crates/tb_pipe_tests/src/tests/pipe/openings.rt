@@ -4,6 +4,7 @@ use super::{answer_to, assert_run, finish_lone, look_of, open_lone, opened, pack
 use std::alloc::Global;
 use std::process::Abort;
 use std::sync::Wait;
+use std::time::Clock;
 use tb_core::Ledger;
 use tb_layout::{CLOCK_MAX, CREATE_ACCOUNTS};
 use tb_pipe::{Open, Opened, Options, open, submit_ahead};
@@ -53,7 +54,7 @@ fn widest_openings(rt: HostRuntime) {
 }
 
 /// Returns the answer to a packet of one account that the second submitter queues before the run.
-fn ahead<R: Wait + Abort>(
+fn ahead<R: Wait + Clock + Abort>(
     rt: &R,
     alloc: Global,
     opened: &mut Opened,
@@ -90,7 +91,7 @@ fn refused_ahead(rt: HostRuntime) {
 }
 
 /// Asserts that a packet of accounts is refused, since there is no slot, and comes back.
-fn assert_full<R: Wait + Abort>(rt: &R, alloc: Global, submitter: &mut Submitter, id: u8) {
+fn assert_full<R: Wait + Clock + Abort>(rt: &R, alloc: Global, submitter: &mut Submitter, id: u8) {
     let packet = packet_of(alloc, CREATE_ACCOUNTS, id).expect(rt, "memory");
     let (back, refusal) = submit(rt, alloc, submitter, packet).expect_err(rt, "the queue is full");
     check!(rt; refusal == Refusal::Full);

@@ -13,6 +13,7 @@ use std::alloc::Global;
 use std::process::Abort;
 use std::sync::Wait;
 use std::thread::Threads;
+use std::time::Clock;
 use tb_layout::CREATE_ACCOUNTS;
 use tb_pipe::{Gate, Open, Opened, Report};
 use tb_submit::{Control, Submitter};
@@ -29,7 +30,7 @@ pub(super) enum Step {
 }
 
 /// Queues packets by the submitter and pulses by the control, step by step.
-fn queue_steps<R: Wait + Abort>(
+fn queue_steps<R: Wait + Clock + Abort>(
     rt: &R,
     alloc: Global,
     submitter: &mut Submitter,
@@ -48,7 +49,7 @@ fn queue_steps<R: Wait + Abort>(
 }
 
 /// Queues steps, then the control's end or its Close, and then accounts, each in a packet of its own. Serves them.
-pub(super) fn run_queued<R: Threads + Wait + Sync + Abort, G: Gate>(
+pub(super) fn run_queued<R: Threads + Wait + Clock + Sync + Abort, G: Gate>(
     rt: &R,
     alloc: Global,
     steps: &[Step],
@@ -108,7 +109,11 @@ const SIX: [Step; 6] = [
 ];
 
 /// Runs six packets, of which this number is ahead of the Close.
-fn closes_after<R: Threads + Wait + Sync + Abort>(rt: &R, alloc: Global, count: usize) -> Report {
+fn closes_after<R: Threads + Wait + Clock + Sync + Abort>(
+    rt: &R,
+    alloc: Global,
+    count: usize,
+) -> Report {
     check!(rt; count <= 6);
     run_queued(rt, alloc, &SIX[..count], true, &SIX_IDS[count..], &Open)
 }
@@ -133,7 +138,7 @@ fn close_anywhere(rt: HostRuntime) {
 }
 
 /// Submits four packets, and sees before each how many are in flight.
-fn submit_four<R: Wait + Abort>(rt: &R, alloc: Global, submitter: &mut Submitter)
+fn submit_four<R: Wait + Clock + Abort>(rt: &R, alloc: Global, submitter: &mut Submitter)
     ensures { origin_of submitter.new ≡ origin_of submitter.old }
 {
     for (in_flight, wanted) in [
@@ -148,7 +153,7 @@ fn submit_four<R: Wait + Abort>(rt: &R, alloc: Global, submitter: &mut Submitter
     }
 }
 
-fn three_unread<R: Threads + Wait + Sync + Abort>(rt: &R, alloc: Global) -> Report
+fn three_unread<R: Threads + Wait + Clock + Sync + Abort>(rt: &R, alloc: Global) -> Report
     ensures { IsRun (new_ledger 0) 4 1 result.ledger result.ends.items }
 {
     let mut lone = open_lone(rt, alloc, 4, 8, 3);
@@ -168,7 +173,11 @@ fn replies_after_settle(rt: HostRuntime) {
 }
 
 /// Has each submitter queue a packet with the account after its number, and returns them.
-fn queue_each<R: Wait + Abort>(rt: &R, alloc: Global, submitters: Vec<Submitter>) -> Vec<Submitter>
+fn queue_each<R: Wait + Clock + Abort>(
+    rt: &R,
+    alloc: Global,
+    submitters: Vec<Submitter>,
+) -> Vec<Submitter>
     ensures { map origin_of result.items ≡ map origin_of submitters.items }
 {
     let mut after = Vec::new(alloc);
@@ -182,7 +191,7 @@ fn queue_each<R: Wait + Abort>(rt: &R, alloc: Global, submitters: Vec<Submitter>
 }
 
 /// Ends the control, has each submitter queue a packet, and ends them all.
-fn end_each<R: Wait + Abort>(
+fn end_each<R: Wait + Clock + Abort>(
     rt: &R,
     alloc: Global,
     submitters: Vec<Submitter>,
@@ -201,7 +210,11 @@ fn end_each<R: Wait + Abort>(
 }
 
 /// Has each submitter queue a packet and end, and serves them.
-fn finish_each<R: Threads + Wait + Sync + Abort>(rt: &R, alloc: Global, opened: Opened) -> Report
+fn finish_each<R: Threads + Wait + Clock + Sync + Abort>(
+    rt: &R,
+    alloc: Global,
+    opened: Opened,
+) -> Report
     requires { AreTogether opened.pipeline opened.submitters.items opened.control }
     ensures { IsRun opened.pipeline.start opened.pipeline.intake.limit opened.pipeline.intake.submitters
         result.ledger result.ends.items }
@@ -210,7 +223,7 @@ fn finish_each<R: Threads + Wait + Sync + Abort>(rt: &R, alloc: Global, opened: 
     finish_started(rt, opened.pipeline, ends, &Open)
 }
 
-fn one_of_each<R: Threads + Wait + Sync + Abort>(rt: &R, alloc: Global) -> Report
+fn one_of_each<R: Threads + Wait + Clock + Sync + Abort>(rt: &R, alloc: Global) -> Report
     ensures { IsRun (new_ledger 0) 4 16 result.ledger result.ends.items }
 {
     match opened(alloc, 4, 64, 64, 16) {

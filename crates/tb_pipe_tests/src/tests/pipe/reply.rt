@@ -13,6 +13,7 @@ use std::alloc::Global;
 use std::process::Abort;
 use std::sync::Wait;
 use std::thread::Threads;
+use std::time::Clock;
 use tb_layout::{CREATE_ACCOUNTS, Failure};
 use tb_pipe::{Open, Pipeline, Report, open, settle};
 use tb_submit::{Control, ControlEnd, Ended, Submitter};
@@ -28,7 +29,7 @@ struct Queued {
 }
 
 /// Queues a packet, and ends.
-fn queue_and_end<R: Wait + Abort>(
+fn queue_and_end<R: Wait + Clock + Abort>(
     rt: &R,
     alloc: Global,
     submitter: Submitter,
@@ -49,7 +50,7 @@ fn queue_and_end<R: Wait + Abort>(
         .expect(rt, "there is a place for the end")
 }
 
-fn end_alone<R: Wait + Abort>(rt: &R, control: Control) -> ControlEnd
+fn end_alone<R: Wait + Clock + Abort>(rt: &R, control: Control) -> ControlEnd
     ensures { result ≡ sender_with control item.End }
 {
     control
@@ -59,7 +60,7 @@ fn end_alone<R: Wait + Abort>(rt: &R, control: Control) -> ControlEnd
 }
 
 /// Returns a pipeline of one submitter, with a packet queued.
-fn queue_one<R: Wait + Abort>(rt: &R, alloc: Global, packet: Packet) -> Queued
+fn queue_one<R: Wait + Clock + Abort>(rt: &R, alloc: Global, packet: Packet) -> Queued
     ensures own { end_origin result.ended ∷ [] ≡ result.pipeline.submitters }
     ensures control { result.control ≡ sender_with (new_control result.pipeline.intake) item.End }
     ensures opened { (result.pipeline.start ≡ new_ledger 0) × (result.pipeline.intake.submitters ≡ 1) }
@@ -90,7 +91,11 @@ fn only_end(rt: &impl Abort, alloc: Global, ended: Ended) -> Vec<Ended>
 }
 
 /// Serves it, and settles.
-fn settle_one<R: Threads + Wait + Sync + Abort>(rt: &R, alloc: Global, queued: Queued) -> Report
+fn settle_one<R: Threads + Wait + Clock + Sync + Abort>(
+    rt: &R,
+    alloc: Global,
+    queued: Queued,
+) -> Report
     requires own { end_origin queued.ended ∷ [] ≡ queued.pipeline.submitters }
     requires control { queued.control ≡ sender_with (new_control queued.pipeline.intake) item.End }
     requires opened { (queued.pipeline.start ≡ new_ledger 0) × (queued.pipeline.intake.submitters ≡ 1) }
@@ -120,7 +125,11 @@ fn only_reply(report: &mut Report) -> Reply
 }
 
 /// Takes one packet from `open` to its reply. What the reply says is known only from the clauses of the calls.
-fn reply_to_one<R: Threads + Wait + Sync + Abort>(rt: &R, alloc: Global, packet: Packet) -> Reply
+fn reply_to_one<R: Threads + Wait + Clock + Sync + Abort>(
+    rt: &R,
+    alloc: Global,
+    packet: Packet,
+) -> Reply
     ensures { IsReplyToOne 0 packet result }
 {
     let queued = queue_one(rt, alloc, packet);

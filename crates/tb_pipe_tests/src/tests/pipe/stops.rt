@@ -13,6 +13,7 @@ use std::sync::atomic::AtomicU64;
 use std::sync::atomic::Ordering::SeqCst;
 use std::thread;
 use std::thread::Threads;
+use std::time::Clock;
 use tb_blocking::Client;
 use tb_drive::Stop;
 use tb_layout::CREATE_ACCOUNTS;
@@ -27,7 +28,7 @@ const SLEEP_TURNS: u32 = 10_000;
 const MOST_PACKETS: u32 = 100_000;
 
 /// Submits a packet, and returns whether its reply never comes.
-fn waits_in_vain<R: Wait + Abort>(rt: &R, alloc: Global, client: Client<'_>) -> bool {
+fn waits_in_vain<R: Wait + Clock + Abort>(rt: &R, alloc: Global, client: Client<'_>) -> bool {
     let mut client = client;
     check!(rt; submit(rt, alloc, &mut client, 1) == Ok(0));
     let kind: Option<OutcomeKind> = receive(rt, &mut client);
@@ -36,7 +37,7 @@ fn waits_in_vain<R: Wait + Abort>(rt: &R, alloc: Global, client: Client<'_>) -> 
 }
 
 /// Gives a run up while its clients sleep. Returns how many were woken without a reply.
-fn wake_all<R: Threads + Wait + Sync + Abort>(
+fn wake_all<R: Threads + Wait + Clock + Sync + Abort>(
     rt: &R,
     alloc: Global,
     submitters: Vec<Submitter>,
@@ -61,7 +62,11 @@ fn wake_all<R: Threads + Wait + Sync + Abort>(
 }
 
 /// Opens a pipeline that nobody serves, so that no reply comes, and gives its run up. Returns how many of its clients were woken.
-fn open_and_wake<R: Threads + Wait + Sync + Abort>(rt: &R, alloc: Global, clients: u32) -> usize {
+fn open_and_wake<R: Threads + Wait + Clock + Sync + Abort>(
+    rt: &R,
+    alloc: Global,
+    clients: u32,
+) -> usize {
     let opened = opened(alloc, 4, 16, 1, clients).expect(rt, "it is opened");
     let stop = Stop::of(alloc, &opened.submitters).expect(rt, "memory");
     let Opened {
@@ -97,7 +102,12 @@ struct Plan {
 }
 
 /// Queues packets until one is refused or its reply doesn't come.
-fn keep_busy<R: Wait + Abort>(rt: &R, alloc: Global, client: &mut Client<'_>, exchanges: bool)
+fn keep_busy<R: Wait + Clock + Abort>(
+    rt: &R,
+    alloc: Global,
+    client: &mut Client<'_>,
+    exchanges: bool,
+)
     ensures { origin_of client.new ≡ origin_of client.old }
 {
     for _ in 0..MOST_PACKETS {
@@ -147,7 +157,7 @@ pub(super) fn ask_later(stop: &Stop, turns: u32) {
 
 /// Serves a client that is busy, while another thread gives the run up. Returns whether it was served, and whether the client
 /// queued its end. The control's end is in the queue's only slot at first.
-fn serve_and_stop<R: Threads + Wait + Sync + Abort>(
+fn serve_and_stop<R: Threads + Wait + Clock + Sync + Abort>(
     rt: &R,
     alloc: Global,
     plan: Plan,
