@@ -30,6 +30,6 @@ pub all_have_seen : {D : Type 0} (has_seen : D → ℕ → List Numbered → Lis
     (Is : SubmitterState → Type 0) (drivers : List D) (submitters : List SubmitterState)
     → ((driver : D) (submitter : SubmitterState) → IsNew driver → Is submitter → HasSeen has_seen driver submitter)
     → All IsNew drivers → All Is submitters → HaveSeen has_seen drivers submitters
-all_have_seen has_seen IsNew Is drivers submitters seen new all k driver submitter driver_is submitter_is =
+all_have_seen has_seen IsNew Is drivers submitters seen new all = λ k driver submitter driver_is submitter_is.
     seen driver submitter (at_index IsNew drivers k driver new driver_is)
     (at_index Is submitters k submitter all submitter_is)

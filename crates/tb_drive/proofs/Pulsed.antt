@@ -1,9 +1,10 @@
 -- The pulses of a plan's driver, one after another.
-use Rattle.std.proofs.Common.{◌≡◌, ◌∙◌, ◌<◌, ◌≤◌, ◌+◌, ◌^◌, ℕ, Bool, true, false, List, [], ◌∷◌, ◌++◌, Some, length, slice_get, ap, sym, subst, arith, append_assoc, append-nil}
-use Rattle.tb_drive.proofs.Words.{if◌then◌else◌, min, take, flat_map-append, length-take, take_all, slice_get_within, get_or_from_slice_get, SenderState, Item, is_refused, last_item, planned_items, pulse_of, pulses_of, refused_of, with_items, HasQueued}
+use Rattle.std.proofs.Common.{◌≡◌, ◌∙◌, ◌<◌, ◌≤◌, ◌+◌, ℕ, Bool, true, false, List, [], ◌∷◌, ◌++◌, Some, get_or, length, slice_get, ap, refl, sym, subst, arith, append_assoc, append-nil}
+use Rattle.tb_drive.proofs.Words.{if◌then◌else◌, min, take, flat_map-append, length-take, take_all, slice_get_within, get_or_from_slice_get, SenderState, Item, is_refused, last_item, pulse_of, pulses_of, refused_of, with_items, HasAskedOf, HasEndedOf, HasQueued, HasQueuedOf}
 use Rattle.std.proofs.Math.Numerals.{add-one}
 use Rattle.std.proofs.Math.Seq.{take-suc}
 use Rattle.std.proofs.lemmas.List.Sums.{count_by-le-length, count_by_more_no, count_by_more_yes}
+use Rattle.tb_drive.specs.declared.plan.PlanDriver.{PlanDriver}
 use Rattle.tb_work.specs.declared.item.Item.TheVariants as item
 
 one_more : (moments : List ℕ) (asked moment : ℕ) → slice_get moments asked ≡ Some moment
@@ -39,53 +40,51 @@ refused_pulse has items moment out response =
 
 -- ---- what a plan's driver has asked for
 
-pub queued_next : (moments : List ℕ) (next asked moment : ℕ) (items : List Item) → next ≡ asked + 1
-    → slice_get moments asked ≡ Some moment → is_refused moment ≡ false → items ≡ pulses_of (take asked moments)
-    → items ++ item.Pulse moment ∷ [] ≡ pulses_of (take next moments)
-queued_next moments next asked moment items next_is is in_range are =
-    ap (λ before. before ++ item.Pulse moment ∷ []) are
-    ∙ ap (λ last. pulses_of (take asked moments) ++ last) (sym (pulse_in_range moment in_range))
-    ∙ sym (pulses_more moments asked moment is) ∙ ap (λ n. pulses_of (take n moments)) (sym next_is)
-
-pub refused_next : (moments : List ℕ) (next asked moment : ℕ) (items : List Item) → next ≡ asked + 1
-    → slice_get moments asked ≡ Some moment → is_refused moment ≡ true → items ≡ pulses_of (take asked moments)
-    → items ≡ pulses_of (take next moments)
-refused_next moments next asked moment items next_is is out are =
-    are ∙ sym (append-nil (pulses_of (take asked moments)))
-    ∙ ap (λ last. pulses_of (take asked moments) ++ last) (sym (pulse_out_of_range moment out))
-    ∙ sym (pulses_more moments asked moment is) ∙ ap (λ n. pulses_of (take n moments)) (sym next_is)
-
-pub counted_no : (moments : List ℕ) (next asked moment : ℕ) → next ≡ asked + 1 → slice_get moments asked ≡ Some moment
-    → is_refused moment ≡ false → refused_of (take asked moments) ≡ refused_of (take next moments)
-counted_no moments next asked moment next_is is in_range =
-    sym (count_by_more_no is_refused moments asked moment (slice_get_within moments asked moment is)
-    (ap is_refused (get_or_from_slice_get moments asked moment moment is) ∙ in_range))
-    ∙ ap (λ n. refused_of (take n moments)) (sym next_is)
-
 few_refused : (moments : List ℕ) (asked : ℕ) → refused_of (take asked moments) ≤ asked
 few_refused moments asked =
     omega (arith, count_by-le-length is_refused (take asked moments), length-take asked moments)
 
-pub counted_yes : (moments : List ℕ) (next asked moment refused counted : ℕ) → next ≡ asked + 1
-    → asked + 1 < 2 ^ 64 → slice_get moments asked ≡ Some moment → is_refused moment ≡ true
-    → refused ≡ refused_of (take asked moments) → counted ≡ min (refused + 1) 18446744073709551615
-    → counted ≡ refused_of (take next moments)
-counted_yes moments next asked moment refused counted next_is small is out refused_is counted_is =
-    let more : refused_of (take (asked + 1) moments) ≡ refused_of (take asked moments) + 1 =
-    count_by_more_yes is_refused moments asked moment (slice_get_within moments asked moment is)
-    (ap is_refused (get_or_from_slice_get moments asked moment moment is) ∙ out) in
-    let exact : counted ≡ refused_of (take asked moments) + 1 =
-    omega (arith, counted_is, refused_is, few_refused moments asked, small) in
-    exact ∙ sym more ∙ ap (λ n. refused_of (take n moments)) (sym next_is)
+module _ (first driver : PlanDriver) (moment : ℕ) (items : List Item) (asked : HasAskedOf first driver moment items) where
+  abbrev moments : List ℕ
+  moments = first.moments.items
 
-pub all_queued : (moments : List ℕ) (next refused : ℕ) (shuts : Bool) (items : List Item) (last : Item)
-    → length moments ≤ next → last ≡ last_item shuts → items ≡ pulses_of (take next moments)
-    → refused ≡ refused_of (take next moments)
-    → (items ++ last ∷ [] ≡ planned_items moments shuts) × (refused ≡ refused_of moments)
-all_queued moments next refused shuts items last past last_is are counted =
-    let all : take next moments ≡ moments = take_all next moments past in (
-      ap (λ before. before ++ last ∷ []) (are ∙ ap pulses_of all) ∙ ap (λ end. pulses_of moments ++ end ∷ []) last_is,
-      counted ∙ ap refused_of all,
+  within : asked.0 < length moments
+  within = slice_get_within moments asked.0 moment asked.3
+
+  tested : (b : Bool) → is_refused moment ≡ b → is_refused (get_or moments asked.0 moment) ≡ b
+  tested b is = ap is_refused (get_or_from_slice_get moments asked.0 moment moment asked.3) ∙ is
+
+  pub queued_next : is_refused moment ≡ false → HasQueuedOf first driver (items ++ item.Pulse moment ∷ [])
+  queued_next in_range = (
+    asked.4.0,
+    asked.4.1,
+    rw (asked.1, pulses_more moments asked.0 moment asked.3, pulse_in_range moment in_range)
+        (ap (λ all. all ++ item.Pulse moment ∷ []) asked.4.2),
+    rw asked.1 (asked.4.3 ∙ sym (count_by_more_no is_refused moments asked.0 moment within (tested false in_range))),
+  )
+
+  pub refused_next : (refused : ℕ) → refused ≡ min (driver.refused + 1) 18446744073709551615 → is_refused moment ≡ true
+      → HasQueuedOf first (record driver { refused = refused }) items
+  refused_next refused counted out = (
+    asked.4.0,
+    asked.4.1,
+    rw (asked.1, pulses_more moments asked.0 moment asked.3, pulse_out_of_range moment out, append-nil) asked.4.2,
+    rw asked.1 (omega (
+      arith,
+      few_refused moments asked.0,
+      count_by_more_yes is_refused moments asked.0 moment within (tested true out),
+    )),
+  )
+
+-- all that was asked for is queued or counted, and nothing is left to ask for
+pub all_queued : (first driver : PlanDriver) (items : List Item) {last : Item} → HasQueuedOf first driver items
+    → length driver.moments.items ≤ driver.next → last_item driver.shuts ≡ last
+    → HasEndedOf first driver (items ++ last ∷ [])
+all_queued first driver items queued past last_is =
+    let all : take driver.next first.moments.items ≡ first.moments.items =
+    take_all driver.next first.moments.items (rw (← queued.0) past) in (
+      rw (queued.2, all, ← last_is, queued.1) refl,
+      queued.3 ∙ ap refused_of all,
     )
 
 -- ---- what the control queues, one item after another
@@ -104,10 +103,10 @@ none_queued control now moment out same =
     same ∙ nothing_queued control ∙ ap (λ items. with_items control items) (sym (pulse_out_of_range moment out))
 
 -- what was queued in two turns, if the second changes what is known
-pub has_queued_more : (before now next : SenderState) (more : List Item) (had have : List Item → Type 0)
+pub has_queued_more : {now next : SenderState} {had have : List Item → Type 0} (before : SenderState) (more : List Item)
     → HasQueued before now had → next ≡ with_items now more
     → ((items : List Item) → had items → have (items ++ more)) → HasQueued before next have
-has_queued_more before now next more had have queued next_is step = (
+has_queued_more before more queued next_is step = (
   queued.0 ++ more,
   next_is ∙ ap (λ (sender : SenderState). with_items sender more) queued.1 ∙ with_more before queued.0 more,
   step queued.0 queued.2,

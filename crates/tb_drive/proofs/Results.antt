@@ -1,26 +1,47 @@
 -- What the submitters' threads returned, and one result more.
-use Rattle.std.proofs.Common.{◌≡◌, ◌∙◌, List, ◌∷◌, ◌++◌, [], length, map, ap, sym, subst, arith}
-use Rattle.tb_drive.proofs.Words.{length-map, map-append, EndedState, SubmitterState, end_origin, Packet, ArePrefixesOf, IsPrefixOf, AreResultsOf, SubmitterTaskState, task_origin, task_share, task_submitter}
-use Rattle.tb_drive.proofs.Seen.{front_more}
+use Rattle.std.proofs.Common.{ℕ, List, ◌∷◌, ◌++◌, [], Some, length, map, ap, refl, arith}
+use Rattle.tb_drive.proofs.Words.{length-append, length-map, map-append, EndedState, SubmitterState, end_origin, Numbered, Packet, ReplyValue, HasSeenEnd, IsPrefixOf, AreResultsOf, HaveJoined, IsResultOf, SubmitterTaskState, task_origin, task_share, task_submitter}
+use Rattle.tb_drive.proofs.Seen.{one_more}
 
-pub one_more_result : {D : Type 0} (share : D → List Packet) (tasks : List SubmitterTaskState)
-    (task : SubmitterTaskState) (ends : List EndedState) (end : EndedState) (drivers : List D) (driver : D)
-    → AreResultsOf tasks ends (map share drivers) → end_origin end ≡ task_origin task
-    → IsPrefixOf task.submitter.queued end.queued → share driver ≡ task.share
-    → AreResultsOf (tasks ++ task ∷ []) (ends ++ end ∷ []) (map share (drivers ++ driver ∷ []))
-one_more_result share tasks task ends end drivers driver had own front shared = record {
-  own = map-append end_origin ends (end ∷ []) ∙ ap (λ origins. origins ++ end_origin end ∷ []) had.own
-      ∙ ap (λ origin. map task_origin tasks ++ origin ∷ []) own ∙ sym (map-append task_origin tasks (task ∷ []));
-  front = subst (λ (submitters : List SubmitterState). ArePrefixesOf submitters (ends ++ end ∷ []))
-      (sym (map-append task_submitter tasks (task ∷ [])))
-      (front_more (map task_submitter tasks) ends task.submitter end
-      (omega (
-        arith,
-        length-map tasks task_submitter,
-        length-map tasks task_origin,
-        ap length had.own,
-        length-map ends end_origin,
-      )) had.front front);
-  shares_are = map-append share drivers (driver ∷ []) ∙ ap (λ shares. shares ++ share driver ∷ []) had.shares_are
-      ∙ ap (λ own. map task_share tasks ++ own ∷ []) shared ∙ sym (map-append task_share tasks (task ∷ []));
-}
+module _ {D : Type 0} (share : D → List Packet) where
+  one_more_result : (tasks : List SubmitterTaskState) (ends : List EndedState) (drivers : List D)
+      (task : SubmitterTaskState) (end : EndedState) (driver : D) → AreResultsOf tasks ends (map share drivers)
+      → IsResultOf task (record { ended = Some end; share = share driver })
+      → AreResultsOf (tasks ++ task ∷ []) (ends ++ end ∷ []) (map share (drivers ++ driver ∷ []))
+  one_more_result tasks ends drivers task end driver had is = record {
+    own = rw (
+      map-append end_origin ends (end ∷ []),
+      map-append task_origin tasks (task ∷ []),
+      had.own,
+      is.0.0,
+    ) refl;
+    front = rw (map-append task_submitter tasks (task ∷ []))
+        (one_more (λ (submitter : SubmitterState) (ended : EndedState). IsPrefixOf submitter.queued ended.queued)
+        (map task_submitter tasks) ends
+        (omega (
+          arith,
+          length-map tasks task_submitter,
+          length-map tasks task_origin,
+          ap length had.own,
+          length-map ends end_origin,
+        )) had.front is.0.1);
+    shares_are = rw (
+      map-append share drivers (driver ∷ []),
+      map-append task_share tasks (task ∷ []),
+      had.shares_are,
+      is.1,
+    ) refl;
+  }
+
+  pub one_more_joined : (has_seen has_ended : D → ℕ → List Numbered → List ReplyValue → Type 0)
+      {tasks : List SubmitterTaskState} {ends : List EndedState} {drivers : List D} (task : SubmitterTaskState)
+      (end : EndedState) (driver : D) → HaveJoined share has_seen has_ended tasks ends drivers
+      → IsResultOf task (record { ended = Some end; share = share driver })
+      → HasSeenEnd has_seen driver end × HasSeenEnd has_ended driver end
+      → HaveJoined share has_seen has_ended (tasks ++ task ∷ []) (ends ++ end ∷ []) (drivers ++ driver ∷ [])
+  one_more_joined has_seen has_ended task end driver had is has = record {
+    results = one_more_result _ _ _ task end driver had.results is;
+    number = omega (arith, length-append {A = D}, length-append {A = EndedState});
+    seen = one_more (HasSeenEnd has_seen) _ _ had.number had.seen has.0;
+    ended = one_more (HasSeenEnd has_ended) _ _ had.number had.ended has.1;
+  }

@@ -1,25 +1,31 @@
 -- What drivers have seen, list by list.
 use Rattle.std.proofs.Common.{◌≡◌, ◌∙◌, ◌<◌, ◌+◌, ℕ, refl, zero, suc, List, [], ◌∷◌, ◌++◌, length, Option, Some, None, slice_get, ap, subst, sym, arith, append-nil, append_assoc, ◌-◌}
-use Rattle.tb_drive.proofs.Words.{flat_map-append, EndedState, SubmitterState, ended_with, origin_of, Numbered, ReplyValue, Item, IsEnd, ArePrefixesOf, HaveSeen, HaveSeenEnds, HasSeen, HasSeenEnd, IsPrefixOf, job_in, jobs_in}
+use Rattle.tb_drive.proofs.Words.{flat_map-append, EndedState, SubmitterState, ended_with, origin_of, Numbered, ReplyValue, Item, IsEnd, HaveSeen, HasSeen, HasSeenEnd, IsPrefixOf, job_in, jobs_in}
 use Rattle.tb_submit.specs.clauses.Lists.{ArePackets}
 use Rattle.tb_work.specs.declared.item.Item.TheVariants as item
 
-module _ {D : Type 0} (has_seen : D → ℕ → List Numbered → List ReplyValue → Type 0) where
-  pub one_more : (drivers : List D) (ends : List EndedState) (last : D) (ended : EndedState)
-      → length drivers ≡ length ends → HaveSeenEnds has_seen drivers ends → HasSeenEnd has_seen last ended
-      → HaveSeenEnds has_seen (drivers ++ last ∷ []) (ends ++ ended ∷ [])
-  one_more [] [] last ended long have has zero driver end driver_is end_is =
-      let driver_same : last ≡ driver = cc in
-      let end_same : ended ≡ end = cc in
-      subst (λ d. HasSeenEnd has_seen d end) driver_same (subst (λ e. HasSeenEnd has_seen last e) end_same has)
-  one_more [] [] last ended long have has (suc k) driver end driver_is end_is = cc
-  one_more [] (first ∷ ends) last ended long have has k driver end driver_is end_is = absurd (omega (arith, long))
-  one_more (first ∷ drivers) [] last ended long have has k driver end driver_is end_is = absurd (omega (arith, long))
-  one_more (d ∷ drivers) (e ∷ ends) last ended long have has zero driver end driver_is end_is =
-      have zero driver end driver_is end_is
-  one_more (d ∷ drivers) (e ∷ ends) last ended long have has (suc k) driver end driver_is end_is =
-      one_more drivers ends last ended (omega (arith, long)) (λ k. have (suc k)) has k driver end driver_is end_is
+-- what is so of the items of each index is so with one item more in each list
+module _ {X Y : Type 0} (Are : X → Y → Type 0) where
+  abbrev AreInPairs : List X → List Y → Type 0
+  AreInPairs xs ys = (k : ℕ) (x : X) (y : Y) → slice_get xs k ≡ Some x → slice_get ys k ≡ Some y → Are x y
 
+  module _ (xs : List X) (ys : List Y) where
+    with_first : {first : X} {other : Y} → Are first other → AreInPairs xs ys → AreInPairs (first ∷ xs) (other ∷ ys)
+    with_first {first = first} {other = other} are have zero x y x_is y_is =
+        let is_first : first ≡ x = cc in
+        let is_other : other ≡ y = cc in
+        rw (← is_first, ← is_other) are
+    with_first are have (suc k) x y x_is y_is = have k x y x_is y_is
+
+  pub one_more : (xs : List X) (ys : List Y) {last : X} {other : Y} → length xs ≡ length ys → AreInPairs xs ys
+      → Are last other → AreInPairs (xs ++ last ∷ []) (ys ++ other ∷ [])
+  one_more [] [] long have are = with_first [] [] are (λ k x y x_is. cc)
+  one_more [] (y ∷ ys) long have are = absurd (omega (arith, long))
+  one_more (x ∷ xs) [] long have are = absurd (omega (arith, long))
+  one_more (x ∷ xs) (y ∷ ys) long have are =
+      with_first _ _ (have zero x y refl refl) (one_more xs ys (omega (arith, long)) (λ k. have (suc k)) are)
+
+module _ {D : Type 0} (has_seen : D → ℕ → List Numbered → List ReplyValue → Type 0) where
   -- what is so of each in two lists is so of the first two, and of each after them
   pub first_has : {drivers others : List D} {submitters rest : List SubmitterState} {driver : D}
       {submitter : SubmitterState} → drivers ≡ driver ∷ others → submitters ≡ submitter ∷ rest
@@ -75,18 +81,3 @@ pub end_before : (before now : SubmitterState) (ended : Option EndedState) → o
     → IsPrefixOf before.queued now.queued → IsEnd now ended → IsEnd before ended
 end_before before now None own front is = tt
 end_before before now (Some end) own front is = (is.0 ∙ own, front_of_more before.queued front is.1)
-
-pub front_more : (submitters : List SubmitterState) (ends : List EndedState) (submitter : SubmitterState)
-    (ended : EndedState) → length submitters ≡ length ends → ArePrefixesOf submitters ends
-    → IsPrefixOf submitter.queued ended.queued → ArePrefixesOf (submitters ++ submitter ∷ []) (ends ++ ended ∷ [])
-front_more [] [] submitter ended long all one zero s e s_is e_is =
-    let same : submitter ≡ s = cc in
-    let end_same : ended ≡ e = cc in
-    subst (λ (x : SubmitterState). IsPrefixOf x.queued e.queued) same
-    (subst (λ (x : EndedState). IsPrefixOf submitter.queued x.queued) end_same one)
-front_more [] [] submitter ended long all one (suc k) s e s_is e_is = cc
-front_more [] (first ∷ ends) submitter ended long all one k s e s_is e_is = absurd (omega (arith, long))
-front_more (first ∷ submitters) [] submitter ended long all one k s e s_is e_is = absurd (omega (arith, long))
-front_more (x ∷ submitters) (y ∷ ends) submitter ended long all one zero s e s_is e_is = all zero s e s_is e_is
-front_more (x ∷ submitters) (y ∷ ends) submitter ended long all one (suc k) s e s_is e_is =
-    front_more submitters ends submitter ended (omega (arith, long)) (λ k. all (suc k)) one k s e s_is e_is

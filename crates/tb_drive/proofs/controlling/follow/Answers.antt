@@ -13,6 +13,6 @@ loop-preserved g c = λ started.
 
 pub loop-preserved-in-Pulse : goal.loop-preserved-in-Pulse
 loop-preserved-in-Pulse g c = λ started.
-    has_queued_more _ _ _ (pulse_of c.in-Pulse.moment) _ _ (c.loop.invariant started) (search rules)
+    has_queued_more _ (pulse_of c.in-Pulse.moment) (c.loop.invariant started) (search rules)
     (λ items had. c.in_ok-pulse-in-Pulse.ensures.response c.args.driver.now items
     (c.in-Pulse.ensures c.args.driver.now items had))

@@ -7,5 +7,5 @@ pub returns : goal.returns
 returns g c =
     subst (λ (task : ControlTaskState _). HasQueued task.control c.in_ok-end.end
     (g.C.ControlDriver.has_ended task.driver c.follow.new.driver)) c.self.view_is
-    (has_queued_more _ c.follow.new.control _ (last_item c.in-Some.shuts ∷ []) _ _
+    (has_queued_more {now = c.follow.new.control} _ (last_item c.in-Some.shuts ∷ [])
     (c.in-Some.ensures c.self.invariant) c.in_ok-end.ensures (λ items had. had))

@@ -1,4 +1,4 @@
-use Rattle.std.proofs.Common.{rules, ◌≤◌, ◌∙◌, ap, length, refl, sym, arith}
+use Rattle.std.proofs.Common.{rules, ◌≤◌, ap, length, refl, arith}
 use Rattle.tb_drive.proofs.Words.{slice_get_read, last_item}
 use Rattle.tb_drive.proofs.Pulsed.{all_queued}
 use Rattle.tb_drive.proofs.plan.PlanDriverControlDriver.next.Goals as goal
@@ -16,11 +16,9 @@ returns-in-Some g c = λ first items queued.
 pub returns-in-None : goal.returns-in-None
 returns-in-None g c = λ first items queued.
     let past : length c.deref.result.now ≤ c.args.self.now.next = search rules in
-    all_queued first.moments.items c.args.self.now.next _ _ _ _ (rw (← queued.0, ← c.deref.ensures.value) past)
-    (ap last_item (sym c.if-self.true ∙ queued.1)) queued.2 queued.3
+    all_queued first c.args.self.now items queued (rw (← c.deref.ensures.value) past) (ap last_item c.if-self.true)
 
 pub returns-in-None-2 : goal.returns-in-None-2
 returns-in-None-2 g c = λ first items queued.
     let past : length c.deref.result.now ≤ c.args.self.now.next = search rules in
-    all_queued first.moments.items c.args.self.now.next _ _ _ _ (rw (← queued.0, ← c.deref.ensures.value) past)
-    (ap last_item (sym c.if-self.false ∙ queued.1)) queued.2 queued.3
+    all_queued first c.args.self.now items queued (rw (← c.deref.ensures.value) past) (ap last_item c.if-self.false)
