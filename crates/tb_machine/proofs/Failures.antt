@@ -1,6 +1,6 @@
 -- The failures that results make, with their indices.
-use Rattle.std.proofs.Common.{refl, sym, ap, ◌∙◌, arith, ◌≡◌, ◌≢◌, ℕ, zero, suc, ◌+◌, Bool, true, false, List, [], ◌∷◌, ◌++◌, length, replicate, Option, Some, None}
-use Rattle.tb_machine.proofs.Words.{if◌then◌else◌, ◌==◌, is_some, length-replicate, replicate_more, Failure, Facts, ChainFault, Operation, failures_from, closed_results, results_of_failed, LiesBelow}
+use Rattle.std.proofs.Common.{refl, sym, ap, ◌∙◌, arith, ◌≡◌, ◌≢◌, ℕ, zero, suc, ◌+◌, Bool, true, false, List, [], ◌∷◌, ◌++◌, length, replicate, Option, Some, None, ◌≤◌, length-append, Vec, vec_len}
+use Rattle.tb_machine.proofs.Words.{Results, HasCommitted, Global, History, if◌then◌else◌, ◌==◌, is_some, length-replicate, replicate_more, Failure, Facts, ChainFault, Operation, failures_from, closed_results, results_of_failed, LiesBelow}
 use Rattle.tb_machine.proofs.Faults.{eqb-false, length-failed_results}
 
 abbrev failure : ℕ → ℕ → Failure
@@ -48,6 +48,30 @@ failures_from-fault index before code count fault =
     ++ (if b then failures_from (index + before + 1) (replicate count 1)
     else failure (index + before) code ∷ failures_from (index + before + 1) (replicate count 1)))
     (eqb-false code 0 fault)
+
+chosen-few : (b : Bool) (first : Failure) (rest : List Failure) (n : ℕ) → length rest ≤ n
+    → length (if b then rest else first ∷ rest) ≤ suc n
+chosen-few true first rest n few = omega arith
+chosen-few false first rest n few = omega arith
+
+failures_from-few : (index : ℕ) (results : List ℕ) → length (failures_from index results) ≤ length results
+failures_from-few index [] = omega arith
+failures_from-few index (code ∷ codes) =
+    chosen-few (code == 0) (failure index code) (failures_from (index + 1) codes) (length codes)
+    (failures_from-few (index + 1) codes)
+
+-- results make at most as many failures
+pub few_more : {index : ℕ} {made : Results} {tables : History} {out more : Vec Failure Global} →
+    HasCommitted index made tables out more → vec_len more ≤ vec_len out + length made.results
+few_more {index} {made} {tables} {out} {more} committed =
+    omega (
+      arith,
+      ap length committed.failures,
+      length-append out.items (failures_from index made.results),
+      failures_from-few index made.results,
+      out.ok.0,
+      more.ok.0,
+    )
 
 -- the last event of an open chain reports so
 pub failures_from-open : {Event : Type 0} (index count : ℕ) (fault : Option (ChainFault Event)) → LiesBelow count fault →

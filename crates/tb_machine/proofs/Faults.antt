@@ -1,6 +1,6 @@
 -- The first fault of events, and how many results a chain has.
 use Rattle.std.proofs.Common.{refl, ap, nat_lt, ◌∙◌, arith, ◌≡◌, ◌≢◌, ℕ, suc, ◌+◌, ◌-◌, ◌<◌, ◌≤◌, Bool, true, false, List, [], ◌∷◌, length, replicate, eqb, Option, Some, None, map, take, length-append, length-take-le, ⊎_elim}
-use Rattle.tb_machine.proofs.Words.{if◌then◌else◌, ◌==◌, is_some, ltb-true, length-map, length-replicate, eqb_tells, is_last_linked, Facts, ChainFault, clock_max, clock_after, Operation, Results, Attempt, Stored, Failed, try_events, closed_chain, open_chain, chain_results, next_timestamp, verdict_at, facts_with, facts_with_all, first_fault, results_of_failed, closed_results, open_results, LiesBelow, fault_as}
+use Rattle.tb_machine.proofs.Words.{if◌then◌else◌, ◌==◌, is_some, ltb-true, length-map, length-replicate, eqb_tells, is_last_linked, Facts, ChainFault, clock_max, clock_after, Operation, Results, Attempt, Stored, Failed, try_events, closed_chain, open_chain, chain_results, next_timestamp, verdict_at, facts_with, facts_with_all, first_fault, results_of_failed, closed_results, open_results, closed_chain_results, open_chain_results, LiesBelow, fault_as}
 
 pub eqb-false : (a b : ℕ) → a ≢ b → (a == b) ≡ false
 eqb-false a b ne =
@@ -81,7 +81,7 @@ tried operation index clock facts (event ∷ events) =
 
 pub closed_is : {Event : Type 0} (operation : Operation Event) (clock : ℕ) (facts : Facts) (chain : List Event) →
     closed_chain operation facts (length chain) (try_events operation 0 clock facts chain)
-    ≡ closed_results operation clock facts chain (first_fault operation 0 clock facts chain)
+    ≡ closed_chain_results operation clock facts chain
 closed_is operation clock facts chain =
     ap (closed_chain operation facts (length chain)) (tried operation 0 clock facts chain)
     ∙ by (first_fault operation 0 clock facts chain)
@@ -94,7 +94,7 @@ closed_is operation clock facts chain =
 
 pub open_is : {Event : Type 0} (operation : Operation Event) (clock : ℕ) (facts : Facts) (front : List Event) →
     open_chain operation facts (length front) (try_events operation 0 clock facts front)
-    ≡ open_results operation facts front (first_fault operation 0 clock facts front)
+    ≡ open_chain_results operation clock facts front
 open_is operation clock facts front =
     ap (open_chain operation facts (length front)) (tried operation 0 clock facts front)
     ∙ by (first_fault operation 0 clock facts front)

@@ -1,78 +1,40 @@
 -- The first chain of some events, and the rest.
-use Rattle.std.proofs.Common.{refl, sym, ap, ◌∙◌, arith, ◌≡◌, ℕ, suc, ◌+◌, ◌-◌, ◌<◌, ◌≤◌, Bool, true, false, List, [], ◌∷◌, ◌++◌, length, take, drop, get_or, map, append_assoc, length-take-le, length-drop}
-use Rattle.tb_machine.proofs.Words.{if◌then◌else◌, length-map, take-map, get_or-map, take_rest, drop-map, drop-drop, Failure, is_last_linked, Facts, Operation, Results, before_chains, chains_of, chain_results, chains_results, open_chain, closed_chain, try_events, clock_after, events_results, failures_from, open_results, closed_results, first_fault, first_chain_length, then_results}
+use Rattle.std.proofs.Common.{refl, sym, ap, ◌∙◌, arith, ◌≡◌, ℕ, suc, ◌+◌, ◌-◌, ◌<◌, ◌≤◌, Bool, true, false, List, [], ◌∷◌, ◌++◌, length, take, drop, get_or, map, append_assoc, length-take-le, length-drop, Vec, vec_len}
+use Rattle.tb_machine.proofs.Words.{if◌then◌else◌, HasCommitted, Global, History, length-map, take-map, take_rest, drop-map, drop-drop, Failure, is_last_linked, Facts, Operation, Results, before_chains, chains_of, chain_results, chains_results, clock_after, events_results, failures_from, open_chain_results, closed_chain_results, first_chain_length, then_results}
 use Rattle.tb_machine.proofs.Faults.{length-chain_results, open_is, closed_is}
-use Rattle.tb_machine.proofs.Failures.{failures_from-append}
+use Rattle.tb_machine.proofs.Failures.{failures_from-append, few_more}
 
 -- ---- the last event decides whether a chain is open
 
-last_linked : {Event : Type 0} (is_linked : Event → Bool) (events : List Event) (d : Event) → 0 < length events
-    → is_last_linked is_linked events ≡ is_linked (get_or events (length events - 1) d)
-last_linked is_linked [] d h = absurd (omega arith)
-last_linked is_linked (event ∷ []) d h = refl
-last_linked is_linked (event ∷ next ∷ events) d h =
-    last_linked is_linked (next ∷ events) d (omega arith)
-    ∙ (let e : suc (length (next ∷ events) - 1) ≡ length (event ∷ next ∷ events) - 1 = omega arith in ap
-    (λ k. is_linked (get_or (event ∷ next ∷ events) k d)) e)
-
--- which of both it is
-chosen_results : {Event : Type 0} (operation : Operation Event) (clock : ℕ) (facts : Facts) (chain : List Event)
-    (is_open : Bool) → is_last_linked operation.is_linked chain ≡ is_open →
-    let front = take (length chain - 1) chain in chain_results operation clock facts chain
-    ≡ (if is_open then open_chain operation facts (length front) (try_events operation 0 clock facts front)
-    else closed_chain operation facts (length chain) (try_events operation 0 clock facts chain))
-chosen_results operation clock facts chain is_open is =
-    let front = take (length chain - 1) chain in
-    ap (λ b. if b then open_chain operation facts (length front) (try_events operation 0 clock facts front)
-    else closed_chain operation facts (length chain) (try_events operation 0 clock facts chain)) is
-
-chain_results-open : {Event : Type 0} (operation : Operation Event) (clock : ℕ) (facts : Facts) (chain : List Event)
-    (d : Event) → 0 < length chain → operation.is_linked (get_or chain (length chain - 1) d) ≡ true →
-    let front = take (length chain - 1) chain in chain_results operation clock facts chain
-    ≡ open_results operation facts front (first_fault operation 0 clock facts front)
-chain_results-open operation clock facts chain d h linked =
-    chosen_results operation clock facts chain true (last_linked operation.is_linked chain d h ∙ linked)
-    ∙ open_is operation clock facts (take (length chain - 1) chain)
-
-chain_results-closed : {Event : Type 0} (operation : Operation Event) (clock : ℕ) (facts : Facts)
-    (chain : List Event) (d : Event) → 0 < length chain
-    → operation.is_linked (get_or chain (length chain - 1) d) ≡ false →
-    chain_results operation clock facts chain ≡ closed_results operation clock facts chain
-    (first_fault operation 0 clock facts chain)
-chain_results-closed operation clock facts chain d h linked =
-    chosen_results operation clock facts chain false (last_linked operation.is_linked chain d h ∙ linked)
-    ∙ closed_is operation clock facts chain
-
--- the same for events that chunks of bytes hold
+last_linked : {Chunk Event : Type 0} (is_linked : Event → Bool) (f : Chunk → Event) (chunks : List Chunk) (d : Chunk)
+    → 0 < length chunks →
+    is_last_linked is_linked (map f chunks) ≡ is_linked (f (get_or chunks (length chunks - 1) d))
+last_linked is_linked f [] d some = absurd (omega arith)
+last_linked is_linked f (chunk ∷ []) d some = refl
+last_linked is_linked f (chunk ∷ next ∷ chunks) d some =
+    last_linked is_linked f (next ∷ chunks) d (omega arith)
+    ∙ (let e : suc (length (next ∷ chunks) - 1) ≡ length (chunk ∷ next ∷ chunks) - 1 = omega arith in ap
+    (λ k. is_linked (f (get_or (chunk ∷ next ∷ chunks) k d))) e)
 
 map-front : {Chunk Event : Type 0} (f : Chunk → Event) (chunks : List Chunk)
     → take (length (map f chunks) - 1) (map f chunks) ≡ map f (take (length chunks - 1) chunks)
 map-front f chunks = ap (λ n. take (n - 1) (map f chunks)) (length-map chunks f) ∙ take-map f (length chunks - 1) chunks
 
-last_chunk : {Chunk Event : Type 0} (f : Chunk → Event) (chunks : List Chunk) (d : Chunk) → 0 < length chunks
-    → get_or (map f chunks) (length (map f chunks) - 1) (f d) ≡ f (get_or chunks (length chunks - 1) d)
-last_chunk f chunks d h =
-    ap (λ n. get_or (map f chunks) (n - 1) (f d)) (length-map chunks f)
-    ∙ get_or-map f chunks (length chunks - 1) d (f d) (omega arith)
-
-pub chunks-open : {Chunk Event : Type 0} (operation : Operation Event) (f : Chunk → Event) (clock : ℕ)
-    (facts : Facts) (chunks : List Chunk) (d : Chunk) → 0 < length chunks
-    → operation.is_linked (f (get_or chunks (length chunks - 1) d)) ≡ true →
-    let front = map f (take (length chunks - 1) chunks) in chain_results operation clock facts (map f chunks)
-    ≡ open_results operation facts front (first_fault operation 0 clock facts front)
-chunks-open operation f clock facts chunks d h linked =
-    chain_results-open operation clock facts (map f chunks) (f d) (omega (arith, length-map chunks f))
-    (ap operation.is_linked (last_chunk f chunks d h) ∙ linked)
-    ∙ ap (λ front. open_results operation facts front (first_fault operation 0 clock facts front)) (map-front f chunks)
-
-pub chunks-closed : {Chunk Event : Type 0} (operation : Operation Event) (f : Chunk → Event) (clock : ℕ)
-    (facts : Facts) (chunks : List Chunk) (d : Chunk) → 0 < length chunks
-    → operation.is_linked (f (get_or chunks (length chunks - 1) d)) ≡ false →
+-- the results of a chain whose events chunks of bytes hold
+pub chain_results-chunks : {Chunk Event : Type 0} (operation : Operation Event) (f : Chunk → Event) (clock : ℕ)
+    (facts : Facts) (chunks : List Chunk) (d : Chunk) → 0 < length chunks →
     chain_results operation clock facts (map f chunks)
-    ≡ closed_results operation clock facts (map f chunks) (first_fault operation 0 clock facts (map f chunks))
-chunks-closed operation f clock facts chunks d h linked =
-    chain_results-closed operation clock facts (map f chunks) (f d) (omega (arith, length-map chunks f))
-    (ap operation.is_linked (last_chunk f chunks d h) ∙ linked)
+    ≡ (if operation.is_linked (f (get_or chunks (length chunks - 1) d))
+    then open_chain_results operation clock facts (map f (take (length chunks - 1) chunks))
+    else closed_chain_results operation clock facts (map f chunks))
+chain_results-chunks operation f clock facts chunks d some =
+    let chain = map f chunks in
+    rw (
+      last_linked operation.is_linked f chunks d some,
+      open_is operation clock facts (take (length chain - 1) chain),
+      closed_is operation clock facts chain,
+      map-front f chunks,
+    )
 
 -- ---- cutting off the first chain
 
@@ -127,53 +89,53 @@ events_results-first operation clock facts (event ∷ events) n h is =
 -- ---- the chains before event number i were taken, and the remainder decides the whole
 
 pub record IsLeft {Event : Type 0} (operation : Operation Event) (whole : Results) (clock : ℕ) (facts : Facts)
-    (index : ℕ) (rest : List Event) (out : List Failure) : Type 0 where
+    (index : ℕ) (rest : List Event) (before out : Vec Failure Global) : Type 0 where
+  pub few : vec_len out ≤ vec_len before + index
   pub facts_after : whole.facts ≡ (events_results operation clock facts rest).facts
-  pub failures : failures_from 0 whole.results
-      ≡ out ++ failures_from index (events_results operation clock facts rest).results
+  pub failures : before.items ++ failures_from 0 whole.results
+      ≡ out.items ++ failures_from index (events_results operation clock facts rest).results
 
-left_more : {Event : Type 0} {operation : Operation Event} {whole : Results} {clock index n : ℕ} {facts next : Facts}
-    {rest : List Event} {out more : List Failure} →
+left_more : {Event : Type 0} {operation : Operation Event} {whole : Results} {clock index n : ℕ} {facts : Facts}
+    {tables : History} {rest : List Event} {before out more : Vec Failure Global} →
     0 < length rest → n ≡ first_chain_length operation.is_linked rest →
-    next ≡ (chain_results operation clock facts (take n rest)).facts →
-    more ≡ out ++ failures_from index (chain_results operation clock facts (take n rest)).results →
-    IsLeft operation whole clock facts index rest out
-    → IsLeft operation whole (clock_after clock n) next (index + n) (drop n rest) more
-left_more {operation} {whole} {clock} {index} {n} {facts} {next} {rest} {out} {more} some is next_is more_is left =
+    HasCommitted index (chain_results operation clock facts (take n rest)) tables out more →
+    IsLeft operation whole clock facts index rest before out
+    → IsLeft operation whole (clock_after clock n) tables.now (index + n) (drop n rest) before more
+left_more {operation} {whole} {clock} {index} {n} {facts} {tables} {rest} {before} {out} {more} some is committed left =
     let first = chain_results operation clock facts (take n rest) in
-    let later = events_results operation (clock_after clock n) next (drop n rest) in
+    let later = events_results operation (clock_after clock n) tables.now (drop n rest) in
     let fits : n ≤ length rest = omega (arith, is, first_chain_length-le operation.is_linked rest) in
     let both : events_results operation clock facts rest ≡ then_results first later =
     events_results-first operation clock facts rest n some is
     ∙ ap (λ f. then_results first (events_results operation (clock_after clock n) f (drop n rest)))
-    (sym next_is) in
+    (sym committed.facts) in
     let size : length first.results ≡ n = length-chain_results operation clock facts (take n rest)
     ∙ length-take-le n rest fits in
     record {
+      few = omega (arith, left.few, size, few_more committed);
       facts_after = left.facts_after ∙ ap (λ (o : Results). o.facts) both;
       failures =
-          left.failures ∙ ap (λ (o : Results). out ++ failures_from index o.results) both
-          ∙ ap (λ fs. out ++ fs) (failures_from-append index first.results later.results)
-          ∙ sym (append_assoc out (failures_from index first.results)
+          left.failures ∙ ap (λ (o : Results). out.items ++ failures_from index o.results) both
+          ∙ ap (λ fs. out.items ++ fs) (failures_from-append index first.results later.results)
+          ∙ sym (append_assoc out.items (failures_from index first.results)
           (failures_from (index + length first.results) later.results))
-          ∙ ap (λ fs. fs ++ failures_from (index + length first.results) later.results) (sym more_is)
-          ∙ ap (λ k. more ++ failures_from (index + k) later.results) size;
+          ∙ ap (λ fs. fs ++ failures_from (index + length first.results) later.results) (sym committed.failures)
+          ∙ ap (λ k. more.items ++ failures_from (index + k) later.results) size;
     }
 
 -- the same for events that chunks of bytes hold
 pub left_more_chunks : {Chunk Event : Type 0} {operation : Operation Event} {whole : Results}
-    {clock after index n : ℕ} {facts next : Facts} {out more : List Failure} (f : Chunk → Event)
-    (chunks : List Chunk) → let rest = take (length chunks - index) (drop index chunks) in
+    {clock after index n : ℕ} {facts : Facts} {tables : History}
+    {before out more : Vec Failure Global} (f : Chunk → Event) (chunks : List Chunk) →
+    let rest = take (length chunks - index) (drop index chunks) in
     after ≡ clock_after clock n → index < length chunks → n ≡ first_chain_length operation.is_linked (map f rest) →
-    next ≡ (chain_results operation clock facts (map f (take n rest))).facts →
-    more ≡ out ++ failures_from index (chain_results operation clock facts (map f (take n rest))).results →
-    IsLeft operation whole clock facts index (map f (drop index chunks)) out
-    → IsLeft operation whole after next (index + n) (map f (drop (index + n) chunks)) more
-left_more_chunks {index = index} {n = n} f chunks after_is h is next_is more_is left =
+    HasCommitted index (chain_results operation clock facts (map f (take n rest))) tables out more →
+    IsLeft operation whole clock facts index (map f (drop index chunks)) before out
+    → IsLeft operation whole after tables.now (index + n) (map f (drop (index + n) chunks)) before more
+left_more_chunks {index = index} {n = n} f chunks after_is h is committed left =
     let events = map f (drop index chunks) in
     let some : 0 < length events = omega (arith, length-map (drop index chunks) f, length-drop index chunks) in
     let dropped : drop n events ≡ map f (drop (index + n) chunks) =
     drop-map f n (drop index chunks) ∙ ap (map f) (drop-drop n index chunks) in
     rw (after_is, ← dropped)
-    (left_more some (rw take_rest at is) (rw (take_rest, ← take-map) at next_is)
-    (rw (take_rest, ← take-map) at more_is) left)
+    (left_more some (rw take_rest at is) (rw (take_rest, ← take-map) at committed) left)

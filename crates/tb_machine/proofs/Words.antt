@@ -2,7 +2,8 @@
 pub use Rattle.std.proofs.lemmas.Bool.{ltb-true, eqb-true}
 pub use Rattle.std.proofs.lemmas.Bool.Decides.{eqb_tells, nat_tests}
 pub use Rattle.std.proofs.lemmas.Grind.{common_steps}
-pub use Rattle.std.proofs.lemmas.List.{length-replicate, replicate_more, length-map, take-map, get_or-map, take_rest, drop-map, drop-drop}
+pub use Rattle.std.proofs.lemmas.List.{length-replicate, replicate_more, length-map, take-map, take_rest, drop-map, drop-drop}
+pub use Rattle.std.specs.declared.alloc.Global.{Global}
 pub use Rattle.std.specs.List.{list_all, AllByRecursion}
 pub use Rattle.std.specs.Option.{option_map}
 pub use Rattle.std.specs.Prelude.{Some, None, ◌&&◌, if◌then◌else◌, ◌==◌, is_some, nat_le, nat_lt, fold, ◌||◌, IsSome, vec_capacity, MatchOption}
@@ -22,10 +23,11 @@ pub use Rattle.tb_machine.specs.claim.Replay.{replay, failures_of, State, result
 pub use Rattle.tb_machine.specs.claim.TransferVerdict.{event_checks, stored_checks, against_id, new_id_verdict, resolving_verdict, moving_verdict, resolved_transfer_of, has_exclusive_flags, new_id_checks, resolving_checks, against_named, pending_checks, status_checks, moving_checks, against_accounts, balance_checks, resolved_transfer, stored_transfer}
 pub use Rattle.tb_machine.specs.declared.fault.ChainFault.{ChainFault}
 pub use Rattle.tb_machine.specs.inside.Examining.{LiesBelow, fault_as, first_chain_length, then_results, after_results}
-pub use Rattle.tb_machine.specs.inside.Faults.{verdict_at, closed_results, results_of_failed, next_timestamp, facts_with, facts_with_all, first_fault, open_results}
+pub use Rattle.tb_machine.specs.inside.Committing.{Continues, HasCommitted}
+pub use Rattle.tb_machine.specs.inside.Faults.{verdict_at, closed_results, results_of_failed, next_timestamp, facts_with, facts_with_all, first_fault, open_results, closed_chain_results, open_chain_results}
 pub use Rattle.tb_tables.specs.claim.Balances.{balanced_account, with_balances}
 pub use Rattle.tb_tables.specs.claim.Facts.{no_facts, Facts, transfer_with, is_failed, account_with, is_expired}
 pub use Rattle.tb_tables.specs.clauses.Balances.{debits_pending, debits_posted, credits_pending, credits_posted, debits, credits}
 pub use Rattle.tb_tables.specs.clauses.Conditions.{MayAdd, MayResolve}
-pub use Rattle.tb_tables.specs.clauses.History.{Extends}
+pub use Rattle.tb_tables.specs.clauses.History.{History, Extends}
 pub use Rattle.tb_tables.specs.declared.status.Status.TheVariants.{Pending, Voided, Expired, Posted}

@@ -2,3 +2,4 @@
 pub mod Prefetch
 pub mod Examining
 pub mod Faults
+pub mod Committing

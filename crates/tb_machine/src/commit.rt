@@ -1,12 +1,13 @@
 //! A packet's chains, one by one.
 
-ghost use Rattle.std.specs.Prelude.{◌≡◌, ◌≢◌, ◌+◌, ◌^◌, ◌<◌, ◌≤◌, ◌++◌, [], length, map, take, vec_len, vec_capacity, Ok, None, IfOk, OnOk};
+ghost use Rattle.std.specs.Prelude.{◌≡◌, ◌≢◌, ◌+◌, ◌<◌, ◌≤◌, [], ◌∷◌, length, map, take, Ok, None, IfOk, OnOk};
 ghost use Rattle.tb_tables.specs.clauses.History.{mark_of, back_to, Extends};
 ghost use Rattle.tb_layout.specs.claim.Limits.{clock_max};
 ghost use Rattle.tb_machine.specs.inside.Faults as faults;
-ghost use Rattle.tb_machine.specs.claim.Chain.{chain_results, events_results, failures_from};
-ghost use Rattle.tb_machine.specs.inside.Faults.{verdict_at, facts_with, facts_with_all, first_fault, facts_after_failure, open_results, closed_results};
-ghost use Rattle.tb_machine.specs.inside.Examining.{event_results, fault_as, first_chain_length};
+ghost use Rattle.tb_machine.specs.claim.Chain.{chain_results, events_results};
+ghost use Rattle.tb_machine.specs.inside.Committing.{MayCommit, Continues, HasCommitted};
+ghost use Rattle.tb_machine.specs.inside.Faults.{verdict_at, facts_with, facts_with_all, first_fault, facts_after_failure, open_chain_results, closed_chain_results};
+ghost use Rattle.tb_machine.specs.inside.Examining.{fault_as, first_chain_length};
 
 use crate::chain::{ChainStart, first_chain_length};
 use crate::clock::{clock_after, next_timestamp};
@@ -117,16 +118,10 @@ fn commit_event<E: CreateEvent>(
     chunk: &[u8; 128],
     out: &mut Vec<Failure>,
 ) -> Result<(), NoMemory>
-    requires clock { start.clock ≤ clock_max }
-    requires room { vec_len out.old < vec_capacity out.old }
-    requires fits { start.index < 2 ^ 32 }
-    ensures extends { Extends tables.old tables.new }
-    ensures facts { let results = event_results E.operation start.clock tables.old.now (E.event_of chunk.now) in
-        OnOk result (tables.new.now ≡ results.facts) }
-    ensures failures { let results = event_results E.operation start.clock tables.old.now (E.event_of chunk.now) in
-        OnOk result (out.new.items ≡ out.old.items ++ failures_from start.index results.results) }
-    ensures len { vec_len out.new ≤ vec_len out.old + 1 }
-    ensures capacity { vec_capacity out.new ≡ vec_capacity out.old }
+    requires { MayCommit start.clock start.index 1 out.old }
+    ensures continues { Continues tables.old tables.new out.old out.new }
+    ensures committed { OnOk result (HasCommitted start.index (closed_chain_results E.operation start.clock
+        tables.old.now (E.event_of chunk.now ∷ [])) tables.new out.old out.new) }
 {
     let code = try_store_at(start.clock, start.seems_stored, tables, E::read(chunk))?;
     if code != 0 {
@@ -147,18 +142,10 @@ fn commit_closed_chain<E: CreateEvent>(
     chain: &[[u8; 128]],
     out: &mut Vec<Failure>,
 ) -> Result<(), NoMemory>
-    requires clock { start.clock ≤ clock_max }
-    requires room { vec_len out.old + length chain.now ≤ vec_capacity out.old }
-    requires fits { start.index + length chain.now < 2 ^ 32 }
-    ensures extends { Extends tables.old tables.new }
-    ensures facts { let results = closed_results E.operation start.clock tables.old.now (map E.event_of chain.now)
-        (first_fault E.operation 0 start.clock tables.old.now (map E.event_of chain.now)) in
-        OnOk result (tables.new.now ≡ results.facts) }
-    ensures failures { let results = closed_results E.operation start.clock tables.old.now (map E.event_of chain.now)
-        (first_fault E.operation 0 start.clock tables.old.now (map E.event_of chain.now)) in
-        OnOk result (out.new.items ≡ out.old.items ++ failures_from start.index results.results) }
-    ensures len { vec_len out.new ≤ vec_len out.old + length chain.now }
-    ensures capacity { vec_capacity out.new ≡ vec_capacity out.old }
+    requires { MayCommit start.clock start.index (length chain.now) out.old }
+    ensures continues { Continues tables.old tables.new out.old out.new }
+    ensures committed { OnOk result (HasCommitted start.index (closed_chain_results E.operation start.clock
+        tables.old.now (map E.event_of chain.now)) tables.new out.old out.new) }
 {
     let mark = tables.mark();
     let fault = try_store_all::<E>(start.clock, tables, chain)?;
@@ -178,18 +165,10 @@ fn commit_open_chain<E: CreateEvent>(
     front: &[[u8; 128]],
     out: &mut Vec<Failure>,
 ) -> Result<(), NoMemory>
-    requires clock { start.clock ≤ clock_max }
-    requires room { vec_len out.old + length front.now < vec_capacity out.old }
-    requires fits { start.index + length front.now + 1 < 2 ^ 32 }
-    ensures extends { Extends tables.old tables.new }
-    ensures facts { let results = open_results E.operation tables.old.now (map E.event_of front.now)
-        (first_fault E.operation 0 start.clock tables.old.now (map E.event_of front.now)) in
-        OnOk result (tables.new.now ≡ results.facts) }
-    ensures failures { let results = open_results E.operation tables.old.now (map E.event_of front.now)
-        (first_fault E.operation 0 start.clock tables.old.now (map E.event_of front.now)) in
-        OnOk result (out.new.items ≡ out.old.items ++ failures_from start.index results.results) }
-    ensures len { vec_len out.new ≤ vec_len out.old + length front.now + 1 }
-    ensures capacity { vec_capacity out.new ≡ vec_capacity out.old }
+    requires { MayCommit start.clock start.index (length front.now + 1) out.old }
+    ensures continues { Continues tables.old tables.new out.old out.new }
+    ensures committed { OnOk result (HasCommitted start.index (open_chain_results E.operation start.clock
+        tables.old.now (map E.event_of front.now)) tables.new out.old out.new) }
 {
     let mark = tables.mark();
     let fault = with_event::<E>(try_store_all::<E>(start.clock, tables, front)?);
@@ -210,17 +189,10 @@ fn commit_chain<E: CreateEvent>(
     out: &mut Vec<Failure>,
 ) -> Result<(), NoMemory>
     requires some { 0 < length chain.now }
-    requires clock { start.clock ≤ clock_max }
-    requires room { vec_len out.old + length chain.now ≤ vec_capacity out.old }
-    requires fits { start.index + length chain.now < 2 ^ 32 }
-    ensures extends { Extends tables.old tables.new }
-    ensures facts { OnOk result (tables.new.now ≡ (chain_results E.operation start.clock tables.old.now
-        (map E.event_of chain.now)).facts) }
-    ensures failures { OnOk result (out.new.items
-        ≡ out.old.items ++ failures_from start.index (chain_results E.operation start.clock tables.old.now
-        (map E.event_of chain.now)).results) }
-    ensures len { vec_len out.new ≤ vec_len out.old + length chain.now }
-    ensures capacity { vec_capacity out.new ≡ vec_capacity out.old }
+    requires may { MayCommit start.clock start.index (length chain.now) out.old }
+    ensures continues { Continues tables.old tables.new out.old out.new }
+    ensures committed { OnOk result (HasCommitted start.index (chain_results E.operation start.clock
+        tables.old.now (map E.event_of chain.now)) tables.new out.old out.new) }
 {
     let last = chain.len() - 1;
     if E::is_chunk_linked(&chain[last]) {
@@ -239,20 +211,13 @@ fn commit_first<E: CreateEvent>(
     out: &mut Vec<Failure>,
 ) -> Result<usize, NoMemory>
     requires some { 0 < length events.now }
-    requires clock { start.clock ≤ clock_max }
-    requires room { vec_len out.old + length events.now ≤ vec_capacity out.old }
-    requires fits { start.index + length events.now < 2 ^ 32 }
+    requires may { MayCommit start.clock start.index (length events.now) out.old }
     ensures count { IfOk result (λ count. count
         ≡ first_chain_length E.operation.is_linked (map E.event_of events.now)) }
     ensures within { IfOk result (λ count. (0 < count) × (count ≤ length events.now)) }
-    ensures extends { Extends tables.old tables.new }
-    ensures facts { IfOk result (λ count. tables.new.now ≡ (chain_results E.operation start.clock tables.old.now
-        (map E.event_of (take count events.now))).facts) }
-    ensures failures { IfOk result (λ count. out.new.items
-        ≡ out.old.items ++ failures_from start.index (chain_results E.operation start.clock tables.old.now
-        (map E.event_of (take count events.now))).results) }
-    ensures len { IfOk result (λ count. vec_len out.new ≤ vec_len out.old + count) }
-    ensures capacity { vec_capacity out.new ≡ vec_capacity out.old }
+    ensures continues { Continues tables.old tables.new out.old out.new }
+    ensures committed { IfOk result (λ count. HasCommitted start.index (chain_results E.operation start.clock
+        tables.old.now (map E.event_of (take count events.now))) tables.new out.old out.new) }
 {
     if !E::is_chunk_linked(&events[0]) {
         commit_event::<E>(start, tables, &events[0], out)?;
@@ -371,16 +336,10 @@ pub(crate) fn commit_chains<E: CreateEvent>(
     chunks: &[[u8; 128]],
     out: &mut Vec<Failure>,
 ) -> Result<(), NoMemory>
-    requires clock { clock ≤ clock_max }
-    requires empty { out.old.items ≡ [] }
-    requires room { length chunks.now ≤ vec_capacity out.old }
-    requires fits { length chunks.now < 2 ^ 32 }
-    ensures extends { Extends tables.old tables.new }
-    ensures facts { OnOk result (tables.new.now ≡ (events_results E.operation clock tables.old.now
-        (map E.event_of chunks.now)).facts) }
-    ensures failures { OnOk result (out.new.items
-        ≡ failures_from 0 (events_results E.operation clock tables.old.now (map E.event_of chunks.now)).results) }
-    ensures capacity { vec_capacity out.new ≡ vec_capacity out.old }
+    requires { MayCommit clock 0 (length chunks.now) out.old }
+    ensures continues { Continues tables.old tables.new out.old out.new }
+    ensures committed { OnOk result (HasCommitted 0 (events_results E.operation clock
+        tables.old.now (map E.event_of chunks.now)) tables.new out.old out.new) }
 {
     let mut start = ChainStart {
         clock,

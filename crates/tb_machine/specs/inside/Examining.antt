@@ -2,8 +2,7 @@
 use Rattle.std.specs.Prelude.{◌≢◌, ◌<◌, ℕ, suc, Bool, List, [], ◌∷◌, ◌++◌, length, Option, Some, None, if◌then◌else◌}
 use Rattle.tb_tables.specs.claim.Facts.{Facts, transfer_with}
 use Rattle.tb_machine.specs.declared.fault.ChainFault.{ChainFault}
-use Rattle.tb_machine.specs.claim.Chain.{Operation, Results, clock_after}
-use Rattle.tb_machine.specs.inside.Faults.{closed_results, first_fault}
+use Rattle.tb_machine.specs.claim.Chain.{Results, clock_after}
 use Rattle.tb_layout.specs.declared.transfer.Transfer.{Transfer}
 use Rattle.tb_layout.specs.declared.transfer_code.TransferCode.{TransferCode}
 use Rattle.tb_layout.specs.declared.account.Account.{Account}
@@ -31,11 +30,6 @@ fault_as become (Some fault) = Some (record { index = fault.index; event = becom
 -- the state once as many events had these results
 abbrev pub after_results : State → Results → State
 after_results state made = record { clock = clock_after state.clock (length made.results); facts = made.facts }
-
--- the results of an event that is a chain by itself and isn't linked
-abbrev pub event_results : {Event : Type 0} → Operation Event → ℕ → Facts → Event → Results
-event_results operation clock facts event =
-    closed_results operation clock facts (event ∷ []) (first_fault operation 0 clock facts (event ∷ []))
 
 -- the results of some events, and then of others on what they left
 abbrev pub then_results : Results → Results → Results

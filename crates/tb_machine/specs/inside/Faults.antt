@@ -57,3 +57,11 @@ module _ {Event : Type 0} (operation : Operation Event) where
         results = results_of_failed (length front) fault ++ linked_event_chain_open ∷ [];
         facts = facts_after_failure facts fault;
       }
+
+  -- the results of a chain whose last event isn't linked
+  abbrev pub closed_chain_results : ℕ → Facts → List Event → Results
+  closed_chain_results clock facts chain = closed_results clock facts chain (first_fault 0 clock facts chain)
+
+  -- the results of a chain whose last event is linked, from the events before that
+  abbrev pub open_chain_results : ℕ → Facts → List Event → Results
+  open_chain_results clock facts front = open_results facts front (first_fault 0 clock facts front)

@@ -8,11 +8,8 @@ loop-start-preserved g c =
     record {
       within = search rules;
       clock = search rules;
-      extends = search rules;
-      len = search rules;
-      capacity = search rules;
+      continues = search rules;
       left = rw c.next-start.ensures.index
           (left_more_chunks g.E.CreateEvent.event_of _ c.next-start.ensures.clock c.loop-start-test.true
-          c.in_ok-count.ensures.count c.in_ok-count.ensures.facts c.in_ok-count.ensures.failures
-          c.loop-start.invariant.left);
+          c.in_ok-count.ensures.count c.in_ok-count.ensures.committed c.loop-start.invariant.left);
     }

@@ -2,8 +2,5 @@
 use Rattle.std.proofs.Common.{rules}
 use Rattle.tb_machine.proofs.commit.commit_event.Goals as goal
 
-pub returns-in_ok-record_failed_checked-clause-failures : goal.returns-in_ok-record_failed_checked-clause-failures
-returns-in_ok-record_failed_checked-clause-failures g c = search rules
-
-pub returns-in_ok-record_failed_checked-clause-facts : goal.returns-in_ok-record_failed_checked-clause-facts
-returns-in_ok-record_failed_checked-clause-facts g c = search rules
+pub returns-in_ok-record_failed_checked-clause-committed : goal.returns-in_ok-record_failed_checked-clause-committed
+returns-in_ok-record_failed_checked-clause-committed g c = search rules

@@ -6,8 +6,5 @@ use Rattle.tb_machine.proofs.commit.commit_first.Goals as goal
 pub returns-then-not-is_chunk_linked-clause-count : goal.returns-then-not-is_chunk_linked-clause-count
 returns-then-not-is_chunk_linked-clause-count c = grind (arith, common_steps)
 
-pub returns-then-not-is_chunk_linked-clause-facts : goal.returns-then-not-is_chunk_linked-clause-facts
-returns-then-not-is_chunk_linked-clause-facts c = search rules
-
-pub returns-then-not-is_chunk_linked-clause-failures : goal.returns-then-not-is_chunk_linked-clause-failures
-returns-then-not-is_chunk_linked-clause-failures c = search rules
+pub returns-then-not-is_chunk_linked-clause-committed : goal.returns-then-not-is_chunk_linked-clause-committed
+returns-then-not-is_chunk_linked-clause-committed c = search rules

@@ -9,24 +9,18 @@ report_failed-requires-clause-below g c =
     rw (c.with_event-fault.ensures, c.in_ok-try_store_all.ensures.fault)
     (fault-below g.E.CreateEvent.operation g.E.CreateEvent.event_of c.args.start.clock c.args.tables.now.now c.args.front.now)
 
-pub returns-clause-failures : goal.returns-clause-failures
-returns-clause-failures g c =
+pub returns-clause-committed : goal.returns-clause-committed
+returns-clause-committed g c =
     let below = fault-below g.E.CreateEvent.operation g.E.CreateEvent.event_of c.args.start.clock
     c.args.tables.now.now c.args.front.now in
-    rw (
-      length-map c.args.front.now g.E.CreateEvent.event_of,
-      failures_from-open c.args.start.index _ _ below,
-      c.push_reserved.ensures.items,
-      c.report_failed.ensures.items,
-      c.with_event-fault.ensures,
-      c.in_ok-try_store_all.ensures.fault,
-    ) (simp append_assoc)
-
-pub returns-in_err-undo_chain-clause-extends : goal.returns-in_err-undo_chain-clause-extends
-returns-in_err-undo_chain-clause-extends g c = grind (arith, common_steps)
-
-pub returns-clause-extends : goal.returns-clause-extends
-returns-clause-extends g c = grind (arith, common_steps)
-
-pub returns-clause-facts : goal.returns-clause-facts
-returns-clause-facts g c = grind (arith, common_steps)
+    record {
+      facts = grind (arith, common_steps);
+      failures = rw (
+        length-map c.args.front.now g.E.CreateEvent.event_of,
+        failures_from-open c.args.start.index _ _ below,
+        c.push_reserved.ensures.items,
+        c.report_failed.ensures.items,
+        c.with_event-fault.ensures,
+        c.in_ok-try_store_all.ensures.fault,
+      ) (simp append_assoc);
+    }
