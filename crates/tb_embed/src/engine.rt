@@ -29,7 +29,9 @@ use std::alloc::Global;
 use std::marker::Model;
 use tb_batch::Batch;
 use tb_core::{BareLedger, Front, Parcel, Seed};
-use tb_layout::{Account, CREATE_ACCOUNTS, EVENT_SIZE, MOMENT_MAX, SUBMITTERS_LENGTH, Transfer};
+use tb_layout::{
+    Account, CREATE_ACCOUNTS, CREATE_TRANSFERS, EVENT_SIZE, MOMENT_MAX, SUBMITTERS_LENGTH, Transfer,
+};
 use tb_tables::{Counts, Status};
 use tb_work::{Item, Job, Moment, Packet, Refusal, Reply, Ticket, count_admitted};
 
@@ -47,16 +49,14 @@ impl Due {
         let most = if is_holding { limit as usize } else { 0 };
         let (accounts, transfers) = (self.accounts.min(most), self.transfers.min(most));
         let events = packet.bytes.as_slice().len() / EVENT_SIZE;
-        if packet.operation == CREATE_ACCOUNTS {
-            Due {
-                accounts: accounts.saturating_add(events),
-                transfers,
-            }
-        } else {
-            Due {
-                accounts,
-                transfers: transfers.saturating_add(events),
-            }
+        let (more_accounts, more_transfers) = match packet.operation {
+            CREATE_ACCOUNTS => (events, 0),
+            CREATE_TRANSFERS => (0, events),
+            _ => (0, 0),
+        };
+        Due {
+            accounts: accounts.saturating_add(more_accounts),
+            transfers: transfers.saturating_add(more_transfers),
         }
     }
 }
