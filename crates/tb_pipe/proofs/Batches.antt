@@ -1,6 +1,6 @@
 -- One step of the batcher.
 use Rattle.std.proofs.Common.{refl, sym, ap, subst, ◌∙◌, arith, ◌≡◌, ◌<◌, ⊎_elim, ℕ, Bool, false, true≢false, List, [], ◌∷◌, ◌++◌, length, map, append-nil}
-use Rattle.tb_pipe.proofs.Words.{◌||◌, map-append, flat_map-append, Numbered, items_in, Item, Ticket, is_taken, IsGroup, Parcel, FrontState, Taken, take_result, with_group, group_as_batch, with_end, all_ended, take_step, all_decisions_in, decisions_in, held_by, KnowsEnds, HaveAllEnded, AreJoinedParcels, IsJoinedParcel, Decision, Admitted, AreDecisions, IntakeState, with_empty, with_taken, is_last, has_last, WasEmptyAfter, AreSealedLate, MaySeal, IsBatched, AllBatched}
+use Rattle.tb_pipe.proofs.Words.{◌||◌, map-append, flat_map-append, Numbered, items_in, Item, Ticket, is_taken, IsGroup, Parcel, FrontState, Taken, with_group, group_as_batch, with_end, all_ended, take_step, all_decisions_in, decisions_in, KnowsEnds, HaveAllEnded, AreJoinedParcels, IsJoinedParcel, Admitted, AreDecisions, IntakeState, with_empty, with_taken, is_last, has_last, WasEmptyAfter, AreSealedLate, MaySeal, IsBatched, AllBatched}
 use Rattle.tb_work.specs.declared.item.Item.TheVariants as item
 use Rattle.tb_core.specs.declared.parcel.Parcel.TheVariants as parcel
 use Rattle.tb_core.specs.clauses.Taking.{HasTakenOne}
@@ -32,112 +32,100 @@ no_last refused front sender item.Close = none_sealed front.held
 
 -- ---- one step
 
-pub ticket_more : (intake : IntakeState) (ticket : Ticket) (front next : FrontState) (given parcels : List Parcel)
-    → (refused : Bool) × HasTakenOne refused front ticket (take_result next parcels) → all_ended front ≡ false
-    → IsBatched intake front given → IsBatched (with_taken intake ticket) next (given ++ parcels)
-ticket_more intake ticket front next given parcels step unended is = record {
-  under = took.same.0 ∙ is.under;
-  among = took.same.1 ∙ is.among;
-  passes = subst (λ items. AreDecisions items next.closed next.stopped
-      (all_decisions_in (given ++ parcels) ++ held_by next))
-      (sym (map-append (λ (ticket : Ticket). ticket.item) intake.taken (ticket ∷ [])))
-      (subst (λ ps. AreDecisions (items_in intake.taken ++ ticket.item ∷ []) next.closed next.stopped (ps ++ held_by next))
-      (sym (flat_map-append decisions_in given parcels))
-      (took.passes (items_in intake.taken) (all_decisions_in given) is.passes));
-  joined = all_more (IsJoinedParcel intake.limit) given parcels is.joined
-      (subst (λ n. AreJoinedParcels n parcels) is.under took.lawful);
-  late = stays.0;
-  empty = stays.1;
-  unended = none_more is_last given parcels is.unended
-      (ap (λ (taken : Taken). has_last taken.parcels) took.took ∙ no_last step.0 front ticket.sender ticket.item);
-  knows = took.ends intake.taken is.knows;
-}
-  where
-    took : HasTakenOne step.0 front ticket (take_result next parcels)
-    took = step.1
-
-    Empty : List Parcel → Type 0
-    Empty = WasEmptyAfter (with_taken intake ticket)
-
-    stays : StaysLate intake.limit Empty given (take_result next parcels)
-    stays = subst (StaysLate intake.limit Empty given) (sym took.took)
-        (step_late intake.limit Empty step.0 front ticket.sender ticket.item given is.under unended
-        (late_with intake.limit (WasEmptyAfter intake) Empty (given ++ group_as_batch front.held)
-        (empty_later intake ticket) is.late)
-        (λ begins before group parts. empty_later intake ticket given (is.empty begins before group parts)))
-
 knows_held : (queue : List Ticket) (front : FrontState) → KnowsEnds queue front → KnowsEnds queue (with_group front [])
 knows_held queue front knows = knows
-
--- the queue was seen empty again
-pub empty_more : (intake : IntakeState) (front : FrontState) (given : List Parcel) → IsBatched intake front given
-    → IsBatched (with_empty intake) front given
-empty_more intake front given is = record {
-  under = is.under;
-  among = is.among;
-  passes = is.passes;
-  joined = is.joined;
-  late = late_with intake.limit (WasEmptyAfter intake) (WasEmptyAfter (with_empty intake))
-      (given ++ group_as_batch front.held) (empty_again intake) is.late;
-  empty = λ begins before group parts. empty_again intake given (is.empty begins before group parts);
-  unended = is.unended;
-  knows = is.knows;
-}
 
 as_batch : (held : List Numbered) → 0 < length held → group_as_batch held ≡ parcel.Batch held ∷ []
 as_batch [] some = absurd (omega (arith, some))
 as_batch (job ∷ jobs) some = refl
 
-pub group_more : (intake : IntakeState) (front next : FrontState) (given : List Parcel) (batch : List Numbered)
-    → next ≡ with_group front [] → batch ≡ front.held → 0 < length front.held → IsGroup front.limit front.held →
-    MaySeal intake front → IsBatched intake front given → IsBatched intake next (given ++ parcel.Batch batch ∷ [])
-group_more intake front next given batch left same some lawful may is =
-    subst (λ n. IsBatched intake n (given ++ parcel.Batch batch ∷ [])) (sym left)
-    (record {
-      under = is.under;
-      among = is.among;
-      passes = passes;
-      joined = all_more (IsJoinedParcel intake.limit) given (parcel.Batch batch ∷ []) is.joined
-          (subst (IsGroup intake.limit) (sym same) (subst (λ n. IsGroup n front.held) is.under lawful), tt);
-      late = subst (AreSealedLate intake) (sym (append-nil (given ++ parcel.Batch batch ∷ []) ∙ batches)) is.late;
-      empty = λ begins before group parts. ⊎_elim
-          (λ seen. empty_now intake front.closed front.stopped (given ++ parcel.Batch batch ∷ []) seen
-          (subst (AreDecisions (items_in intake.taken) front.closed front.stopped)
-          (append-nil (all_decisions_in (given ++ parcel.Batch batch ∷ []))) passes) begins.2)
-          (λ ended. absurd (true≢false (sym ended ∙ begins.3))) may;
-      unended = none_more is_last given (parcel.Batch batch ∷ []) is.unended refl;
-      knows = knows_held intake.taken front is.knows;
-    })
-  where
-    batches : given ++ parcel.Batch batch ∷ [] ≡ given ++ group_as_batch front.held
-    batches = ap (λ jobs. given ++ parcel.Batch jobs ∷ []) same
-        ∙ ap (λ ps. given ++ ps) (sym (as_batch front.held some))
+module _ {intake : IntakeState} {front : FrontState} {given : List Parcel} (is : IsBatched intake front given) where
+  pub ticket_more : (ticket : Ticket) (taken : Taken) → (refused : Bool) × HasTakenOne refused front ticket taken
+      → all_ended front ≡ false → IsBatched (with_taken intake ticket) taken.front (given ++ taken.parcels)
+  ticket_more ticket taken step unended = record {
+    under = took.same.0 ∙ is.under;
+    among = took.same.1 ∙ is.among;
+    passes = rw (
+      map-append (λ (ticket : Ticket). ticket.item) intake.taken (ticket ∷ []),
+      flat_map-append decisions_in given taken.parcels,
+    ) (took.passes (items_in intake.taken) (all_decisions_in given) is.passes);
+    joined = all_more (IsJoinedParcel intake.limit) given taken.parcels is.joined
+        (subst (λ limit. AreJoinedParcels limit taken.parcels) is.under took.lawful);
+    late = stays.0;
+    empty = stays.1;
+    unended = none_more is_last given taken.parcels is.unended
+        (ap (λ (taken : Taken). has_last taken.parcels) took.took ∙ no_last step.0 front ticket.sender ticket.item);
+    knows = took.ends intake.taken is.knows;
+  }
+    where
+      took : HasTakenOne step.0 front ticket taken
+      took = step.1
 
-    passes : AreDecisions (items_in intake.taken) front.closed front.stopped
-        (all_decisions_in (given ++ parcel.Batch batch ∷ []) ++ [])
+      Empty : List Parcel → Type 0
+      Empty = WasEmptyAfter (with_taken intake ticket)
+
+      stays : StaysLate intake.limit Empty given taken
+      stays = subst (StaysLate intake.limit Empty given) (sym took.took)
+          (step_late intake.limit Empty given step.0 front ticket.sender ticket.item is.under unended
+          (late_with intake.limit (WasEmptyAfter intake) Empty given front (empty_later intake ticket) (is.late, is.empty)))
+
+  -- the queue was seen empty again
+  pub empty_more : IsBatched (with_empty intake) front given
+  empty_more =
+      let late = late_with intake.limit (WasEmptyAfter intake) (WasEmptyAfter (with_empty intake)) given front
+      (empty_again intake) (is.late, is.empty) in
+      record {
+        under = is.under;
+        among = is.among;
+        passes = is.passes;
+        joined = is.joined;
+        late = late.0;
+        empty = late.1;
+        unended = is.unended;
+        knows = is.knows;
+      }
+
+  pub group_more : 0 < length front.held → IsGroup front.limit front.held → MaySeal intake front
+      → IsBatched intake (with_group front []) (given ++ parcel.Batch front.held ∷ [])
+  group_more some lawful may = record {
+    under = is.under;
+    among = is.among;
+    passes = passes;
+    joined = all_more (IsJoinedParcel intake.limit) given (parcel.Batch front.held ∷ []) is.joined
+        (subst (λ limit. IsGroup limit front.held) is.under lawful, tt);
+    late = rw (append-nil all, ← as_batch front.held some) is.late;
+    empty = λ begins before group parts. ⊎_elim
+        (λ seen. empty_now intake front.closed front.stopped all seen
+        (subst (AreDecisions (items_in intake.taken) front.closed front.stopped) (append-nil (all_decisions_in all)) passes)
+        begins.2) (λ ended. absurd (true≢false (sym ended ∙ begins.3))) may;
+    unended = none_more is_last given (parcel.Batch front.held ∷ []) is.unended refl;
+    knows = knows_held intake.taken front is.knows;
+  }
+    where
+      all : List Parcel
+      all = given ++ parcel.Batch front.held ∷ []
+
+      passes : AreDecisions (items_in intake.taken) front.closed front.stopped (all_decisions_in all ++ [])
+      passes = rw (
+        append-nil (all_decisions_in all),
+        flat_map-append decisions_in given (parcel.Batch front.held ∷ []),
+        append-nil (map Admitted front.held),
+      ) is.passes
+
+  pub all_batched : {all : List Parcel} → front.held ≡ [] → HaveAllEnded intake.submitters intake.taken
+      → all ≡ given ++ parcel.Last ∷ [] → AllBatched intake all
+  all_batched none ended parts = record {
+    closed = front.closed;
+    stopped = front.stopped;
+    before = given;
+    parts = parts;
     passes = subst (AreDecisions (items_in intake.taken) front.closed front.stopped)
-        (sym (append-nil (all_decisions_in (given ++ parcel.Batch batch ∷ []))
-        ∙ flat_map-append decisions_in given (parcel.Batch batch ∷ [])
-        ∙ ap (λ ps. all_decisions_in given ++ ps) (append-nil (map Admitted batch))
-        ∙ ap (λ jobs. all_decisions_in given ++ map Admitted jobs) same)) is.passes
-
--- ---- the end of it
-
-pub all_batched : (intake : IntakeState) (front : FrontState) (given all : List Parcel)
-    → front.held ≡ [] → HaveAllEnded intake.submitters intake.taken → all ≡ given ++ parcel.Last ∷ []
-    → IsBatched intake front given → AllBatched intake all
-all_batched intake front given all none ended parts is = record {
-  closed = front.closed;
-  stopped = front.stopped;
-  before = given;
-  parts = parts;
-  passes = subst (AreDecisions (items_in intake.taken) front.closed front.stopped)
-      (ap (λ jobs. all_decisions_in given ++ map Admitted jobs) none ∙ append-nil (all_decisions_in given)) is.passes;
-  joined = is.joined;
-  late = subst (AreSealedLate intake) (ap (λ jobs. given ++ group_as_batch jobs) none ∙ append-nil given) is.late;
-  unended = is.unended;
-  ended = ended;
-}
+        (ap (λ jobs. all_decisions_in given ++ map Admitted jobs) none ∙ append-nil (all_decisions_in given)) is.passes;
+    joined = is.joined;
+    late = subst (AreSealedLate intake) (ap (λ jobs. given ++ group_as_batch jobs) none ∙ append-nil given) is.late;
+    unended = is.unended;
+    ended = ended;
+  }
 
 -- ---- the intake, but for what it took and where it saw its queue empty
 

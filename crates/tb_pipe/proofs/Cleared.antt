@@ -16,23 +16,22 @@ let_more lets_through number [] handed all one = (one, tt)
 let_more lets_through number (x ∷ xs) handed all one =
     (all.0, let_more lets_through (next_number number x) xs handed all.1 one)
 
-pub none_cleared : (lets_through : ℕ → Type 0) (first : List Parcel) → AreCleared lets_through first first 0
-none_cleared lets_through first = record {
+pub none_cleared : {lets_through : ℕ → Type 0} {first : List Parcel} → AreCleared lets_through first first 0
+none_cleared {first = first} = record {
   more = [];
   parts = sym (append-nil first);
   through = tt;
   counted = refl;
 }
 
-pub one_cleared : (lets_through : ℕ → Type 0) (first all next : List Parcel) (number later : ℕ) (handed : Parcel)
+pub one_cleared : {lets_through : ℕ → Type 0} {first all next : List Parcel} {number later : ℕ} (handed : Parcel)
     → AreCleared lets_through first all number → next ≡ all ++ handed ∷ []
     → (is_batch handed ≡ true → lets_through number) → later ≡ next_number number handed
     → AreCleared lets_through first next later
-one_cleared lets_through first all next number later handed has next_is one later_is = record {
+one_cleared {lets_through = lets_through} handed has next_is one later_is = record {
   more = has.more ++ handed ∷ [];
-  parts = next_is ∙ ap (λ xs. xs ++ handed ∷ []) has.parts ∙ append_assoc first has.more (handed ∷ []);
-  through = let_more lets_through 0 has.more handed has.through
-      (λ is. subst lets_through has.counted (one is));
+  parts = next_is ∙ ap (λ xs. xs ++ handed ∷ []) has.parts ∙ append_assoc _ has.more (handed ∷ []);
+  through = let_more lets_through 0 has.more handed has.through (λ is. subst lets_through has.counted (one is));
   counted = later_is ∙ ap (λ n. next_number n handed) has.counted ∙ sym (number_more 0 has.more handed);
 }
 

@@ -43,60 +43,60 @@ last_of : (limit : ℕ) (sent : List Parcel) (handed : Parcel) → AreJoinedParc
 last_of limit [] handed all = all.0
 last_of limit (first ∷ sent) handed all = last_of limit sent handed all.1
 
-pub parcel_more : (start : LedgerState) (sent : List Parcel) (handed : Parcel) (last : Bool)
-    (was is : LedgerState → Type 0) (before : List Outcomes) (given : Outcomes) → last ≡ is_last handed
-    → Applying was handed given is → IsCommitted start sent was before →
-    CommittedTo last start (sent ++ handed ∷ []) is (before ++ given_on given)
-parcel_more start sent handed last was is before given last_is applying has = by last last_is
-  where
-    step : (next : LedgerState) × is next × IsApplied has.ledger handed given next
-    step = applying has.ledger has.now
+module _ {start : LedgerState} {sent : List Parcel} {was : LedgerState → Type 0} {before : List Outcomes}
+    (has : IsCommitted start sent was before) where
+  pub parcel_more : (handed : Parcel) (given : Outcomes) (is : LedgerState → Type 0) (last : Bool) → last ≡ is_last handed
+      → Applying was handed given is → CommittedTo last start (sent ++ handed ∷ []) is (before ++ given_on given)
+  parcel_more handed given is last last_is applying = by last last_is
+    where
+      step : (next : LedgerState) × is next × IsApplied has.ledger handed given next
+      step = applying has.ledger has.now
 
-    next : LedgerState
-    next = step.0
+      next : LedgerState
+      next = step.0
 
-    applied : IsApplied has.ledger handed given next
-    applied = step.2
+      applied : IsApplied has.ledger handed given next
+      applied = step.2
 
-    final : is_final given ≡ is_last handed
-    final = final_is applied.refused has.ledger next handed given applied.step
+      final : is_final given ≡ is_last handed
+      final = final_is applied.refused has.ledger next handed given applied.step
 
-    spelling : all_decisions_in (sent ++ handed ∷ []) ≡ all_decisions_in sent ++ decisions_in handed
-    spelling = flat_map-append decisions_in sent (handed ∷ [])
-        ∙ ap (λ ps. all_decisions_in sent ++ ps) (append-nil (decisions_in handed))
+      spelling : all_decisions_in (sent ++ handed ∷ []) ≡ all_decisions_in sent ++ decisions_in handed
+      spelling = flat_map-append decisions_in sent (handed ∷ [])
+          ∙ ap (λ ps. all_decisions_in sent ++ ps) (append-nil (decisions_in handed))
 
-    commits : Commits start (all_decisions_in (sent ++ handed ∷ [])) next (answers_in before ++ replies_in given)
-    commits = subst (λ ps. Commits start ps next (answers_in before ++ replies_in given)) (sym spelling)
-        (applied.commits start (all_decisions_in sent) (answers_in before) has.commits)
+      commits : Commits start (all_decisions_in (sent ++ handed ∷ [])) next (answers_in before ++ replies_in given)
+      commits = subst (λ ps. Commits start ps next (answers_in before ++ replies_in given)) (sym spelling)
+          (applied.commits start (all_decisions_in sent) (answers_in before) has.commits)
 
-    joined : (limit : ℕ) → AreJoinedParcels limit (sent ++ handed ∷ []) → AreJoined limit (groups_since start next)
-    joined limit all =
-        applied.joined start limit has.commits.continues (last_of limit sent handed all)
-        (has.joined limit (all_first (IsJoinedParcel limit) sent (handed ∷ []) all))
+      joined : (limit : ℕ) → AreJoinedParcels limit (sent ++ handed ∷ []) → AreJoined limit (groups_since start next)
+      joined limit all =
+          applied.joined start limit has.commits.continues (last_of limit sent handed all)
+          (has.joined limit (all_first (IsJoinedParcel limit) sent (handed ∷ []) all))
 
-    by : (last : Bool) → last ≡ is_last handed → CommittedTo last start (sent ++ handed ∷ []) is
-        (before ++ given_on given)
-    by true ends =
-        let end : given ≡ outcomes.Last = is_the_last given (final ∙ sym ends) in
-        record {
-          ledger = next;
-          now = step.1;
-          before = before;
-          parts = ap (λ (o : Outcomes). before ++ given_on o) end;
-          commits = subst (λ rs. Commits start (all_decisions_in (sent ++ handed ∷ [])) next rs)
-              (ap (λ (o : Outcomes). answers_in before ++ replies_in o) end
-              ∙ append-nil (answers_in before)) commits;
-          joined = joined;
-          ended = any_more is_last sent handed (sym ends);
-          unfinished = has.unfinished;
-        }
-    by false ends = record {
-      ledger = next;
-      now = step.1;
-      commits = subst (λ rs. Commits start (all_decisions_in (sent ++ handed ∷ [])) next rs)
-          (ap (λ rs. answers_in before ++ rs) (sym (answers-given_on given))
-          ∙ sym (flat_map-append replies_in before (given_on given))) commits;
-      joined = joined;
-      unended = none_more is_last sent (handed ∷ []) has.unended (ap (λ found. found || false) (sym ends));
-      unfinished = none_more is_final before (given_on given) has.unfinished (none_final given (final ∙ sym ends));
-    }
+      by : (last : Bool) → last ≡ is_last handed → CommittedTo last start (sent ++ handed ∷ []) is
+          (before ++ given_on given)
+      by true ends =
+          let end : given ≡ outcomes.Last = is_the_last given (final ∙ sym ends) in
+          record {
+            ledger = next;
+            now = step.1;
+            before = before;
+            parts = ap (λ (o : Outcomes). before ++ given_on o) end;
+            commits = subst (λ rs. Commits start (all_decisions_in (sent ++ handed ∷ [])) next rs)
+                (ap (λ (o : Outcomes). answers_in before ++ replies_in o) end
+                ∙ append-nil (answers_in before)) commits;
+            joined = joined;
+            ended = any_more is_last sent handed (sym ends);
+            unfinished = has.unfinished;
+          }
+      by false ends = record {
+        ledger = next;
+        now = step.1;
+        commits = subst (λ rs. Commits start (all_decisions_in (sent ++ handed ∷ [])) next rs)
+            (ap (λ rs. answers_in before ++ rs) (sym (answers-given_on given))
+            ∙ sym (flat_map-append replies_in before (given_on given))) commits;
+        joined = joined;
+        unended = none_more is_last sent (handed ∷ []) has.unended (ap (λ found. found || false) (sym ends));
+        unfinished = none_more is_final before (given_on given) has.unfinished (none_final given (final ∙ sym ends));
+      }

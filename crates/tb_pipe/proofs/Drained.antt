@@ -2,7 +2,7 @@
 use Rattle.std.proofs.Common.{refl, sym, ap, subst, ◌∙◌, arith, ◌≡◌, ◌<◌, ◌≤◌, ℕ, zero, suc, ◌/◌, Bool, true, false, true≢false, List, [], ◌∷◌, ◌++◌, append-nil, length, map, drop}
 use Rattle.tb_pipe.proofs.Words.{◌==◌, IsOk, Some, None, if◌then◌else◌, length-map, flat_map-append, events_in, ReplyValue, ahead, items_in, Item, Ticket, Parcel, Outcomes, all_decisions_in, decisions_in, AreJoined, AreJoinedParcels, IsJoinedParcel, IsGrouping, IsInputWithin, AreInputsWithin, IsPrefix, LedgerState, groups_since, inputs_since, Commits, Ran, replies_in, Outlet, IntakeState, is_last, is_final, has_final, answers_in, AllBatched, AllCommitted}
 use Rattle.std.specs.Simd.{first_chunks}
-use Rattle.tb_layout.specs.claim.Events.{Input, Accounts, Transfers, Ids, accounts_of, transfers_of, ids_of, chunks}
+use Rattle.tb_layout.specs.claim.Events.{Accounts, Transfers, Ids, accounts_of, transfers_of, ids_of, chunks}
 use Rattle.tb_layout.specs.claim.Account.{account_of}
 use Rattle.tb_layout.specs.claim.Bytes.{little_endian}
 use Rattle.tb_layout.specs.claim.Transfer.{transfer_of}
@@ -23,27 +23,20 @@ pub record HasRun (start : LedgerState) (limit : ℕ) (queue : List Ticket) (led
   pub joined : AreJoined limit (groups_since start ledger)
 
 -- where each stage took all that the one before it gave, and gave all that it made of it
-pub drained : (start : LedgerState) (intake : IntakeState)
-    (given_parcels taken_parcels left_parcels : List Parcel) (is : LedgerState → Type 0)
-    (given_outcomes taken_outcomes left_outcomes : List Outcomes) →
-    AllBatched intake given_parcels → (committed : AllCommitted start taken_parcels is given_outcomes)
-    → taken_parcels ++ left_parcels ≡ given_parcels → taken_outcomes ++ left_outcomes ≡ given_outcomes
-    → has_final taken_outcomes ≡ true →
-    HasRun start intake.limit intake.taken committed.ledger (answers_in taken_outcomes)
-drained start intake given_parcels taken_parcels left_parcels is given_outcomes taken_outcomes
-    left_outcomes batched committed parcels_are outcomes_are final =
-    let all_parcels : taken_parcels ≡ batched.before
-    ++ parcel.Last ∷ [] =
-    all_taken is_last batched.before parcel.Last taken_parcels left_parcels batched.unended
-    (parcels_are ∙ batched.parts) committed.ended in
-    let spelling : all_decisions_in taken_parcels ≡ all_decisions_in batched.before = ap all_decisions_in all_parcels
+pub drained : {start : LedgerState} {intake : IntakeState} {taken given : List Parcel} {is : LedgerState → Type 0}
+    {made : List Outcomes} (answered : List Outcomes) → AllBatched intake given
+    → (committed : AllCommitted start taken is made) → IsPrefix taken given → IsPrefix answered made
+    → has_final answered ≡ true → HasRun start intake.limit intake.taken committed.ledger (answers_in answered)
+drained {start = start} {intake = intake} {taken = taken} answered batched committed parcels replies final =
+    let all_parcels : taken ≡ batched.before ++ parcel.Last ∷ [] =
+    all_taken is_last batched.before parcel.Last taken parcels.0 batched.unended (parcels.1 ∙ batched.parts) committed.ended in
+    let spelling : all_decisions_in taken ≡ all_decisions_in batched.before = ap all_decisions_in all_parcels
     ∙ flat_map-append decisions_in batched.before (parcel.Last ∷ [])
     ∙ append-nil (all_decisions_in batched.before) in
-    let all_outcomes : taken_outcomes ≡ committed.before
-    ++ outcomes.Last ∷ [] =
-    all_taken is_final committed.before outcomes.Last taken_outcomes left_outcomes committed.unfinished
-    (outcomes_are ∙ committed.parts) final in
-    let answers : answers_in taken_outcomes ≡ answers_in committed.before = ap answers_in all_outcomes
+    let all_outcomes : answered ≡ committed.before ++ outcomes.Last ∷ [] =
+    all_taken is_final committed.before outcomes.Last answered replies.0 committed.unfinished
+    (replies.1 ∙ committed.parts) final in
+    let answers : answers_in answered ≡ answers_in committed.before = ap answers_in all_outcomes
     ∙ flat_map-append replies_in committed.before (outcomes.Last ∷ [])
     ∙ append-nil (answers_in committed.before) in
     record {
@@ -103,14 +96,14 @@ ahead_within limit [] all = tt
 ahead_within limit (ticket ∷ queue) all =
     one_within limit ticket.item (items_in queue) all.0 (ahead_within limit queue all.1)
 
-pub grouped : (limit : ℕ) (queue : List Ticket) (start ledger : LedgerState) (remainder : List Input)
-    → IsPrefix start.groups ledger.groups → AreJoined limit (groups_since start ledger) → AreWithin limit queue
-    → inputs_since start ledger ++ remainder ≡ ahead (items_in queue) → IsGrouping limit (groups_since start ledger)
-grouped limit queue start ledger remainder continues joined within committed = record {
-  joined = joined;
-  within = subst (AreInputsWithin limit) (sym (groups-inputs start ledger continues))
-      (all_first (IsInputWithin limit) (inputs_since start ledger) remainder
-      (subst (AreInputsWithin limit) (sym committed) (ahead_within limit queue within)));
+pub grouped : {start ledger : LedgerState} {limit : ℕ} {queue : List Ticket} {answers : List ReplyValue}
+    → HasRun start limit queue ledger answers → AreWithin limit queue
+    → IsPrefix (inputs_since start ledger) (ahead (items_in queue)) → IsGrouping limit (groups_since start ledger)
+grouped {start = start} {ledger = ledger} {limit = limit} {queue = queue} run within committed = record {
+  joined = run.joined;
+  within = subst (AreInputsWithin limit) (sym (groups-inputs start ledger run.ran.commits.continues))
+      (all_first (IsInputWithin limit) (inputs_since start ledger) committed.0
+      (subst (AreInputsWithin limit) (sym committed.1) (ahead_within limit queue within)));
 }
 
 -- ---- a reply ring of each number below theirs

@@ -63,7 +63,7 @@ module _ (limit : ℕ) (Empty : List Parcel → Type 0) where
 
   late_more : (xs : List Parcel) (x : Parcel) → Late xs
       → ((next : List Numbered) → x ≡ parcel.Batch next → MayFollow xs next) → Late (xs ++ x ∷ [])
-  late_more xs x late may before after group next is =
+  late_more xs x late may = λ before after group next is.
       ⊎_elim
       (λ (last : (x ≡ parcel.Batch next) × (xs ≡ before ++ parcel.Batch group ∷ [])).
       ⊎_elim inl (λ empty. inr (subst Empty last.1 empty)) (may next last.0 before group last.1))
@@ -75,11 +75,11 @@ module _ (limit : ℕ) (Empty : List Parcel → Type 0) where
   late_other xs x other late =
       late_more xs x late (λ next is. absurd (true≢false (sym (ap is_batch is) ∙ other)))
 
-  -- nothing hinders a batch after a parcel that is none
-  follows_other : (xs : List Parcel) (x : Parcel) (next : List Numbered) → is_batch x ≡ false
-      → MayFollow (xs ++ x ∷ []) next
-  follows_other xs x next other before group is =
-      absurd (true≢false (sym (ap is_batch (same_last xs before x (parcel.Batch group) is).1) ∙ other))
+  -- a parcel that is none is no batch at the end
+  other_last : (xs : List Parcel) (x : Parcel) → is_batch x ≡ false → (before : List Parcel) (group : List Numbered)
+      → xs ++ x ∷ [] ≡ before ++ parcel.Batch group ∷ [] → ⊥
+  other_last xs x other before group is =
+      true≢false (sym (ap is_batch (same_last xs before x (parcel.Batch group) is).1) ∙ other)
 
   -- the group held
   late_group : (xs : List Parcel) (held : List Numbered) → Late xs → MayFollow xs held
@@ -104,113 +104,104 @@ module _ (limit : ℕ) (Empty : List Parcel → Type 0) where
       BeginsNext front → (before : List Parcel) (group : List Numbered) → given ≡ before ++ parcel.Batch group ∷ []
       → Empty given
 
-  abbrev pub StaysLate : List Parcel → Taken → Type 0
-  StaysLate given step =
-      Late ((given ++ step.parcels) ++ group_as_batch step.front.held) × EndsEmpty step.front (given ++ step.parcels)
+  -- the group held would follow these parcels lawfully, and so would the packet that begins the next one
+  abbrev pub IsLate : List Parcel → FrontState → Type 0
+  IsLate given front = Late (given ++ group_as_batch front.held) × EndsEmpty front given
 
-  -- nothing is given on, and no less is held
-  none_given : (given : List Parcel) (front next : FrontState) → next.held ≡ front.held
-      → Late (given ++ group_as_batch front.held) → EndsEmpty next given → StaysLate given (take_result next [])
-  none_given given front next same late empty =
-      subst (λ ps. Late (ps ++ group_as_batch next.held) × EndsEmpty next ps) (sym (append-nil given))
-      (subst (λ jobs. Late (given ++ group_as_batch jobs)) (sym same) late, empty)
+  module _ (given : List Parcel) where
+    abbrev pub StaysLate : Taken → Type 0
+    StaysLate step = IsLate (given ++ step.parcels) step.front
 
-  -- the group is given on, and then a parcel that is no batch
-  group_and_other : (given : List Parcel) (held : List Numbered) (x : Parcel) (next : FrontState) → is_batch x ≡ false
-      → next.held ≡ [] → Late (given ++ group_as_batch held)
-      → StaysLate given (take_result next (group_as_batch held ++ x ∷ []))
-  group_and_other given held x next other none late =
-      let parts : given ++ (group_as_batch held ++ x ∷ []) ≡ (given ++ group_as_batch held) ++ x ∷ []
-      = sym (append_assoc given (group_as_batch held) (x ∷ [])) in
-      subst (λ ps. Late (ps ++ group_as_batch next.held) × EndsEmpty next ps) (sym parts) (
-        subst (λ jobs. Late (((given ++ group_as_batch held) ++ x ∷ []) ++ group_as_batch jobs)) (sym none)
-            (subst Late (sym (append-nil ((given ++ group_as_batch held) ++ x ∷ [])))
-            (late_other (given ++ group_as_batch held) x other late)),
-        (λ begins before group is. absurd (true≢false (sym (ap is_batch
-            (same_last (given ++ group_as_batch held) before x (parcel.Batch group) is).1) ∙ other))),
-      )
+    -- nothing is given on, and no less is held
+    none_given : (front next : FrontState) → next.held ≡ front.held → Late (given ++ group_as_batch front.held)
+        → EndsEmpty next given → StaysLate (take_result next [])
+    none_given front next same late empty =
+        subst (λ parcels. IsLate parcels next) (sym (append-nil given))
+        (subst (λ jobs. Late (given ++ group_as_batch jobs)) (sym same) late, empty)
 
-  -- the group is given on, and no packet may follow
-  group_alone : (given : List Parcel) (held : List Numbered) (next : FrontState) → next.held ≡ []
-      → (BeginsNext next → ⊥) → Late (given ++ group_as_batch held)
-      → StaysLate given (take_result next (group_as_batch held))
-  group_alone given held next none never late = (
-    subst (λ jobs. Late ((given ++ group_as_batch held) ++ group_as_batch jobs)) (sym none)
-        (subst Late (sym (append-nil (given ++ group_as_batch held))) late),
-    (λ begins before group is. absurd (never begins)),
-  )
+    -- the group is given on, and then a parcel that is no batch
+    group_and_other : (held : List Numbered) (x : Parcel) (next : FrontState) → is_batch x ≡ false
+        → next.held ≡ [] → Late (given ++ group_as_batch held)
+        → StaysLate (take_result next (group_as_batch held ++ x ∷ []))
+    group_and_other held x next other none late =
+        let all = given ++ group_as_batch held in
+        subst (λ parcels. IsLate parcels next) (append_assoc given (group_as_batch held) (x ∷ [])) (
+          rw (none, append-nil (all ++ x ∷ [])) (late_other all x other late),
+          λ begins before group is. absurd (other_last all x other before group is),
+        )
 
-  -- a packet that is returned
-  returned : (given : List Parcel) (front : FrontState) (x : Parcel) → is_batch x ≡ false
-      → Late (given ++ group_as_batch front.held) → StaysLate given (take_result front (x ∷ []))
-  returned given front x other late = (
-    late_group (given ++ x ∷ []) front.held
-        (late_other given x other (first_late given (group_as_batch front.held) late))
-        (follows_other given x front.held other),
-    (λ begins before group is. absurd (true≢false (sym (ap is_batch
-        (same_last given before x (parcel.Batch group) is).1) ∙ other))),
-  )
+    -- the group is given on, and no packet may follow
+    group_alone : (held : List Numbered) (next : FrontState) → next.held ≡ [] → (BeginsNext next → ⊥)
+        → Late (given ++ group_as_batch held) → StaysLate (take_result next (group_as_batch held))
+    group_alone held next none never late = (
+      rw (none, append-nil (given ++ group_as_batch held)) late,
+      λ begins before group is. absurd (never begins),
+    )
 
-  -- a packet that joins the group held, or begins one
-  joins : (given : List Parcel) (held : List Numbered) (front : FrontState) (job : Numbered) → front.held ≡ held
-      → front.closed ≡ false → front.stopped ≡ false → all_ended front ≡ false
-      → Late (given ++ group_as_batch held) → EndsEmpty front given
-      → StaysLate given (take_result (with_group front (held ++ job ∷ [])) [])
-  joins given [] front job none closed stopped unended late empty =
-      none_given given (with_group front (job ∷ [])) (with_group front (job ∷ [])) refl
-      (late_more given (parcel.Batch (job ∷ [])) (subst Late (append-nil given) late)
-      (λ next is before group parts. inr (empty (none, closed, stopped, unended) before group parts)))
-      (λ begins before group is. absurd (never_empty [] job [] (sym begins.0)))
-  joins given (first ∷ jobs) front job holds closed stopped unended late empty =
-      let next = with_group front (first ∷ (jobs ++ job ∷ [])) in
-      none_given given next next refl
-      (late_group given (first ∷ (jobs ++ job ∷ [])) (first_late given (parcel.Batch (first ∷ jobs) ∷ []) late)
-      (group_follows given first jobs (jobs ++ job ∷ []) late))
-      (λ begins before group is. absurd (never_empty [] first (jobs ++ job ∷ []) (sym begins.0)))
+    -- a packet that is returned
+    returned : (front : FrontState) (x : Parcel) → is_batch x ≡ false → Late (given ++ group_as_batch front.held)
+        → StaysLate (take_result front (x ∷ []))
+    returned front x other late = (
+      late_group (given ++ x ∷ []) front.held
+          (late_other given x other (first_late given (group_as_batch front.held) late))
+          (λ before group is. absurd (other_last given x other before group is)),
+      λ begins before group is. absurd (other_last given x other before group is),
+    )
 
-  -- a packet that doesn't join it
-  begins_next : (given : List Parcel) (held : List Numbered) (front : FrontState) (job : Numbered)
-      → is_taken limit held job ≡ false → Late (given ++ group_as_batch held)
-      → StaysLate given (take_result (with_group front (job ∷ [])) (group_as_batch held))
-  begins_next given [] front job differs late = absurd (true≢false differs)
-  begins_next given (first ∷ jobs) front job differs late = (
-    late_group (given ++ parcel.Batch (first ∷ jobs) ∷ []) (job ∷ []) late
-        (λ before group is.
-        let same : first ∷ jobs ≡ group =
-        let last = (same_last given before (parcel.Batch (first ∷ jobs)) (parcel.Batch group) is).1 in cc in
-        inl (subst (λ g. is_taken limit g job ≡ false) same differs)),
-    (λ begins before group is. absurd (never_empty [] job [] (sym begins.0))),
-  )
+    -- a packet that joins the group held, or begins one
+    joins : (held : List Numbered) (front : FrontState) (job : Numbered) → (held ≡ [] → BeginsNext front)
+        → Late (given ++ group_as_batch held) → EndsEmpty front given
+        → StaysLate (take_result (with_group front (held ++ job ∷ [])) [])
+    joins [] front job begins late empty =
+        none_given (with_group front (job ∷ [])) (with_group front (job ∷ [])) refl
+        (late_more given (parcel.Batch (job ∷ [])) (subst Late (append-nil given) late)
+        (λ next is before group parts. inr (empty (begins refl) before group parts)))
+        (λ holds before group is. absurd (never_empty [] job [] (sym holds.0)))
+    joins (first ∷ jobs) front job begins late empty =
+        let next = with_group front (first ∷ (jobs ++ job ∷ [])) in
+        none_given next next refl
+        (late_group given (first ∷ (jobs ++ job ∷ [])) (first_late given (parcel.Batch (first ∷ jobs) ∷ []) late)
+        (group_follows given first jobs (jobs ++ job ∷ []) late))
+        (λ holds before group is. absurd (never_empty [] first (jobs ++ job ∷ []) (sym holds.0)))
 
-  pub step_late : (refused : Bool) (front : FrontState) (sender : ℕ) (x : Item) (given : List Parcel)
-      → front.limit ≡ limit → all_ended front ≡ false
-      → Late (given ++ group_as_batch front.held) → EndsEmpty front given
-      → StaysLate given (take_step refused front sender x)
-  step_late refused front sender (item.Packet job) given under unended late empty =
-      either (StaysLate given) front.closed _ _ (λ closed. returned given front (parcel.Return job Shutdown) refl late)
-      (λ unclosed. either (StaysLate given) front.stopped _ _
-      (λ stopped. returned given front (parcel.Return job Stopped) refl late)
-      (λ going. either (StaysLate given) refused _ _
-      (λ refuses. group_and_other given front.held (parcel.Return job Stopped)
-      (record front { held = []; stopped = true }) refl refl late)
-      (λ accepts. either (StaysLate given) (is_taken front.limit front.held job) _ _
-      (λ taken. joins given front.held front job refl unclosed going unended late empty)
-      (λ differs. begins_next given front.held front job
-      (subst (λ n. is_taken n front.held job ≡ false) under differs) late))))
-  step_late refused front sender (item.Pulse moment) given under unended late empty =
-      either (StaysLate given) (front.closed || front.stopped) _ _
-      (λ shut. none_given given front front refl late empty)
-      (λ unclosed. group_and_other given front.held (parcel.Pulse moment) (with_group front []) refl refl late)
-  step_late refused front sender item.End given under unended late empty =
-      let next = with_end front sender in
-      either (StaysLate given) (all_ended next) _ _
-      (λ ended. group_alone given front.held (with_group next []) refl
-      (λ begins. true≢false (sym ended ∙ begins.3)) late)
-      (λ more. none_given given front next refl late
-      (λ begins. empty (begins.0, begins.1, begins.2, unended)))
-  step_late refused front sender item.Close given under unended late empty =
-      group_alone given front.held (record (with_end front sender) { held = []; closed = true }) refl
-      (λ begins. true≢false begins.1) late
+    -- a packet that doesn't join it
+    begins_next : (held : List Numbered) (front : FrontState) (job : Numbered) → is_taken limit held job ≡ false
+        → Late (given ++ group_as_batch held)
+        → StaysLate (take_result (with_group front (job ∷ [])) (group_as_batch held))
+    begins_next [] front job differs late = absurd (true≢false differs)
+    begins_next (first ∷ jobs) front job differs late = (
+      late_group (given ++ parcel.Batch (first ∷ jobs) ∷ []) (job ∷ []) late
+          (λ before group is.
+          let same : first ∷ jobs ≡ group =
+          let last = (same_last given before (parcel.Batch (first ∷ jobs)) (parcel.Batch group) is).1 in cc in
+          inl (subst (λ g. is_taken limit g job ≡ false) same differs)),
+      λ begins before group is. absurd (never_empty [] job [] (sym begins.0)),
+    )
+
+    pub step_late : (refused : Bool) (front : FrontState) (sender : ℕ) (x : Item) → front.limit ≡ limit
+        → all_ended front ≡ false → IsLate given front → StaysLate (take_step refused front sender x)
+    step_late refused front sender (item.Packet job) under unended (late, empty) =
+        either StaysLate front.closed _ _ (λ closed. returned front (parcel.Return job Shutdown) refl late)
+        (λ unclosed. either StaysLate front.stopped _ _
+        (λ stopped. returned front (parcel.Return job Stopped) refl late)
+        (λ going. either StaysLate refused _ _
+        (λ refuses. group_and_other front.held (parcel.Return job Stopped) (record front { held = []; stopped = true })
+        refl refl late)
+        (λ accepts. either StaysLate (is_taken front.limit front.held job) _ _
+        (λ taken. joins front.held front job (λ none. (none, unclosed, going, unended)) late empty)
+        (λ differs. begins_next front.held front job
+        (subst (λ n. is_taken n front.held job ≡ false) under differs) late))))
+    step_late refused front sender (item.Pulse moment) under unended (late, empty) =
+        either StaysLate (front.closed || front.stopped) _ _ (λ shut. none_given front front refl late empty)
+        (λ unclosed. group_and_other front.held (parcel.Pulse moment) (with_group front []) refl refl late)
+    step_late refused front sender item.End under unended (late, empty) =
+        let next = with_end front sender in
+        either StaysLate (all_ended next) _ _
+        (λ ended. group_alone front.held (with_group next []) refl (λ begins. true≢false (sym ended ∙ begins.3)) late)
+        (λ more. none_given front next refl late (λ begins. empty (begins.0, begins.1, begins.2, unended)))
+    step_late refused front sender item.Close under unended (late, empty) =
+        group_alone front.held (record (with_end front sender) { held = []; closed = true }) refl
+        (λ begins. true≢false begins.1) late
 
 -- ---- what the intake saw stays seen
 
@@ -234,10 +225,13 @@ empty_again intake parcels was = record {
   inputs = was.inputs;
 }
 
-pub late_with : (limit : ℕ) (Old New : List Parcel → Type 0) (parcels : List Parcel)
-    → ((ps : List Parcel) → Old ps → New ps) → Late limit Old parcels → Late limit New parcels
-late_with limit Old New parcels all late before after group next is =
-    ⊎_elim inl (λ empty. inr (all (before ++ parcel.Batch group ∷ []) empty)) (late before after group next is)
+pub late_with : (limit : ℕ) (Old New : List Parcel → Type 0) (given : List Parcel) (front : FrontState)
+    → ((parcels : List Parcel) → Old parcels → New parcels) → IsLate limit Old given front → IsLate limit New given front
+late_with limit Old New given front all (late, empty) = (
+  λ before after group next is. ⊎_elim inl (λ was. inr (all (before ++ parcel.Batch group ∷ []) was))
+      (late before after group next is),
+  λ begins before group is. all given (empty begins before group is),
+)
 
 -- ---- what a front that didn't stop let through
 

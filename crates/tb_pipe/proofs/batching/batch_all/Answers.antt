@@ -1,5 +1,5 @@
 use Rattle.std.proofs.Common.{◌∙◌, ◌≤◌, refl, sym, subst, inl, inr, length}
-use Rattle.tb_pipe.proofs.Words.{Contains-push, HaveAllEnded, given, with_empty}
+use Rattle.tb_pipe.proofs.Words.{Contains-push, HaveAllEnded, with_empty}
 use Rattle.tb_pipe.proofs.Batches.{all_batched, empty_more, intake_empty, intake_more}
 use Rattle.tb_pipe.proofs.batching.batch_all.Goals as goal
 
@@ -7,12 +7,10 @@ pub returns-then-finished-clause-all : goal.returns-then-finished-clause-all
 returns-then-finished-clause-all g c =
     let intake = c.loop.intake in
     let is = c.loop.invariant.batched in
-    all_batched intake c.pass_group.new.front (given c.pass_group.new.self.outlet) (given c.give.new.self.outlet)
+    all_batched (c.pass_group.ensures.batched intake (inr (sym c.finished.ensures.finished ∙ c.if-finished.true)) is)
     c.pass_group.ensures.none
     (subst (λ n. HaveAllEnded n intake.taken) is.among
-    ((c.finished.ensures.ends intake.taken is.knows).0 c.if-finished.true))
-    c.give.ensures.given
-    (c.pass_group.ensures.batched intake (inr (sym c.finished.ensures.finished ∙ c.if-finished.true)) is)
+    ((c.finished.ensures.ends intake.taken is.knows).0 c.if-finished.true)) c.give.ensures.given
 
 pub loop-preserved-in-Some-take : goal.loop-preserved-in-Some-take
 loop-preserved-in-Some-take g c =
@@ -36,7 +34,7 @@ loop-preserved g c =
       none = c.loop.invariant.none;
       batched = rw none (c.pass_group-in-None-take.ensures.batched (with_empty intake)
           (inl (Contains-push intake.seen_empty (length intake.taken)))
-          (empty_more intake c.loop.front (given c.loop.ring.outlet) c.loop.invariant.batched));
+          (empty_more c.loop.invariant.batched));
     }
 
 pub pass_ticket-requires-clause-empty : goal.pass_ticket-requires-clause-empty

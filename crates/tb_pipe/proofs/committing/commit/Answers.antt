@@ -4,6 +4,5 @@ use Rattle.tb_pipe.proofs.committing.commit.Goals as goal
 pub returns-clause-committed : goal.returns-clause-committed
 returns-clause-committed g c = λ start sent has.
     rw (← c.into_parcel-parcel.ensures, c.give_on.ensures.given)
-    (parcel_more start sent c.into_parcel-parcel.result c.is_last-last.result (g.L.AnyLedger.is c.args.ledger.now)
-    (g.L.AnyLedger.is c.apply-outcomes.new.self) _ c.apply-outcomes.result c.is_last-last.ensures
-    c.apply-outcomes.ensures.applied has)
+    (parcel_more has c.into_parcel-parcel.result c.apply-outcomes.result (g.L.AnyLedger.is c.apply-outcomes.new.self)
+    c.is_last-last.result c.is_last-last.ensures c.apply-outcomes.ensures.applied)

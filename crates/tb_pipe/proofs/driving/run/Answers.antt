@@ -1,5 +1,5 @@
-use Rattle.std.proofs.Common.{refl, rules, ◌≡◌, ◌∙◌, ◌<◌, ◌++◌, ℕ, List, map, length, ap, sym, subst}
-use Rattle.tb_pipe.proofs.Words.{length-map, slice_index_or, ArePrefixesOf, AreResultsOf, TasksState, task_origin, task_submitter, HoldsOfEach, IsReport, PipelineState, run_of, EndedState, IntakeState, Seat, SenderState, SubmitterState, end_origin, origin_of, queued_by, Item}
+use Rattle.std.proofs.Common.{refl, rules, ◌≡◌, ◌∙◌, ◌++◌, ℕ, List, map, length, ap, sym, subst}
+use Rattle.tb_pipe.proofs.Words.{length-map, slice_index_or, ArePrefixesOf, AreResultsOf, TasksState, task_origin, task_submitter, HoldsOfEach, IsReport, PipelineState, run_of, EndedState, IntakeState, SenderState, SubmitterState, end_origin, origin_of, queued_by, Item}
 use Rattle.std.proofs.lemmas.Simd.{map-map}
 use Rattle.tb_drive.specs.clauses.Plan.{with_items}
 use Rattle.tb_drive.specs.clauses.Threads.{IsControlResultOf}
@@ -46,9 +46,6 @@ returns g c =
     ∙ c.requires.2 ∙ sym (ap (λ (intake : IntakeState). intake.submitters) intake) in
     let long : length ends ≡ served.intake.submitters =
     sym (length-map ends end_origin) ∙ ap length own ∙ number in
-    let limits : (k : ℕ) (d : EndedState) → k < length ends
-    → (slice_index_or ends k d).origin.seat.limit ≡ served.intake.limit =
-    λ k d within. ap (λ (seat : Seat). seat.limit) (settled.seats k d within) in
     let copied : ends ≡ c.of-unsettled.result.value.items = search rules in
     let taken : served.intake.taken ≡ c.of-taken.result.value.intake.taken = search rules in
     let last_queued : queued_by ends end served.intake.submitters ≡ end.queued =
@@ -90,11 +87,9 @@ returns g c =
               control_ended = control.2;
               driven = said_joined.number ∙ long;
               seen = subst (λ (limit : ℕ). HoldsOfEach g.D.Driver.has_seen limit run drivers last) limit
-                  (once_settled g.D.Driver.has_seen served.intake.limit drivers ends _ end (settled.long ∙ sym long)
-                  limits settled.read said_joined.seen);
+                  (once_settled settled long g.D.Driver.has_seen drivers said_joined.seen);
               ended = subst (λ (limit : ℕ). HoldsOfEach g.D.Driver.has_ended limit run drivers last) limit
-                  (once_settled g.D.Driver.has_ended served.intake.limit drivers ends _ end (settled.long ∙ sym long)
-                  limits settled.read said_joined.ended);
+                  (once_settled settled long g.D.Driver.has_ended drivers said_joined.ended);
             },
           );
       shares = results.shares_are;

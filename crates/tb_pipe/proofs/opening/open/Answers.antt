@@ -1,5 +1,5 @@
-use Rattle.std.proofs.Common.{◌≡◌, ◌∙◌, ap, arith, refl, subst, sym}
-use Rattle.tb_pipe.proofs.Words.{LedgerState, FrontState, given, taken, IntakeState, seat_at, IsBatched, IsCommitted}
+use Rattle.std.proofs.Common.{◌∙◌, ap, arith, refl, sym}
+use Rattle.tb_pipe.proofs.Words.{LedgerState, taken, IntakeState, seat_at}
 use Rattle.tb_pipe.proofs.Fresh.{fresh_batched, fresh_committed, fresh_replies}
 use Rattle.tb_pipe.proofs.Origins.{length-origins, seat-origins}
 use Rattle.tb_pipe.proofs.opening.open.Goals as goal
@@ -20,21 +20,14 @@ invariant_of-result c =
     let intake_is = c.in_ok-ends.ensures.intake in
     let front = c.in-Ok.front in
     let front_is = c.in-Ok.ensures.front in
-    let batched : IsBatched intake front (given c.in-Some.rings.batches) =
-    fresh_batched intake front (given c.in-Some.rings.batches)
-    (ap (λ (f : FrontState). f.limit) front_is ∙ sym (ap (λ (i : IntakeState). i.limit) intake_is))
-    (ap (λ (f : FrontState). f.submitters) front_is ∙ sym (ap (λ (i : IntakeState). i.submitters) intake_is))
-    c.in-Ok.ensures.passes c.in-Ok.ensures.ends (ap (λ (f : FrontState). f.held) front_is)
-    (ap (λ (i : IntakeState). i.taken) intake_is) c.in-Some.ensures.empty.0 in
     let empty = c.in-Some.ensures.empty in
     record {
       ready = record {
-        batched = batched;
-        committed = λ start began. subst (λ start. IsCommitted start (taken c.in-Some.rings.parcels)
-            (λ state. state ≡ c.new-ledger.result) (given c.in-Some.rings.made)) (sym (began ∙ c.begin.ensures.start))
-            (fresh_committed (taken c.in-Some.rings.parcels) (λ state. state ≡ c.new-ledger.result) c.new-ledger.result
-            (given c.in-Some.rings.made) refl (c.begin.ensures.commits (ap (λ (ledger : LedgerState). ledger.stopped) c.new-ledger.ensures.ledger))
-            c.begin.ensures.joined empty.1 empty.2);
+        batched = rw empty.0 (fresh_batched (rw (front_is, intake_is) refl) (rw (front_is, intake_is) refl)
+            c.in-Ok.ensures.passes c.in-Ok.ensures.ends (rw front_is refl) (rw intake_is refl));
+        committed = λ start began. rw (began ∙ c.begin.ensures.start, empty.1, empty.2) (fresh_committed refl
+            (c.begin.ensures.commits (ap (λ (ledger : LedgerState). ledger.stopped) c.new-ledger.ensures.ledger))
+            c.begin.ensures.joined);
         replies = fresh_replies (taken c.in-Some.rings.outcomes) c.in_ok-ends.ends.outlets.items empty.3
             c.in_ok-ends.ensures.outlets.1;
       };

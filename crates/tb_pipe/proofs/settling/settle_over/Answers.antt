@@ -27,14 +27,11 @@ module _ (g : Over) (c : goal.After-drop-batches g) where
     run =
         let one = c.lying.ensures in
         let two = c.lying-2.ensures in
-        let parcels : taken remains.committed.inlet ++ lies c.lying.new.self
-        ≡ given remains.batches = ap (λ x. x ++ lies c.lying.new.self) (sym one.same.0) ∙ one.all ∙ one.same.1 in
-        let outs : taken remains.routed.inlet ++ lies c.lying-2.new.self
-        ≡ given remains.committed.outlet =
-        ap (λ x. x ++ lies c.lying-2.new.self) (sym two.same.0) ∙ two.all ∙ two.same.1 in
-        drained start remains.intake (given remains.batches) (taken remains.committed.inlet) (lies c.lying.new.self)
-        (g.L.AnyLedger.is remains.committed.ledger) (given remains.committed.outlet) (taken remains.routed.inlet)
-        (lies c.lying-2.new.self) is.batched committed parcels outs is.routed.ended
+        let parcels : IsPrefix (taken remains.committed.inlet) (given remains.batches) =
+        (lies c.lying.new.self, ap (λ x. x ++ lies c.lying.new.self) (sym one.same.0) ∙ one.all ∙ one.same.1) in
+        let outcomes : IsPrefix (taken remains.routed.inlet) (given remains.committed.outlet) =
+        (lies c.lying-2.new.self, ap (λ x. x ++ lies c.lying-2.new.self) (sym two.same.0) ∙ two.all ∙ two.same.1) in
+        drained (taken remains.routed.inlet) is.batched committed parcels outcomes is.routed.ended
 
     report : LawfulReport (run_of remains.intake c.args.ends.items c.args.control start committed.ledger
         c.settle_queue-ends.result.items)
@@ -62,9 +59,7 @@ returns-clause-report g c = rw (same g c) λ start began. (
   record {
     lawful = report g c start began;
     headline = c.headline.ensures _ (report g c start began);
-    grouping = grouped (remains g c).intake.limit (remains g c).intake.taken start (committed g c start began).ledger
-        (report g c start began).committed.0 (run g c start began).ran.commits.continues (run g c start began).joined
-        c.settle_queue-ends.ensures.within (report g c start began).committed.1;
+    grouping = grouped (run g c start began) c.settle_queue-ends.ensures.within (report g c start began).committed;
     pulses = pulses g c start began;
     opening = (committed g c start began).commits.from;
   },

@@ -1,10 +1,7 @@
-use Rattle.tb_pipe.proofs.Words.{given}
 use Rattle.tb_pipe.proofs.Batches.{group_more}
 use Rattle.tb_pipe.proofs.batching.BatchRing.pass_group.Goals as goal
 
 pub returns-in-Some-clause-batched : goal.returns-in-Some-clause-batched
 returns-in-Some-clause-batched g c = λ intake may is.
     let idle = c.in-Some.ensures in
-    rw c.give.ensures.given
-    (group_more intake c.args.front.now c.idle.new.self (given c.args.self.now.outlet) c.in-Some.batch idle.left
-    idle.some.0 idle.some.1 idle.lawful may is)
+    rw (c.give.ensures.given, idle.left, idle.some.0) (group_more is idle.some.1 idle.lawful may)

@@ -13,10 +13,8 @@ loop-preserved g c =
           (λ (b : Bool). CommittedTo b start (taken c.loop.self.inlet ++ parcel ∷ []) (g.L.AnyLedger.is c.commit.new.ledger)
           (given c.commit.new.outlet)) c.if-commit.false
           (c.commit.ensures.committed start (taken c.loop.self.inlet) (c.loop.invariant.committed start begun)));
-      cleared = one_cleared (g.G.Gate.lets_through c.args.gate.now) (taken c.args.self.now.inlet) (taken c.loop.self.inlet)
-          (taken c.take.new.self) c.loop.batches c.clear-cleared.new.batches c.in-Some-take.parcel
-          c.loop.invariant.cleared c.in-Some-take.ensures.some c.clear-cleared.ensures.through
-          c.clear-cleared.ensures.next;
+      cleared = one_cleared c.in-Some-take.parcel c.loop.invariant.cleared c.in-Some-take.ensures.some
+          c.clear-cleared.ensures.through c.clear-cleared.ensures.next;
     }
 
 pub loop-init : goal.loop-init
@@ -25,15 +23,13 @@ loop-init g c =
       inlet = refl;
       outlet = refl;
       committed = λ start begun. begun;
-      cleared = none_cleared (g.G.Gate.lets_through c.args.gate.now) (taken c.args.self.now.inlet);
+      cleared = none_cleared;
     }
 
 pub returns-then-commit-clause-through : goal.returns-then-commit-clause-through
 returns-then-commit-clause-through g c = (
   c.clear-cleared.new.batches,
-  one_cleared (g.G.Gate.lets_through c.args.gate.now) (taken c.args.self.now.inlet) (taken c.loop.self.inlet)
-      (taken c.take.new.self) c.loop.batches c.clear-cleared.new.batches c.in-Some-take.parcel
-      c.loop.invariant.cleared c.in-Some-take.ensures.some c.clear-cleared.ensures.through
+  one_cleared c.in-Some-take.parcel c.loop.invariant.cleared c.in-Some-take.ensures.some c.clear-cleared.ensures.through
       c.clear-cleared.ensures.next,
 )
 
