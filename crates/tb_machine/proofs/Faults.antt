@@ -1,6 +1,6 @@
 -- The first fault of events, and how many results a chain has.
-use Rattle.std.proofs.Common.{refl, ap, sym, subst, nat_lt, ◌∙◌, arith, ◌≡◌, ◌≢◌, ℕ, suc, ◌+◌, ◌-◌, ◌<◌, ◌≤◌, Bool, true, false, List, [], ◌∷◌, ◌++◌, length, replicate, eqb, Option, Some, None, map, take, length-append, length-take-le, ⊎_elim}
-use Rattle.tb_machine.proofs.Words.{if◌then◌else◌, ◌==◌, is_some, ltb-true, length-map, length-replicate, eqb_tells, is_last_linked, Facts, ChainFault, clock_max, clock_after, clock_exhausted, Operation, Results, Attempt, Stored, Failed, verdict_after, try_events, closed_chain, open_chain, chain_results, next_timestamp, verdict_at, facts_with, facts_after_failure, attempt_of, results_of_failed, LiesBelow, fault_as}
+use Rattle.std.proofs.Common.{refl, ap, sym, subst, ◌∙◌, arith, ◌≡◌, ◌≢◌, ℕ, suc, ◌+◌, ◌-◌, ◌<◌, ◌≤◌, Bool, true, false, List, [], ◌∷◌, ◌++◌, length, replicate, eqb, Option, Some, None, map, take, length-append, length-take-le, ⊎_elim}
+use Rattle.tb_machine.proofs.Words.{if◌then◌else◌, ◌==◌, is_some, length-map, length-replicate, eqb_tells, is_last_linked, Facts, ChainFault, Operation, Results, Attempt, Stored, Failed, verdict_after, try_events, closed_chain, open_chain, chain_results, facts_after_failure, attempt_of, results_of_failed, LiesBelow, fault_as}
 
 pub eqb-false : (a b : ℕ) → a ≢ b → (a == b) ≡ false
 eqb-false a b ne =
@@ -51,44 +51,6 @@ pub some_as : {A B : Type 0} (become : A → B) (fault : Option (ChainFault A))
     → is_some (fault_as become fault) ≡ is_some fault
 some_as become None = refl
 some_as become (Some fault) = refl
-
--- ---- one event of an attempt
-
-verdict_same : {Event : Type 0} (operation : Operation Event) (clock : ℕ) (facts : Facts) (event : Event) →
-    verdict_after operation clock facts event ≡ verdict_at operation facts (next_timestamp clock) event
-verdict_same operation clock facts event = by (nat_lt clock clock_max)
-  where
-    by : (within : Bool) → (if within then operation.verdict facts (clock + 1) event else clock_exhausted)
-        ≡ verdict_at operation facts (if within then Some (clock + 1) else None) event
-    by true = refl
-    by false = refl
-
-pub try_fails : {Event : Type 0} (operation : Operation Event) (index clock : ℕ) (facts : Facts) (event : Event)
-    (events : List Event) → let code = verdict_at operation facts (next_timestamp clock) event in code ≢ 0 →
-    try_events operation index clock facts (event ∷ events)
-    ≡ Failed (record { index = index; event = event; code = code })
-try_fails operation index clock facts event events fails =
-    let code = verdict_at operation facts (next_timestamp clock) event in
-    rw (verdict_same operation clock facts event, eqb-false code 0 fails)
-
-pub try_more : {Event : Type 0} (operation : Operation Event) (index clock : ℕ) (facts : Facts) (event : Event)
-    (events : List Event) → verdict_at operation facts (next_timestamp clock) event ≡ 0 →
-    try_events operation index clock facts (event ∷ events)
-    ≡ try_events operation (index + 1) (clock_after clock 1)
-    (facts_with operation facts (next_timestamp clock) event) events
-try_more operation index clock facts event events ok = by (nat_lt clock clock_max) refl
-  where
-    by : (within : Bool) → nat_lt clock clock_max ≡ within →
-        try_events operation index clock facts (event ∷ events)
-        ≡ try_events operation (index + 1) (clock_after clock 1)
-        (facts_with operation facts (next_timestamp clock) event) events
-    by true is =
-        let found : operation.verdict facts (clock + 1) event ≡ 0 = rw is at ok in
-        let next : clock_after clock 1 ≡ clock + 1 = omega (arith, ltb-true clock clock_max is) in
-        rw (is, found, next)
-    by false is =
-        let none : clock_exhausted ≡ 0 = rw is at ok in
-        absurd (omega (arith, none))
 
 -- ---- the results of a chain by its first fault
 

@@ -24,7 +24,7 @@ pub use Rattle.tb_machine.specs.claim.TransferVerdict.{event_checks, stored_chec
 pub use Rattle.tb_machine.specs.declared.fault.ChainFault.{ChainFault}
 pub use Rattle.tb_machine.specs.inside.Examining.{LiesBelow, fault_as, first_chain_length, then_results, after_results}
 pub use Rattle.tb_machine.specs.inside.Committing.{Continues, HasCommitted}
-pub use Rattle.tb_machine.specs.inside.Faults.{verdict_at, results_of_failed, next_timestamp, facts_with, facts_after_failure, attempt_of, closed_chain_results, open_chain_results}
+pub use Rattle.tb_machine.specs.inside.Faults.{results_of_failed, facts_after_failure, attempt_of, closed_chain_results, open_chain_results}
 pub use Rattle.tb_tables.specs.claim.Balances.{balanced_account, with_balances}
 pub use Rattle.tb_tables.specs.claim.Facts.{no_facts, Facts, transfer_with, is_failed, account_with, is_expired}
 pub use Rattle.tb_tables.specs.clauses.Balances.{debits_pending, debits_posted, credits_pending, credits_posted, debits, credits}

@@ -3,10 +3,9 @@
 ghost use Rattle.std.specs.Prelude.{◌≡◌, ◌≢◌, ◌+◌, ◌<◌, ◌≤◌, [], ◌∷◌, length, map, take, Ok, IfOk, OnOk};
 ghost use Rattle.tb_tables.specs.clauses.History.{mark_of, back_to, Extends};
 ghost use Rattle.tb_layout.specs.claim.Limits.{clock_max};
-ghost use Rattle.tb_machine.specs.inside.Faults as faults;
-ghost use Rattle.tb_machine.specs.claim.Chain.{try_events, chain_results, events_results};
+ghost use Rattle.tb_machine.specs.claim.Chain.{verdict_after, try_events, chain_results, events_results};
 ghost use Rattle.tb_machine.specs.inside.Committing.{MayCommit, Continues, HasCommitted};
-ghost use Rattle.tb_machine.specs.inside.Faults.{verdict_at, facts_with, attempt_of, facts_after_failure, open_chain_results, closed_chain_results};
+ghost use Rattle.tb_machine.specs.inside.Faults.{attempt_of, facts_after_failure, open_chain_results, closed_chain_results};
 ghost use Rattle.tb_machine.specs.inside.Examining.{fault_as, first_chain_length};
 
 use crate::chain::{ChainStart, first_chain_length};
@@ -38,10 +37,9 @@ fn try_store_at<E: CreateEvent>(
 ) -> Result<u32, NoMemory>
     requires { clock ≤ clock_max }
     ensures extends { Extends tables.old tables.new }
-    ensures code { IfOk result (λ code. code ≡ verdict_at E.operation tables.old.now
-        (faults.next_timestamp clock) event) }
-    ensures stored { result ≡ Ok 0 → tables.new.now
-        ≡ facts_with E.operation tables.old.now (faults.next_timestamp clock) event }
+    ensures code { IfOk result (λ code. code ≡ verdict_after E.operation clock tables.old.now event) }
+    ensures stored { result ≡ Ok 0 → tables.new.now ≡ E.operation.stored tables.old.now (clock + 1) event }
+    ensures raised { result ≡ Ok 0 → clock < clock_max }
     ensures same { result ≢ Ok 0 → tables.new ≡ tables.old }
 {
     match next_timestamp(clock) {

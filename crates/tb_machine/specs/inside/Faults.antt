@@ -1,12 +1,8 @@
 -- The first fault of a chain apart from the facts that its events leave, as the code finds them.
-use Rattle.std.specs.Prelude.{ℕ, ◌+◌, List, length, replicate, Option, Some, None, if◌then◌else◌, nat_lt}
-use Rattle.tb_layout.specs.claim.Limits.{clock_max}
+use Rattle.std.specs.Prelude.{ℕ, List, length, replicate, Option, Some, None}
 use Rattle.tb_tables.specs.claim.Facts.{Facts}
 use Rattle.tb_machine.specs.declared.fault.ChainFault.{ChainFault}
-use Rattle.tb_machine.specs.claim.Chain.{Operation, Results, Attempt, Stored, Failed, clock_exhausted, linked_event_failed, failed_results, try_events, closed_chain, open_chain}
-
-abbrev pub next_timestamp : ℕ → Option ℕ
-next_timestamp clock = if nat_lt clock clock_max then Some (clock + 1) else None
+use Rattle.tb_machine.specs.claim.Chain.{Operation, Results, Attempt, Stored, Failed, linked_event_failed, failed_results, try_events, closed_chain, open_chain}
 
 abbrev pub results_of_failed : {Event : Type 0} → ℕ → Option (ChainFault Event) → List ℕ
 results_of_failed count None = replicate count linked_event_failed
@@ -18,15 +14,6 @@ attempt_of facts None = Stored facts
 attempt_of facts (Some fault) = Failed fault
 
 module _ {Event : Type 0} (operation : Operation Event) where
-  -- an event is examined only if it has a timestamp
-  abbrev pub verdict_at : Facts → Option ℕ → Event → ℕ
-  verdict_at facts (Some timestamp) event = operation.verdict facts timestamp event
-  verdict_at facts None event = clock_exhausted
-
-  abbrev pub facts_with : Facts → Option ℕ → Event → Facts
-  facts_with facts (Some timestamp) event = operation.stored facts timestamp event
-  facts_with facts None event = facts
-
   abbrev pub facts_after_failure : Facts → Option (ChainFault Event) → Facts
   facts_after_failure facts None = facts
   facts_after_failure facts (Some fault) = operation.after_failure facts fault.code fault.event

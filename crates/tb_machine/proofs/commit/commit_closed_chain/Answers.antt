@@ -1,5 +1,5 @@
 use Rattle.std.proofs.Common.{◌∙◌, ap, sym, append-nil, map, length, arith}
-use Rattle.tb_machine.proofs.Words.{is_some, common_steps, closed_chain, length-map}
+use Rattle.tb_machine.proofs.Words.{common_steps, closed_chain, length-map}
 use Rattle.tb_machine.proofs.Faults.{fault-below, some_as, closed_quiet, closed_failed}
 use Rattle.tb_machine.proofs.Failures.{failures_from-none}
 use Rattle.tb_machine.proofs.commit.commit_closed_chain.Goals as goal
