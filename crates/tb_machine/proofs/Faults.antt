@@ -1,6 +1,6 @@
 -- The first fault of events, and how many results a chain has.
 use Rattle.std.proofs.Common.{refl, ap, sym, subst, ◌∙◌, arith, ◌≡◌, ◌≢◌, ℕ, suc, ◌+◌, ◌-◌, ◌<◌, ◌≤◌, Bool, true, false, List, [], ◌∷◌, ◌++◌, length, replicate, eqb, Option, Some, None, map, take, length-append, length-take-le, ⊎_elim}
-use Rattle.tb_machine.proofs.Words.{if◌then◌else◌, ◌==◌, is_some, length-map, length-replicate, eqb_tells, is_last_linked, Facts, ChainFault, Operation, Results, Attempt, Stored, Failed, verdict_after, try_events, closed_chain, open_chain, chain_results, facts_after_failure, attempt_of, results_of_failed, LiesBelow, fault_as}
+use Rattle.tb_machine.proofs.Words.{if◌then◌else◌, ◌==◌, is_some, length-map, length-replicate, eqb_tells, is_last_linked, Facts, ChainFault, Operation, Results, Attempt, Stored, Failed, verdict_after, try_events, closed_chain, open_chain, chain_results, facts_after_failure, attempt_of, closed_chain_results, open_chain_results, results_of_failed, LiesBelow, fault_as}
 
 pub eqb-false : (a b : ℕ) → a ≢ b → (a == b) ≡ false
 eqb-false a b ne =
@@ -54,24 +54,30 @@ some_as become (Some fault) = refl
 
 -- ---- the results of a chain by its first fault
 
-pub closed_quiet : {Event : Type 0} (operation : Operation Event) (count : ℕ) (facts after : Facts)
-    (fault : Option (ChainFault Event)) → is_some fault ≡ false → closed_chain operation facts count
-    (attempt_of after fault) ≡ record { results = replicate count 0; facts = after }
-closed_quiet operation count facts after None quiet = refl
-closed_quiet operation count facts after (Some fault) quiet = cc
+pub closed_quiet : {Event : Type 0} (operation : Operation Event) (clock : ℕ) (facts after : Facts)
+    (chain : List Event) (fault : Option (ChainFault Event)) →
+    attempt_of after fault ≡ try_events operation 0 clock facts chain → is_some fault ≡ false →
+    closed_chain_results operation clock facts chain ≡ record { results = replicate (length chain) 0; facts = after }
+closed_quiet operation clock facts after chain None is quiet =
+    ap (closed_chain operation facts (length chain)) (sym is)
+closed_quiet operation clock facts after chain (Some fault) is quiet = cc
 
-pub closed_failed : {Event : Type 0} (operation : Operation Event) (count : ℕ) (facts after : Facts)
-    (fault : Option (ChainFault Event)) → is_some fault ≡ true → closed_chain operation facts count
-    (attempt_of after fault)
-    ≡ record { results = results_of_failed count fault; facts = facts_after_failure operation facts fault }
-closed_failed operation count facts after None failed = cc
-closed_failed operation count facts after (Some fault) failed = refl
+pub closed_failed : {Event : Type 0} (operation : Operation Event) (clock : ℕ) (facts after : Facts)
+    (chain : List Event) (fault : Option (ChainFault Event)) →
+    attempt_of after fault ≡ try_events operation 0 clock facts chain → is_some fault ≡ true →
+    closed_chain_results operation clock facts chain
+    ≡ record { results = results_of_failed (length chain) fault; facts = facts_after_failure operation facts fault }
+closed_failed operation clock facts after chain None is failed = cc
+closed_failed operation clock facts after chain (Some fault) is failed =
+    ap (closed_chain operation facts (length chain)) (sym is)
 
-pub open_failed : {Event : Type 0} (operation : Operation Event) (count : ℕ) (facts after : Facts)
-    (fault : Option (ChainFault Event)) → open_chain operation facts count (attempt_of after fault)
-    ≡ record { results = results_of_failed count fault ++ 2 ∷ []; facts = facts_after_failure operation facts fault }
-open_failed operation count facts after None = refl
-open_failed operation count facts after (Some fault) = refl
+pub open_failed : {Event : Type 0} (operation : Operation Event) (clock : ℕ) (facts after : Facts)
+    (front : List Event) (fault : Option (ChainFault Event)) →
+    attempt_of after fault ≡ try_events operation 0 clock facts front →
+    open_chain_results operation clock facts front
+    ≡ record { results = results_of_failed (length front) fault ++ 2 ∷ []; facts = facts_after_failure operation facts fault }
+open_failed operation clock facts after front None is = ap (open_chain operation facts (length front)) (sym is)
+open_failed operation clock facts after front (Some fault) is = ap (open_chain operation facts (length front)) (sym is)
 
 -- ---- as many results as events
 

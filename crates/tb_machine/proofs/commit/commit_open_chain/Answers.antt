@@ -1,5 +1,5 @@
-use Rattle.std.proofs.Common.{◌∙◌, ap, sym, append_assoc, map, length, arith}
-use Rattle.tb_machine.proofs.Words.{length-map, common_steps, open_chain}
+use Rattle.std.proofs.Common.{append_assoc, map, arith}
+use Rattle.tb_machine.proofs.Words.{length-map, common_steps}
 use Rattle.tb_machine.proofs.Faults.{fault-below, open_failed}
 use Rattle.tb_machine.proofs.Failures.{failures_from-open}
 use Rattle.tb_machine.proofs.commit.commit_open_chain.Goals as goal
@@ -12,14 +12,12 @@ report_failed-requires-clause-below g c =
 
 pub returns-clause-committed : goal.returns-clause-committed
 returns-clause-committed g c =
-    let operation = g.E.CreateEvent.operation in
-    let facts = c.args.tables.now.now in
-    let count = length (map g.E.CreateEvent.event_of c.args.front.now) in
-    let made = sym (ap (open_chain operation facts count) c.in_ok-try_store_all.ensures.attempt)
-    ∙ open_failed operation count facts _ _ in
-    let below = fault-below operation g.E.CreateEvent.event_of c.args.start.clock facts _ c.args.front.now _
-    c.in_ok-try_store_all.ensures.attempt in
-    rw made (record {
+    let attempt = c.in_ok-try_store_all.ensures.attempt in
+    let below = fault-below g.E.CreateEvent.operation g.E.CreateEvent.event_of c.args.start.clock
+    c.args.tables.now.now _ c.args.front.now _ attempt in
+    rw (open_failed g.E.CreateEvent.operation c.args.start.clock c.args.tables.now.now _
+    (map g.E.CreateEvent.event_of c.args.front.now) _ attempt)
+    (record {
       facts = grind (arith, common_steps);
       failures = rw (
         length-map c.args.front.now g.E.CreateEvent.event_of,
