@@ -1,6 +1,6 @@
 -- A transient code is only that of an event whose id isn't among those that failed.
-use Rattle.std.proofs.Common.{refl, ◌≡◌, ℕ, Bool, true, false, not, List, [], ◌∷◌, Option, Some, None}
-use Rattle.tb_machine.proofs.Words.{◌&&◌, if◌then◌else◌, list_all, Transfer, TransferCode, Exists, IdAlreadyFailed, FlagsAreMutuallyExclusive, number_of, is_resolving, Facts, transfer_with, is_failed, first_row, is_transient, transfers_operation, event_checks, stored_checks, against_id, new_id_verdict, resolving_verdict, moving_verdict, resolved_transfer_of, has_exclusive_flags, verdict_at}
+use Rattle.std.proofs.Common.{refl, ◌≡◌, ℕ, Bool, true, false, not, List, [], ◌∷◌, ◌+◌, Option, Some, None}
+use Rattle.tb_machine.proofs.Words.{◌&&◌, if◌then◌else◌, list_all, Transfer, TransferCode, Exists, IdAlreadyFailed, FlagsAreMutuallyExclusive, number_of, is_resolving, Facts, transfer_with, is_failed, first_row, is_transient, transfers_operation, event_checks, stored_checks, against_id, new_id_verdict, resolving_verdict, moving_verdict, resolved_transfer_of, has_exclusive_flags, nat_lt, clock_max, clock_exhausted, verdict_after}
 
 -- no code of the table is transient
 abbrev lasts : List (Bool × TransferCode) → Bool
@@ -33,10 +33,9 @@ new_id facts timestamp event is = by (is_failed facts event.id) is
     by true is = cc
     by false is = refl
 
-pub transient_is_new : (facts : Facts) (timestamp : Option ℕ) (event : Transfer)
-    → is_transient (verdict_at transfers_operation facts timestamp event) ≡ true → is_failed facts event.id ≡ false
-transient_is_new facts None event is = cc
-transient_is_new facts (Some timestamp) event is =
+transient_at : (facts : Facts) (timestamp : ℕ) (event : Transfer)
+    → is_transient (transfers_operation.verdict facts timestamp event) ≡ true → is_failed facts event.id ≡ false
+transient_at facts timestamp event is =
     by (transfer_with facts event.id)
     (after (event_checks event) (against_id facts timestamp (transfer_with facts event.id) event) refl is)
   where
@@ -47,3 +46,12 @@ transient_is_new facts (Some timestamp) event is =
         let kept = resolved_transfer_of (transfer_with facts stored.pending_id) event in
         let e : false ≡ true = after (stored_checks stored kept) Exists refl is in
         cc
+
+pub transient_is_new : (clock : ℕ) (facts : Facts) (event : Transfer)
+    → is_transient (verdict_after transfers_operation clock facts event) ≡ true → is_failed facts event.id ≡ false
+transient_is_new clock facts event is = by (nat_lt clock clock_max) is
+  where
+    by : (within : Bool) → is_transient (if within then transfers_operation.verdict facts (clock + 1) event
+        else clock_exhausted) ≡ true → is_failed facts event.id ≡ false
+    by true is = transient_at facts (clock + 1) event is
+    by false is = cc

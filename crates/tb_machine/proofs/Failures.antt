@@ -1,6 +1,6 @@
 -- The failures that results make, with their indices.
-use Rattle.std.proofs.Common.{refl, sym, ap, ◌∙◌, arith, ◌≡◌, ◌≢◌, ℕ, zero, suc, ◌+◌, Bool, true, false, List, [], ◌∷◌, ◌++◌, length, replicate, Option, Some, None, ◌≤◌, length-append, Vec, vec_len}
-use Rattle.tb_machine.proofs.Words.{Results, HasCommitted, Global, History, if◌then◌else◌, ◌==◌, is_some, length-replicate, replicate_more, Failure, Facts, ChainFault, Operation, failures_from, closed_results, results_of_failed, LiesBelow}
+use Rattle.std.proofs.Common.{refl, sym, ap, ◌∙◌, arith, ◌≡◌, ◌≢◌, ℕ, zero, suc, ◌+◌, Bool, true, false, List, [], ◌∷◌, ◌++◌, length, replicate, Option, ◌≤◌, length-append, Vec, vec_len}
+use Rattle.tb_machine.proofs.Words.{Results, HasCommitted, Global, History, if◌then◌else◌, ◌==◌, length-replicate, replicate_more, Failure, ChainFault, failures_from, results_of_failed, LiesBelow}
 use Rattle.tb_machine.proofs.Faults.{eqb-false, length-failed_results}
 
 abbrev failure : ℕ → ℕ → Failure
@@ -25,7 +25,8 @@ failures_from-append index (code ∷ codes) ys =
     ∙ chosen-append (code == 0) (failure index code) (failures_from (index + 1) codes)
     (failures_from (index + length (code ∷ codes)) ys)
 
-failures_from-none : (index count : ℕ) → failures_from index (replicate count 0) ≡ []
+-- events that succeed report nothing
+pub failures_from-none : (index count : ℕ) → failures_from index (replicate count 0) ≡ []
 failures_from-none index zero = refl
 failures_from-none index (suc count) = failures_from-none (index + 1) count
 
@@ -81,10 +82,3 @@ failures_from-open index count fault below =
     failures_from-append index (results_of_failed count fault) (2 ∷ [])
     ∙ ap (λ n. failures_from index (results_of_failed count fault) ++ failure (index + n) 2 ∷ [])
     (length-failed_results count fault below)
-
--- a chain without a fault reports nothing
-pub failures_from-quiet : {Event : Type 0} (operation : Operation Event) (clock : ℕ) (facts : Facts)
-    (chain : List Event) (index : ℕ) (fault : Option (ChainFault Event)) → is_some fault ≡ false →
-    failures_from index (closed_results operation clock facts chain fault).results ≡ []
-failures_from-quiet operation clock facts chain index None quiet = failures_from-none index (length chain)
-failures_from-quiet operation clock facts chain index (Some fault) quiet = cc

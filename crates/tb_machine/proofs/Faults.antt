@@ -1,6 +1,6 @@
 -- The first fault of events, and how many results a chain has.
-use Rattle.std.proofs.Common.{refl, ap, nat_lt, ◌∙◌, arith, ◌≡◌, ◌≢◌, ℕ, suc, ◌+◌, ◌-◌, ◌<◌, ◌≤◌, Bool, true, false, List, [], ◌∷◌, length, replicate, eqb, Option, Some, None, map, take, length-append, length-take-le, ⊎_elim}
-use Rattle.tb_machine.proofs.Words.{if◌then◌else◌, ◌==◌, is_some, ltb-true, length-map, length-replicate, eqb_tells, is_last_linked, Facts, ChainFault, clock_max, clock_after, Operation, Results, Attempt, Stored, Failed, try_events, closed_chain, open_chain, chain_results, next_timestamp, verdict_at, facts_with, facts_with_all, first_fault, results_of_failed, closed_results, open_results, closed_chain_results, open_chain_results, LiesBelow, fault_as}
+use Rattle.std.proofs.Common.{refl, ap, sym, subst, ◌∙◌, arith, ◌≡◌, ◌≢◌, ℕ, suc, ◌+◌, ◌-◌, ◌<◌, ◌≤◌, Bool, true, false, List, [], ◌∷◌, ◌++◌, length, replicate, eqb, Option, Some, None, map, take, length-append, length-take-le, ⊎_elim}
+use Rattle.tb_machine.proofs.Words.{if◌then◌else◌, ◌==◌, is_some, length-map, length-replicate, eqb_tells, is_last_linked, Facts, ChainFault, Operation, Results, Attempt, Stored, Failed, verdict_after, try_events, closed_chain, open_chain, chain_results, facts_after_failure, attempt_of, closed_chain_results, open_chain_results, results_of_failed, LiesBelow, fault_as}
 
 pub eqb-false : (a b : ℕ) → a ≢ b → (a == b) ≡ false
 eqb-false a b ne =
@@ -12,98 +12,72 @@ ne_from_eqb a b h =
     ⊎_elim (λ (y : (eqb a b ≡ true) × (a ≡ b)). absurd (cc (h, y.0)))
     (λ (n : (eqb a b ≡ false) × (a ≢ b)). n.1) (eqb_tells a b)
 
-chosen : {Event : Type 0} (is_ok : Bool) (end : ℕ) (fault : ChainFault Event) (rest : Option (ChainFault Event))
-    → (fault.code == 0) ≡ is_ok → fault.index < end → LiesBelow end rest
-    → LiesBelow end (if is_ok then rest else Some fault)
+-- a fault, if there is one, is below an index and has a code
+abbrev IsBelow : {Event : Type 0} → ℕ → Attempt Event → Type 0
+IsBelow end (Stored facts) = Unit {0}
+IsBelow end (Failed fault) = (fault.index < end) × (fault.code ≢ 0)
+
+chosen : {Event : Type 0} (is_ok : Bool) (end : ℕ) (fault : ChainFault Event) (rest : Attempt Event)
+    → (fault.code == 0) ≡ is_ok → fault.index < end → IsBelow end rest
+    → IsBelow end (if is_ok then rest else Failed fault)
 chosen true end fault rest e within below = below
 chosen false end fault rest e within below = (within, ne_from_eqb fault.code 0 e)
 
-first_fault-below : {Event : Type 0} (operation : Operation Event) (index clock : ℕ) (facts : Facts)
+try_events-below : {Event : Type 0} (operation : Operation Event) (index clock : ℕ) (facts : Facts)
     (events : List Event) (end : ℕ) → index + length events ≤ end →
-    LiesBelow end (first_fault operation index clock facts events)
-first_fault-below operation index clock facts [] end h = tt
-first_fault-below operation index clock facts (event ∷ events) end h =
-    let code = verdict_at operation facts (next_timestamp clock) event in
+    IsBelow end (try_events operation index clock facts events)
+try_events-below operation index clock facts [] end h = tt
+try_events-below operation index clock facts (event ∷ events) end h =
+    let code = verdict_after operation clock facts event in
     chosen (code == 0) end (record { index = index; event = event; code = code }) _ refl (omega arith)
-    (first_fault-below operation (index + 1) (clock_after clock 1)
-    (facts_with operation facts (next_timestamp clock) event) events end (omega arith))
+    (try_events-below operation (index + 1) (clock + 1) (operation.stored facts (clock + 1) event) events end
+    (omega arith))
+
+lies_below : {Event : Type 0} (end : ℕ) (after : Facts) (fault : Option (ChainFault Event)) →
+    IsBelow end (attempt_of after fault) → LiesBelow end fault
+lies_below end after None below = tt
+lies_below end after (Some fault) below = below
 
 -- the same for events that chunks of bytes hold
 pub fault-below : {Chunk Event : Type 0} (operation : Operation Event) (f : Chunk → Event) (clock : ℕ)
-    (facts : Facts) (chunks : List Chunk) → LiesBelow (length chunks)
-    (first_fault operation 0 clock facts (map f chunks))
-fault-below operation f clock facts chunks =
-    first_fault-below operation 0 clock facts (map f chunks) (length chunks) (omega (arith, length-map chunks f))
+    (facts after : Facts) (chunks : List Chunk) (fault : Option (ChainFault Event)) →
+    attempt_of after fault ≡ try_events operation 0 clock facts (map f chunks) → LiesBelow (length chunks) fault
+fault-below operation f clock facts after chunks fault is =
+    lies_below (length chunks) after fault (subst (IsBelow (length chunks)) (sym is)
+    (try_events-below operation 0 clock facts (map f chunks) (length chunks) (omega (arith, length-map chunks f))))
 
 -- whatever its event becomes, a fault stays one
-pub quiet_as : {A B : Type 0} (become : A → B) (fault : Option (ChainFault A)) → is_some fault ≡ false
-    → is_some (fault_as become fault) ≡ false
-quiet_as become None h = refl
-quiet_as become (Some fault) h = h
+pub some_as : {A B : Type 0} (become : A → B) (fault : Option (ChainFault A))
+    → is_some (fault_as become fault) ≡ is_some fault
+some_as become None = refl
+some_as become (Some fault) = refl
 
--- ---- a walk of a chain is its first fault, or the facts that all its events leave
+-- ---- the results of a chain by its first fault
 
-abbrev attempt_of : {Event : Type 0} → Facts → Option (ChainFault Event) → Attempt Event
-attempt_of after None = Stored after
-attempt_of after (Some fault) = Failed fault
+pub closed_quiet : {Event : Type 0} (operation : Operation Event) (clock : ℕ) (facts after : Facts)
+    (chain : List Event) (fault : Option (ChainFault Event)) →
+    attempt_of after fault ≡ try_events operation 0 clock facts chain → is_some fault ≡ false →
+    closed_chain_results operation clock facts chain ≡ record { results = replicate (length chain) 0; facts = after }
+closed_quiet operation clock facts after chain None is quiet =
+    ap (closed_chain operation facts (length chain)) (sym is)
+closed_quiet operation clock facts after chain (Some fault) is quiet = cc
 
-chosen_attempt : {Event : Type 0} (is_ok : Bool) (after : Facts) (rest : Option (ChainFault Event))
-    (fault : ChainFault Event) → (if is_ok then attempt_of after rest else Failed fault)
-    ≡ attempt_of after (if is_ok then rest else Some fault)
-chosen_attempt true after rest fault = refl
-chosen_attempt false after rest fault = refl
+pub closed_failed : {Event : Type 0} (operation : Operation Event) (clock : ℕ) (facts after : Facts)
+    (chain : List Event) (fault : Option (ChainFault Event)) →
+    attempt_of after fault ≡ try_events operation 0 clock facts chain → is_some fault ≡ true →
+    closed_chain_results operation clock facts chain
+    ≡ record { results = results_of_failed (length chain) fault; facts = facts_after_failure operation facts fault }
+closed_failed operation clock facts after chain None is failed = cc
+closed_failed operation clock facts after chain (Some fault) is failed =
+    ap (closed_chain operation facts (length chain)) (sym is)
 
-tried : {Event : Type 0} (operation : Operation Event) (index clock : ℕ) (facts : Facts) (events : List Event) →
-    try_events operation index clock facts events
-    ≡ attempt_of (facts_with_all operation clock facts events) (first_fault operation index clock facts events)
-tried operation index clock facts [] = refl
-tried operation index clock facts (event ∷ events) =
-    by (nat_lt clock clock_max) refl
-    (tried operation (index + 1) (clock + 1) (operation.stored facts (clock + 1) event) events)
-  where
-    by : (within : Bool) → nat_lt clock clock_max ≡ within →
-        (let next = operation.stored facts (clock + 1) event in
-        try_events operation (index + 1) (clock + 1) next events
-        ≡ attempt_of (facts_with_all operation (clock + 1) next events)
-        (first_fault operation (index + 1) (clock + 1) next events)) →
-        try_events operation index clock facts (event ∷ events)
-        ≡ attempt_of (facts_with_all operation clock facts (event ∷ events))
-        (first_fault operation index clock facts (event ∷ events))
-    by true is rest =
-        let code = operation.verdict facts (clock + 1) event in
-        let next : clock_after clock 1 ≡ clock + 1 = omega (arith, ltb-true clock clock_max is) in
-        rw (is, next) (
-        ap (λ attempt. if code == 0 then attempt
-        else Failed (record { index = index; event = event; code = code })) rest
-        ∙ chosen_attempt (code == 0) _ _ (record { index = index; event = event; code = code })
-        )
-    by false is rest = rw is refl
-
-pub closed_is : {Event : Type 0} (operation : Operation Event) (clock : ℕ) (facts : Facts) (chain : List Event) →
-    closed_chain operation facts (length chain) (try_events operation 0 clock facts chain)
-    ≡ closed_chain_results operation clock facts chain
-closed_is operation clock facts chain =
-    ap (closed_chain operation facts (length chain)) (tried operation 0 clock facts chain)
-    ∙ by (first_fault operation 0 clock facts chain)
-  where
-    by : (fault : Option (ChainFault _)) →
-        closed_chain operation facts (length chain) (attempt_of (facts_with_all operation clock facts chain) fault)
-        ≡ closed_results operation clock facts chain fault
-    by None = refl
-    by (Some fault) = refl
-
-pub open_is : {Event : Type 0} (operation : Operation Event) (clock : ℕ) (facts : Facts) (front : List Event) →
-    open_chain operation facts (length front) (try_events operation 0 clock facts front)
-    ≡ open_chain_results operation clock facts front
-open_is operation clock facts front =
-    ap (open_chain operation facts (length front)) (tried operation 0 clock facts front)
-    ∙ by (first_fault operation 0 clock facts front)
-  where
-    by : (fault : Option (ChainFault _)) →
-        open_chain operation facts (length front) (attempt_of (facts_with_all operation clock facts front) fault)
-        ≡ open_results operation facts front fault
-    by None = refl
-    by (Some fault) = refl
+pub open_failed : {Event : Type 0} (operation : Operation Event) (clock : ℕ) (facts after : Facts)
+    (front : List Event) (fault : Option (ChainFault Event)) →
+    attempt_of after fault ≡ try_events operation 0 clock facts front →
+    open_chain_results operation clock facts front
+    ≡ record { results = results_of_failed (length front) fault ++ 2 ∷ []; facts = facts_after_failure operation facts fault }
+open_failed operation clock facts after front None is = ap (open_chain operation facts (length front)) (sym is)
+open_failed operation clock facts after front (Some fault) is = ap (open_chain operation facts (length front)) (sym is)
 
 -- ---- as many results as events
 
@@ -128,11 +102,18 @@ length-front is_linked [] h = cc
 length-front is_linked (event ∷ events) h =
     omega (arith, length-take-le (length (event ∷ events) - 1) (event ∷ events) (omega arith))
 
-length-closed : {Event : Type 0} (operation : Operation Event) (clock : ℕ) (facts : Facts) (chain : List Event)
-    (fault : Option (ChainFault Event)) → LiesBelow (length chain) fault →
-    length (closed_results operation clock facts chain fault).results ≡ length chain
-length-closed operation clock facts chain None below = length-replicate (length chain) 0
-length-closed operation clock facts chain (Some fault) below = length-failed_results (length chain) (Some fault) below
+length-closed : {Event : Type 0} (operation : Operation Event) (facts : Facts) (count : ℕ) (attempt : Attempt Event)
+    → IsBelow count attempt → length (closed_chain operation facts count attempt).results ≡ count
+length-closed operation facts count (Stored after) below = length-replicate count 0
+length-closed operation facts count (Failed fault) below = length-failed_results count (Some fault) below
+
+length-open : {Event : Type 0} (operation : Operation Event) (facts : Facts) (count : ℕ) (attempt : Attempt Event)
+    → IsBelow count attempt → length (open_chain operation facts count attempt).results ≡ count + 1
+length-open operation facts count (Stored after) below =
+    length-append (replicate count 1) (2 ∷ []) ∙ ap (λ n. n + 1) (length-replicate count 1)
+length-open operation facts count (Failed fault) below =
+    length-append (results_of_failed count (Some fault)) (2 ∷ [])
+    ∙ ap (λ n. n + 1) (length-failed_results count (Some fault) below)
 
 length-chosen : (b : Bool) (x y : Results) (n : ℕ) → (b ≡ true → length x.results ≡ n)
     → (b ≡ false → length y.results ≡ n) → length (if b then x else y).results ≡ n
@@ -144,16 +125,9 @@ pub length-chain_results : {Event : Type 0} (operation : Operation Event) (clock
     (chain : List Event) → length (chain_results operation clock facts chain).results ≡ length chain
 length-chain_results operation clock facts chain =
     let front = take (length chain - 1) chain in
-    let fault = first_fault operation 0 clock facts front in
     length-chosen (is_last_linked operation.is_linked chain) _ _ (length chain)
-    (λ open_one. omega (
-      arith,
-      ap (λ (made : Results). length made.results) (open_is operation clock facts front),
-      length-append (results_of_failed (length front) fault) (2 ∷ []),
-      length-failed_results
-          (length front) fault (first_fault-below operation 0 clock facts front (length front) (omega arith)),
-      length-front operation.is_linked chain open_one,
-    ))
-    (λ _. ap (λ (made : Results). length made.results) (closed_is operation clock facts chain)
-    ∙ length-closed operation clock facts chain (first_fault operation 0 clock facts chain)
-    (first_fault-below operation 0 clock facts chain (length chain) (omega arith)))
+    (λ open_one. length-open operation facts (length front) _
+    (try_events-below operation 0 clock facts front (length front) (omega arith))
+    ∙ length-front operation.is_linked chain open_one)
+    (λ _. length-closed operation facts (length chain) _
+    (try_events-below operation 0 clock facts chain (length chain) (omega arith)))

@@ -1,7 +1,7 @@
 -- The first chain of some events, and the rest.
 use Rattle.std.proofs.Common.{refl, sym, ap, ◌∙◌, arith, ◌≡◌, ℕ, suc, ◌+◌, ◌-◌, ◌<◌, ◌≤◌, Bool, true, false, List, [], ◌∷◌, ◌++◌, length, take, drop, get_or, map, append_assoc, length-take-le, length-drop, Vec, vec_len}
 use Rattle.tb_machine.proofs.Words.{if◌then◌else◌, HasCommitted, Global, History, length-map, take-map, take_rest, drop-map, drop-drop, Failure, is_last_linked, Facts, Operation, Results, before_chains, chains_of, chain_results, chains_results, clock_after, events_results, failures_from, open_chain_results, closed_chain_results, first_chain_length, then_results}
-use Rattle.tb_machine.proofs.Faults.{length-chain_results, open_is, closed_is}
+use Rattle.tb_machine.proofs.Faults.{length-chain_results}
 use Rattle.tb_machine.proofs.Failures.{failures_from-append, few_more}
 
 -- ---- the last event decides whether a chain is open
@@ -28,13 +28,7 @@ pub chain_results-chunks : {Chunk Event : Type 0} (operation : Operation Event) 
     then open_chain_results operation clock facts (map f (take (length chunks - 1) chunks))
     else closed_chain_results operation clock facts (map f chunks))
 chain_results-chunks operation f clock facts chunks d some =
-    let chain = map f chunks in
-    rw (
-      last_linked operation.is_linked f chunks d some,
-      open_is operation clock facts (take (length chain - 1) chain),
-      closed_is operation clock facts chain,
-      map-front f chunks,
-    )
+    rw (last_linked operation.is_linked f chunks d some, map-front f chunks)
 
 -- ---- cutting off the first chain
 

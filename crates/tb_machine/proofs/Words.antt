@@ -16,7 +16,7 @@ pub use Rattle.tb_layout.specs.declared.failure.Failure.{Failure}
 pub use Rattle.tb_layout.specs.declared.transfer.Transfer.{Transfer}
 pub use Rattle.tb_layout.specs.declared.transfer_code.TransferCode.{TransferCode}
 pub use Rattle.tb_layout.specs.declared.transfer_code.TransferCode.TheVariants.{Exists, IdAlreadyFailed, FlagsAreMutuallyExclusive, Ok}
-pub use Rattle.tb_machine.specs.claim.Chain.{Operation, failures_from, clock_after, Results, Attempt, Stored, Failed, try_events, closed_chain, open_chain, chain_results, before_chains, chains_of, chains_results, events_results}
+pub use Rattle.tb_machine.specs.claim.Chain.{Operation, failures_from, clock_after, Results, Attempt, Stored, Failed, verdict_after, clock_exhausted, try_events, closed_chain, open_chain, chain_results, before_chains, chains_of, chains_results, events_results}
 pub use Rattle.tb_machine.specs.claim.Checks.{first_row, u128_max}
 pub use Rattle.tb_machine.specs.claim.Operations.{is_transient, transfers_operation, accounts_operation}
 pub use Rattle.tb_machine.specs.claim.Replay.{replay, failures_of, State, results_of, after_packet, accounts_found}
@@ -24,7 +24,7 @@ pub use Rattle.tb_machine.specs.claim.TransferVerdict.{event_checks, stored_chec
 pub use Rattle.tb_machine.specs.declared.fault.ChainFault.{ChainFault}
 pub use Rattle.tb_machine.specs.inside.Examining.{LiesBelow, fault_as, first_chain_length, then_results, after_results}
 pub use Rattle.tb_machine.specs.inside.Committing.{Continues, HasCommitted}
-pub use Rattle.tb_machine.specs.inside.Faults.{verdict_at, closed_results, results_of_failed, next_timestamp, facts_with, facts_with_all, first_fault, open_results, closed_chain_results, open_chain_results}
+pub use Rattle.tb_machine.specs.inside.Faults.{results_of_failed, facts_after_failure, attempt_of, closed_chain_results, open_chain_results}
 pub use Rattle.tb_tables.specs.claim.Balances.{balanced_account, with_balances}
 pub use Rattle.tb_tables.specs.claim.Facts.{no_facts, Facts, transfer_with, is_failed, account_with, is_expired}
 pub use Rattle.tb_tables.specs.clauses.Balances.{debits_pending, debits_posted, credits_pending, credits_posted, debits, credits}

@@ -1,16 +1,16 @@
 //! The clock, in nanoseconds.
 
-ghost use Rattle.std.specs.Prelude.{◌≡◌, ◌+◌, ◌*◌, ◌≤◌};
+ghost use Rattle.std.specs.Prelude.{◌≡◌, ◌+◌, ◌*◌, ◌≤◌, nat_lt, MatchOption, true, false};
 ghost use Rattle.tb_layout.specs.claim.Limits.{clock_max, nanoseconds_per_second};
 ghost use Rattle.tb_machine.specs.claim.Chain as spec;
-ghost use Rattle.tb_machine.specs.inside.Faults as faults;
 
 use tb_layout::{CLOCK_MAX, NANOSECONDS_PER_SECOND};
 
 /// Returns the timestamp of the next event, in nanoseconds: the clock raised by one, or None if it is `CLOCK_MAX`.
 pub(crate) fn next_timestamp(clock: u64) -> Option<u64>
     requires { clock ≤ clock_max }
-    ensures { result ≡ faults.next_timestamp clock }
+    ensures { MatchOption result (nat_lt clock clock_max ≡ false)
+        (λ timestamp. (nat_lt clock clock_max ≡ true) × (timestamp ≡ clock + 1)) }
 {
     if clock < CLOCK_MAX {
         Some(clock + 1)

@@ -1,12 +1,11 @@
 //! A packet's chains, one by one.
 
-ghost use Rattle.std.specs.Prelude.{◌≡◌, ◌≢◌, ◌+◌, ◌<◌, ◌≤◌, [], ◌∷◌, length, map, take, Ok, None, IfOk, OnOk};
+ghost use Rattle.std.specs.Prelude.{◌≡◌, ◌≢◌, ◌+◌, ◌<◌, ◌≤◌, [], ◌∷◌, length, map, take, Ok, IfOk, OnOk};
 ghost use Rattle.tb_tables.specs.clauses.History.{mark_of, back_to, Extends};
 ghost use Rattle.tb_layout.specs.claim.Limits.{clock_max};
-ghost use Rattle.tb_machine.specs.inside.Faults as faults;
-ghost use Rattle.tb_machine.specs.claim.Chain.{chain_results, events_results};
+ghost use Rattle.tb_machine.specs.claim.Chain.{verdict_after, try_events, chain_results, events_results};
 ghost use Rattle.tb_machine.specs.inside.Committing.{MayCommit, Continues, HasCommitted};
-ghost use Rattle.tb_machine.specs.inside.Faults.{verdict_at, facts_with, facts_with_all, first_fault, facts_after_failure, open_chain_results, closed_chain_results};
+ghost use Rattle.tb_machine.specs.inside.Faults.{attempt_of, facts_after_failure, open_chain_results, closed_chain_results};
 ghost use Rattle.tb_machine.specs.inside.Examining.{fault_as, first_chain_length};
 
 use crate::chain::{ChainStart, first_chain_length};
@@ -38,10 +37,9 @@ fn try_store_at<E: CreateEvent>(
 ) -> Result<u32, NoMemory>
     requires { clock ≤ clock_max }
     ensures extends { Extends tables.old tables.new }
-    ensures code { IfOk result (λ code. code ≡ verdict_at E.operation tables.old.now
-        (faults.next_timestamp clock) event) }
-    ensures stored { result ≡ Ok 0 → tables.new.now
-        ≡ facts_with E.operation tables.old.now (faults.next_timestamp clock) event }
+    ensures code { IfOk result (λ code. code ≡ verdict_after E.operation clock tables.old.now event) }
+    ensures stored { result ≡ Ok 0 → tables.new.now ≡ E.operation.stored tables.old.now (clock + 1) event }
+    ensures raised { result ≡ Ok 0 → clock < clock_max }
     ensures same { result ≢ Ok 0 → tables.new ≡ tables.old }
 {
     match next_timestamp(clock) {
@@ -59,10 +57,8 @@ fn try_store_all<'a, E: CreateEvent>(
 ) -> Result<Option<ChainFault<&'a [u8; 128]>>, NoMemory>
     requires { clock ≤ clock_max }
     ensures extends { Extends tables.old tables.new }
-    ensures fault { IfOk result (λ fault. fault_as (λ chunk. E.event_of chunk.now) fault
-        ≡ first_fault E.operation 0 clock tables.old.now (map E.event_of chunks.now)) }
-    ensures stored { result ≡ Ok None → tables.new.now
-        ≡ facts_with_all E.operation clock tables.old.now (map E.event_of chunks.now) }
+    ensures attempt { IfOk result (λ fault. attempt_of tables.new.now (fault_as (λ chunk. E.event_of chunk.now) fault)
+        ≡ try_events E.operation 0 clock tables.old.now (map E.event_of chunks.now)) }
 {
     let mut clock = clock;
     for (index, chunk) in chunks.iter().enumerate() {

@@ -9,9 +9,8 @@ ghost use Rattle.tb_tables.specs.clauses.History.{with_change, Extends};
 ghost use Rattle.tb_tables.specs.clauses.Conditions.{MayResolve};
 ghost use Rattle.tb_tables.specs.clauses.Indices.{IsIndexOfTransfer};
 ghost use Rattle.tb_layout.specs.claim.Limits.{clock_max};
-ghost use Rattle.tb_machine.specs.claim.Chain.{Operation};
+ghost use Rattle.tb_machine.specs.claim.Chain.{Operation, verdict_after};
 ghost use Rattle.tb_machine.specs.claim.Checks.{differ};
-ghost use Rattle.tb_machine.specs.inside.Faults.{verdict_at};
 ghost use Rattle.tb_machine.specs.claim.TransferVerdict.{stored_transfer, new_id_verdict};
 ghost use Rattle.tb_machine.specs.inside.Examining.{transfer_id_verdict};
 ghost use Rattle.tb_machine.specs.inside.Prefetch.{IsTarget};
@@ -83,7 +82,7 @@ pub(crate) trait CreateEvent: Copy {
     /// Does the same if the event's checks found this code on the facts as they are. Nothing is looked up that they
     /// looked up.
     fn record_failed_checked(&self, tables: &mut Tables, code: u32) -> Result<(), NoMemory>
-        requires { (timestamp : Option ℕ) × (code ≡ verdict_at operation tables.old.now timestamp self.now) }
+        requires { (clock : ℕ) × (code ≡ verdict_after operation clock tables.old.now self.now) }
         ensures facts { IfOk result (λ _. tables.new.now ≡ operation.after_failure tables.old.now code self.now) }
         ensures extends { Extends tables.old tables.new };
 }

@@ -6,17 +6,11 @@ use Rattle.tb_machine.proofs.commit.try_store_all.Goals as goal
 pub loop-index-preserved : goal.loop-index-preserved
 loop-index-preserved g c = grind (arith, common_steps)
 
-pub returns-then-code-ne0-clause-fault : goal.returns-then-code-ne0-clause-fault
-returns-then-code-ne0-clause-fault g c = grind (arith, common_steps)
+pub returns-then-code-ne0-clause-attempt : goal.returns-then-code-ne0-clause-attempt
+returns-then-code-ne0-clause-attempt g c = grind (arith, common_steps)
 
-pub returns-clause-fault : goal.returns-clause-fault
-returns-clause-fault g c = grind (arith, common_steps)
-
-pub returns-clause-stored : goal.returns-clause-stored
-returns-clause-stored g c = grind (arith, common_steps)
+pub returns-clause-attempt : goal.returns-clause-attempt
+returns-clause-attempt g c = grind (arith, common_steps)
 
 pub loop-index-init : goal.loop-index-init
-loop-index-init g c = record { clock = c.requires; extends = search rules; fault = refl; stored = refl }
-
-pub returns-then-code-ne0-clause-stored : goal.returns-then-code-ne0-clause-stored
-returns-then-code-ne0-clause-stored g c = λ is. cc
+loop-index-init g c = record { clock = c.requires; extends = search rules; attempt = refl }

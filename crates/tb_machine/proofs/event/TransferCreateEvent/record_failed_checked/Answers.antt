@@ -5,5 +5,5 @@ use Rattle.tb_machine.proofs.event.TransferCreateEvent.record_failed_checked.Goa
 
 pub add_failed-requires : goal.add_failed-requires
 add_failed-requires c =
-    transient_is_new c.args.tables.now.now c.requires.0 c.args.self.now
+    transient_is_new c.requires.0 c.args.tables.now.now c.args.self.now
     (sym (ap is_transient c.requires.1) ∙ sym c.is_transient.ensures ∙ c.if-is_transient.true)
