@@ -86,14 +86,14 @@ fn store_batch<S: Store>(
 impl<S: Store + Drop> DurableLedger<S> {
     ghost use Rattle.std.specs.Prelude.{List};
     ghost use Rattle.tb_core.specs.declared.parcel.Parcel.TheVariants as parcel;
-    ghost use Rattle.tb_core.specs.claim.BareLedger.{Applies, after_refusal, refusal_of, with_journal};
-    ghost use Rattle.tb_core.specs.claim.AnyLedger.{Applying, IsWithJournal};
+    ghost use Rattle.tb_core.specs.claim.BareLedger.{with_journal};
     ghost use Rattle.tb_core.specs.claim.Journal.{LedgerState};
     ghost use Rattle.tb_durable.specs.claim.Durable.{IsJournal, IsStored, groups_of, opened_rows};
     ghost use Rattle.tb_durable.specs.clauses.Parcels.{AppliesInFile};
     ghost use Rattle.tb_durable.specs.clauses.Runs.{ShowsJournal};
     ghost use Rattle.tb_durable.specs.clauses.Entries.{CanBeOpened, HasEntries, IsFailure, IsInFile, IsLedgerFile};
     ghost use Rattle.tb_durable.specs.clauses.Faults.{IsCause};
+    ghost use Rattle.tb_durable.specs.inside.Storing.{Finishes};
     ghost use Rattle.tb_durable.specs.declared.counts.PacketCounts.{PacketCounts as Counts};
     ghost use Rattle.tb_durable.specs.claim.Recovery.{RecoversFromCrashes};
 
@@ -230,28 +230,22 @@ impl<S: Store + Drop> DurableLedger<S> {
         table.into_store()
     }
 
-    /// Stops at a parcel that isn't stored.
-    fn stop(&mut self, refused: NotStored, parcel: Parcel) -> Outcomes
-        ensures doubt { self.new.in_doubt ≡ refused.in_doubt }
+    /// Applies a parcel if its row is stored, and stops at it otherwise. If memory runs out after that, the ledger is in doubt.
+    fn finish(
+        &mut self,
+        stored: Result<(), NotStored>,
+        counts: PacketCounts,
+        parcel: Parcel,
+    ) -> Outcomes
         ensures table { self.new.table ≡ self.old.table }
-        ensures counts { self.new.counts ≡ self.old.counts }
-        ensures stopped { self.new.bare ≡ after_refusal self.old.bare parcel }
-        ensures outcomes { result ≡ refusal_of parcel }
-        ensures applying { Applying (IsWithJournal self.old.bare) parcel result (IsWithJournal self.new.bare) }
+        ensures finishes { Finishes stored counts self.old.bare parcel result self.new }
     {
-        self.in_doubt = refused.in_doubt;
-        self.fault = Some(refused.error);
-        self.bare.apply_as_refused(parcel)
-    }
-
-    /// Applies a parcel that is stored. If memory runs out, it is in doubt.
-    fn follow(&mut self, parcel: Parcel) -> Outcomes
-        ensures doubt { self.new.in_doubt ≡ self.new.bare.stopped }
-        ensures table { self.new.table ≡ self.old.table }
-        ensures counts { self.new.counts ≡ self.old.counts }
-        ensures applied { Applies parcel self.old.bare result self.new.bare }
-        ensures applying { Applying (IsWithJournal self.old.bare) parcel result (IsWithJournal self.new.bare) }
-    {
+        if let Err(refused) = stored {
+            self.in_doubt = refused.in_doubt;
+            self.fault = Some(refused.error);
+            return self.bare.apply_as_refused(parcel);
+        }
+        self.counts = counts;
         let outcomes = self.bare.apply(parcel);
         self.in_doubt = self.bare.stopped();
         if self.in_doubt {
@@ -276,13 +270,8 @@ impl<S: Store + Drop> DurableLedger<S> {
                 .bare
                 .apply_as_refused(Parcel::Batch(Batch::whole(parts)));
         };
-        match store_batch(&mut self.table, &mut self.bare, &parts) {
-            Ok(()) => {
-                self.counts = counts;
-                self.follow(Parcel::Batch(Batch::whole(parts)))
-            }
-            Err(refused) => self.stop(refused, Parcel::Batch(Batch::whole(parts))),
-        }
+        let stored = store_batch(&mut self.table, &mut self.bare, &parts);
+        self.finish(stored, counts, Parcel::Batch(Batch::whole(parts)))
     }
 
     /// Stores a pulse and applies it.
@@ -293,10 +282,9 @@ impl<S: Store + Drop> DurableLedger<S> {
         if self.bare.stopped() || place >= PLACES_MAX {
             return self.bare.apply_as_refused(Parcel::Pulse(moment));
         }
-        match self.table.put_pulse(place, moment) {
-            Ok(()) => self.follow(Parcel::Pulse(moment)),
-            Err(refused) => self.stop(refused, Parcel::Pulse(moment)),
-        }
+        let counts = self.counts;
+        let stored = self.table.put_pulse(place, moment);
+        self.finish(stored, counts, Parcel::Pulse(moment))
     }
 
     /// Applies one parcel, as `BareLedger::apply` does, after the row that it adds is stored. If that fails, the ledger stops,

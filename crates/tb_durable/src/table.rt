@@ -1,6 +1,7 @@
 //! The table of entries.
 
-ghost use Rattle.std.specs.Prelude.{◌≡◌, ◌<◌, ◌≤◌, [], false, map, IsTrue, IsSome, IfOk, OnOk};
+ghost use Rattle.std.specs.Prelude.{◌≡◌, ◌<◌, ◌≤◌, ◌∷◌, [], false, map, IsTrue, IsSome, IfOk, OnOk};
+ghost use Rattle.tb_layout.specs.claim.Events.{Pulse};
 ghost use Rattle.tb_layout.specs.claim.Limits.{clock_max};
 ghost use Rattle.tb_layout.specs.claim.Bounds.{moment_max, places_max};
 ghost use Rattle.tb_work.specs.claim.Packet.{input_of};
@@ -119,6 +120,7 @@ impl<S: Store> Table<S> {
     pub(crate) fn put_pulse(&mut self, place: u64, moment: Moment) -> Result<(), NotStored>
         requires { place < places_max }
         ensures stores { StoresRow S.Store.view S.Store.recovers self.old.store (pulse_row place moment) result self.new.store }
+        ensures read_back { OnOk result (group_in (pulse_row place moment) ≡ Pulse moment ∷ []) }
         ensures bound { moment ≤ moment_max }
     {
         if fill_pulse(&mut self.row, place, moment).is_err() {

@@ -1,30 +1,27 @@
-use Rattle.std.proofs.Common.{◌≡◌, arith, refl, sym, subst, ◌∙◌}
-use Rattle.tb_durable.proofs.Words.{Ok, Err, pulse_row}
+use Rattle.std.proofs.Common.{arith, refl, sym, subst, ◌∙◌, [], ◌∷◌}
+use Rattle.tb_durable.proofs.Words.{Pulse, pulse_row}
+use Rattle.tb_core.specs.declared.parcel.Parcel.TheVariants as parcel
 use Rattle.tb_durable.specs.inside.Storing.{StoresRow}
-use Rattle.tb_durable.proofs.Parcels.{applied_at, next_pulse, stopped_at}
+use Rattle.tb_durable.proofs.FileLemmas.{pulse_entry}
+use Rattle.tb_durable.proofs.Parcels.{IsNextRow, in_file}
 use Rattle.tb_durable.proofs.ledger.DurableLedger.apply_pulse.Goals as goal
 
-pub put_pulse-requires : goal.put_pulse-requires
-put_pulse-requires g c = omega (arith, c.if-place-ge-PLACES_MAX.false)
+pub put_pulse-stored-requires : goal.put_pulse-stored-requires
+put_pulse-stored-requires g c = omega (arith, c.if-place-ge-PLACES_MAX.false)
 
-pub returns-in-Ok : goal.returns-in-Ok
-returns-in-Ok g c =
+pub returns : goal.returns
+returns g c =
     let before = c.args.self.now in
-    let next = next_pulse before c.args.moment (sym c.stopped.ensures ∙ c.if-stopped.false) c.put_pulse.ensures.bound in
-    let stores = rw c.places-place.ensures at (subst (λ t. StoresRow g.S.Store.view g.S.Store.recovers before.table.store
-    (pulse_row c.places-place.result c.args.moment) (Ok tt) t.store) (sym c.follow.ensures.table) c.in-Ok.ensures.stores) in
-    applied_at next c.follow.ensures.applying stores (record {
-      counts = c.follow.ensures.counts;
-      doubt = c.follow.ensures.doubt;
-      applied = c.follow.ensures.applied;
-      group = refl;
+    let row = pulse_row before.bare.places c.args.moment in
+    let stored = c.put_pulse-stored in
+    let next : IsNextRow before (parcel.Pulse c.args.moment) row (Pulse c.args.moment ∷ []) before.counts = record {
+      goes_on = sym c.stopped.ensures ∙ c.if-stopped.false;
+      rows = refl;
+      entry = pulse_entry before.bare.places c.args.moment before.counts stored.ensures.bound;
+      groups = refl;
       some = omega arith;
-    })
-
-pub returns-in-Err : goal.returns-in-Err
-returns-in-Err g c =
-    let before = c.args.self.now in
-    let next = next_pulse before c.args.moment (sym c.stopped.ensures ∙ c.if-stopped.false) c.put_pulse.ensures.bound in
-    let stores = rw c.places-place.ensures at (subst (λ t. StoresRow g.S.Store.view g.S.Store.recovers before.table.store
-    (pulse_row c.places-place.result c.args.moment) (Err c.in-Err.refused) t.store) (sym c.stop.ensures.table) c.in-Err.ensures.stores) in
-    stopped_at next c.stop.ensures.applying c.in-Err.refused stores c.stop.ensures.doubt (rw c.stop.ensures.stopped refl) c.stop.ensures.outcomes
+      stops = refl;
+    } in
+    in_file next stored.result (rw c.places-place.ensures at (subst (λ t. StoresRow g.S.Store.view g.S.Store.recovers before.table.store
+    (pulse_row c.places-place.result c.args.moment) stored.result t.store) (sym c.finish.ensures.table) stored.ensures.stores))
+    stored.ensures.read_back c.finish.ensures.finishes
