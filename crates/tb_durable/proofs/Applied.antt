@@ -1,6 +1,7 @@
 -- What was committed of a parcel.
 use Rattle.std.proofs.Common.{◌≡◌, ◌+◌, ℕ, Bool, true, false, List, [], ◌∷◌, ◌++◌, refl, ap, sym, subst, ◌∙◌, append-nil, length, map}
 use Rattle.tb_durable.proofs.Words.{if◌then◌else◌, ◌||◌, nat_lt, Input, Pulse, places_max, Numbered, input_of, Outcomes, LedgerState, inputs, Applied, apply_result, apply_step, must_stop, step_of_batch, with_entry, with_stop, BareLedgerState, HasCommitted, Applies, with_journal, groups_in, AddsGroup, groups_of_parcel}
+use Rattle.tb_core.specs.claim.BareLedger.{refusal_of}
 use Rattle.tb_work.specs.claim.Answer.{reply_with}
 use Rattle.tb_work.specs.declared.outcome.Outcome.TheVariants as outcome
 use Rattle.tb_core.specs.declared.parcel.Parcel.{Parcel}
@@ -23,47 +24,47 @@ module _ (before after : LedgerState) (group : List Input) (outcomes refusal ans
   stops false true e is stop = ap (λ (a : Applied). a.outcomes) is
   stops false false e is stop = absurd (let same = ap (λ (a : Applied). a.ledger.stopped) is in cc)
 
-module _ (old new : BareLedgerState) (outcomes : Outcomes) where
-  pub adds_batch : (jobs : List Numbered) → Applies (parcel.Batch jobs) old outcomes new → new.stopped ≡ false
-      → AddsGroup old new (map input_of jobs)
-  adds_batch jobs applied on groups has =
-      let done = applied.3 groups has in
-      let same = goes_on (with_journal old groups) (with_journal new (groups ++ groups_in applied.1)) (map input_of jobs)
-      outcomes (Cut (map (reply_with outcome.Stopped) jobs)) (step_of_batch (with_journal old groups) jobs).outcomes
-      (must_stop applied.0 (with_journal old groups) (length jobs)) done.1 on in (
-        subst (HasCommitted new) (ap (λ (l : LedgerState). l.groups) same) done.0,
-        ap (λ (l : LedgerState). l.opening) same,
-      )
-
-  pub adds_pulse : (moment : ℕ) → Applies (parcel.Pulse moment) old outcomes new → new.stopped ≡ false
-      → AddsGroup old new (Pulse moment ∷ [])
-  adds_pulse moment applied on groups has =
-      let done = applied.3 groups has in
-      let same = goes_on (with_journal old groups) (with_journal new (groups ++ groups_in applied.1)) (Pulse moment ∷ [])
-      outcomes Nothing Nothing (must_stop applied.0 (with_journal old groups) 1) done.1 on in (
-        subst (HasCommitted new) (ap (λ (l : LedgerState). l.groups) same) done.0,
-        ap (λ (l : LedgerState). l.opening) same,
-      )
-
-  pub refuses_batch : (jobs : List Numbered) (groups : List (List Input)) → HasCommitted old groups
-      → Applies (parcel.Batch jobs) old outcomes new → new.stopped ≡ true → outcomes ≡ Cut (map (reply_with outcome.Stopped) jobs)
-  refuses_batch jobs groups has applied stop =
-      let done = applied.3 groups has in
-      stops (with_journal old groups) (with_journal new (groups ++ groups_in applied.1)) (map input_of jobs) outcomes
-      (Cut (map (reply_with outcome.Stopped) jobs)) (step_of_batch (with_journal old groups) jobs).outcomes
-      old.stopped (applied.0 || nat_lt places_max (length (inputs (with_journal old groups)) + length jobs)) refl done.1 stop
-
 -- a ledger that applied a parcel and didn't stop has its groups
 pub grew : (handed : Parcel) (old new : LedgerState) (outcomes : Outcomes) (refused : Bool)
     → apply_result new outcomes ≡ apply_step refused old handed → new.stopped ≡ false
-    → new.groups ≡ old.groups ++ groups_of_parcel handed
+    → (new.groups ≡ old.groups ++ groups_of_parcel handed) × (new.opening ≡ old.opening)
 grew (parcel.Batch jobs) old new outcomes refused is on =
-    ap (λ (l : LedgerState). l.groups) (goes_on old new (map input_of jobs) outcomes
-    (Cut (map (reply_with outcome.Stopped) jobs)) (step_of_batch old jobs).outcomes
-    (must_stop refused old (length jobs)) is on)
+    let same = goes_on old new (map input_of jobs) outcomes (Cut (map (reply_with outcome.Stopped) jobs))
+    (step_of_batch old jobs).outcomes (must_stop refused old (length jobs)) is on in
+    (ap (λ (l : LedgerState). l.groups) same, ap (λ (l : LedgerState). l.opening) same)
 grew (parcel.Pulse moment) old new outcomes refused is on =
-    ap (λ (l : LedgerState). l.groups)
-    (goes_on old new (Pulse moment ∷ []) outcomes Nothing Nothing (must_stop refused old 1) is on)
-grew (parcel.Return job cause) old new outcomes refused is on =
-    ap (λ (a : Applied). a.ledger.groups) is ∙ sym (append-nil old.groups)
-grew parcel.Last old new outcomes refused is on = ap (λ (a : Applied). a.ledger.groups) is ∙ sym (append-nil old.groups)
+    let same = goes_on old new (Pulse moment ∷ []) outcomes Nothing Nothing (must_stop refused old 1) is on in
+    (ap (λ (l : LedgerState). l.groups) same, ap (λ (l : LedgerState). l.opening) same)
+grew (parcel.Return job cause) old new outcomes refused is on = (
+  ap (λ (a : Applied). a.ledger.groups) is ∙ sym (append-nil old.groups),
+  ap (λ (a : Applied). a.ledger.opening) is,
+)
+grew parcel.Last old new outcomes refused is on = (
+  ap (λ (a : Applied). a.ledger.groups) is ∙ sym (append-nil old.groups),
+  ap (λ (a : Applied). a.ledger.opening) is,
+)
+
+-- one that stopped gave the refusal
+pub refuses : (handed : Parcel) (old new : LedgerState) (outcomes : Outcomes) (refused : Bool)
+    → apply_result new outcomes ≡ apply_step refused old handed → new.stopped ≡ true → outcomes ≡ refusal_of handed
+refuses (parcel.Batch jobs) old new outcomes refused is stop =
+    stops old new (map input_of jobs) outcomes (Cut (map (reply_with outcome.Stopped) jobs)) (step_of_batch old jobs).outcomes
+    old.stopped (refused || nat_lt places_max (length (inputs old) + length jobs)) refl is stop
+refuses (parcel.Pulse moment) old new outcomes refused is stop =
+    stops old new (Pulse moment ∷ []) outcomes Nothing Nothing
+    old.stopped (refused || nat_lt places_max (length (inputs old) + 1)) refl is stop
+refuses (parcel.Return job cause) old new outcomes refused is stop = ap (λ (a : Applied). a.outcomes) is
+refuses parcel.Last old new outcomes refused is stop = ap (λ (a : Applied). a.outcomes) is
+
+-- the same of a bare ledger, whatever was committed before
+module _ {old new : BareLedgerState} {outcomes : Outcomes} (handed : Parcel) (applied : Applies handed old outcomes new) where
+  pub adds_group : {group : List Input} → groups_of_parcel handed ≡ group ∷ [] → new.stopped ≡ false → AddsGroup old new group
+  adds_group is on groups has =
+      let done = applied.3 groups has in
+      let more = grew handed (with_journal old groups) (with_journal new (groups ++ groups_in applied.1)) outcomes applied.0 done.1 on in
+      (subst (HasCommitted new) (more.0 ∙ ap (λ one. groups ++ one) is) done.0, more.1)
+
+  pub gives_refusal : (groups : List (List Input)) → HasCommitted old groups → new.stopped ≡ true → outcomes ≡ refusal_of handed
+  gives_refusal groups has stop =
+      refuses handed (with_journal old groups) (with_journal new (groups ++ groups_in applied.1)) outcomes applied.0
+      (applied.3 groups has).1 stop

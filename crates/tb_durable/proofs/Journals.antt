@@ -1,8 +1,6 @@
 -- A journal with one row more.
 use Rattle.std.proofs.Common.{◌≡◌, ◌<◌, ◌+◌, ◌⊎◌, inl, inr, ℕ, pos, false, List, [], ◌∷◌, ◌++◌, refl, sym, ap, subst, ◌∙◌, arith, length, length-append, append-nil, map}
-use Rattle.tb_durable.proofs.Words.{flat_map, flat_map-append, length-map, map-append, Int, Row, value_cmp, Trees, rowid, put_row, View, Input, Numbered, input_of, Outcomes, Applies, BareLedgerState, HasCommitted, new_bare_ledger, group_in, jobs_row, IsBelow, IsFirst, IsJournal, IsSettled, IsStored, Adds, IsAdded, AddsGroup, LeavesWith, groups_of}
-use Rattle.tb_core.specs.declared.parcel.Parcel.TheVariants as parcel
-use Rattle.tb_durable.proofs.Applied.{adds_batch}
+use Rattle.tb_durable.proofs.Words.{flat_map, flat_map-append, map-append, Int, Row, value_cmp, Trees, rowid, put_row, View, Input, BareLedgerState, HasCommitted, new_bare_ledger, group_in, IsBelow, IsFirst, IsJournal, IsSettled, IsStored, Adds, IsAdded, AddsGroup, LeavesWith, groups_of}
 use Rattle.tb_durable.proofs.RowLemmas.{all_below_later, all_below_push, first-Less, put_row-last, place-Less}
 
 abbrev all_in : List (List Input) → List Input
@@ -101,14 +99,3 @@ leaves_with_row row has goes_on at crash db left =
           let at_rest = has added.clean goes_on in
           inr (left_last row at_rest.0 at_rest.1 at db added)
     ]
-
--- a batch was stored and applied
-pub batch_stored : {old new : View} {before after : BareLedgerState} {outcomes : Outcomes} (jobs : List Numbered)
-    → IsSettled old → IsJournal (old.committed 0) before → 0 < length jobs
-    → Adds old new (jobs_row before.places jobs) → group_in (jobs_row before.places jobs) ≡ map input_of jobs
-    → Applies (parcel.Batch jobs) before outcomes after → after.stopped ≡ false
-    → IsSettled new × IsJournal (new.committed 0) after
-batch_stored {new} {before} {after} {outcomes} jobs at_rest j some adds says applied on =
-    stored_more (jobs_row before.places jobs) at_rest j refl new after adds
-    (subst (AddsGroup before after) (sym says) (adds_batch before after outcomes jobs applied on))
-    (subst (λ inputs. 0 < length inputs) (sym says) (omega (arith, some, length-map jobs input_of)))

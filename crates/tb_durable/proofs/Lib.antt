@@ -11,4 +11,5 @@ mod StubLemmas
 mod BatchLemmas
 mod EntryLemmas
 mod FileLemmas
+mod Parcels
 mod Example

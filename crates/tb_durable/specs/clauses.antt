@@ -3,3 +3,4 @@ pub mod Faults
 pub mod Runs
 pub mod Counts
 pub mod Entries
+pub mod Parcels

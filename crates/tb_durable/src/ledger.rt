@@ -1,14 +1,14 @@
 //! The ledger.
 
-ghost use Rattle.std.specs.Prelude.{◌≡◌, ◌⊎◌, ◌<◌, ◌≤◌, ◌++◌, false, true, IfOk, OnOk, IfErr, map};
+ghost use Rattle.std.specs.Prelude.{◌≡◌, ◌<◌, ◌≤◌, false, IfOk, OnOk, IfErr, map};
 ghost use Rattle.tb_layout.specs.claim.Limits.{clock_max};
 ghost use Rattle.tb_layout.specs.claim.Bounds.{places_max};
 ghost use Rattle.tb_work.specs.claim.Packet.{input_of};
 ghost use Rattle.tb_batch.specs.claim.Batch.{AreParts};
 ghost use Rattle.sqlite_trees.specs.Tree.{Trees};
-ghost use Rattle.sqlite_trees.specs.View.{IsClean, doubt};
+ghost use Rattle.sqlite_trees.specs.View.{IsClean};
 ghost use Rattle.tb_durable.specs.claim.Rows.{jobs_row, group_in};
-ghost use Rattle.tb_durable.specs.claim.Durable.{Adds, IsAdded, LeavesNothingNew};
+ghost use Rattle.tb_durable.specs.inside.Storing.{StoresRow};
 
 use crate::counts::PacketCounts;
 use crate::fault::OpenFault;
@@ -72,15 +72,10 @@ fn store_batch<S: Store>(
     requires place { bare.old.places < places_max }
     requires parts { AreParts parts.now }
     ensures bare { bare.new ≡ bare.old }
-    ensures ok { OnOk result (IsClean (S.Store.view table.new.store) → Adds (S.Store.view table.old.store)
-        (S.Store.view table.new.store) (jobs_row bare.old.places parts.now.jobs.items)) }
+    ensures stores { StoresRow S.Store.view S.Store.recovers table.old.store (jobs_row bare.old.places parts.now.jobs.items)
+        result table.new.store }
     ensures read_back { OnOk result (group_in (jobs_row bare.old.places parts.now.jobs.items)
         ≡ map input_of parts.now.jobs.items) }
-    ensures crash { (db : Trees) → S.Store.recovers table.new.store db → S.Store.recovers table.old.store db
-        ⊎ IsAdded (S.Store.view table.old.store) (jobs_row bare.old.places parts.now.jobs.items) db }
-    ensures refused { IfErr result (λ error. error.in_doubt ≡ false
-        → LeavesNothingNew (S.Store.recovers table.old.store) (S.Store.recovers table.new.store)) }
-    ensures clean { doubt (S.Store.view table.old.store).is_clean ≤ doubt (S.Store.view table.new.store).is_clean }
 {
     if reserve_for(bare, parts).is_err() {
         return Err(no_memory());
@@ -91,13 +86,14 @@ fn store_batch<S: Store>(
 impl<S: Store + Drop> DurableLedger<S> {
     ghost use Rattle.std.specs.Prelude.{List};
     ghost use Rattle.tb_core.specs.declared.parcel.Parcel.TheVariants as parcel;
-    ghost use Rattle.tb_core.specs.claim.BareLedger.{Applies, after_refusal, refusal_of, with_journal};
-    ghost use Rattle.tb_core.specs.claim.AnyLedger.{Applying, IsWithJournal};
+    ghost use Rattle.tb_core.specs.claim.BareLedger.{with_journal};
     ghost use Rattle.tb_core.specs.claim.Journal.{LedgerState};
-    ghost use Rattle.tb_durable.specs.claim.Durable.{IsJournal, IsStored, LeavesWith, groups_of, groups_of_parcel, opened_rows, rows_of};
+    ghost use Rattle.tb_durable.specs.claim.Durable.{IsJournal, IsStored, groups_of, opened_rows};
+    ghost use Rattle.tb_durable.specs.clauses.Parcels.{AppliesInFile};
     ghost use Rattle.tb_durable.specs.clauses.Runs.{ShowsJournal};
     ghost use Rattle.tb_durable.specs.clauses.Entries.{CanBeOpened, HasEntries, IsFailure, IsInFile, IsLedgerFile};
     ghost use Rattle.tb_durable.specs.clauses.Faults.{IsCause};
+    ghost use Rattle.tb_durable.specs.inside.Storing.{Finishes};
     ghost use Rattle.tb_durable.specs.declared.counts.PacketCounts.{PacketCounts as Counts};
     ghost use Rattle.tb_durable.specs.claim.Recovery.{RecoversFromCrashes};
 
@@ -234,28 +230,22 @@ impl<S: Store + Drop> DurableLedger<S> {
         table.into_store()
     }
 
-    /// Stops at a parcel that isn't stored.
-    fn stop(&mut self, refused: NotStored, parcel: Parcel) -> Outcomes
-        ensures doubt { self.new.in_doubt ≡ refused.in_doubt }
+    /// Applies a parcel if its row is stored, and stops at it otherwise. If memory runs out after that, the ledger is in doubt.
+    fn finish(
+        &mut self,
+        stored: Result<(), NotStored>,
+        counts: PacketCounts,
+        parcel: Parcel,
+    ) -> Outcomes
         ensures table { self.new.table ≡ self.old.table }
-        ensures counts { self.new.counts ≡ self.old.counts }
-        ensures stopped { self.new.bare ≡ after_refusal self.old.bare parcel }
-        ensures outcomes { result ≡ refusal_of parcel }
-        ensures applying { Applying (IsWithJournal self.old.bare) parcel result (IsWithJournal self.new.bare) }
+        ensures finishes { Finishes stored counts self.old.bare parcel result self.new }
     {
-        self.in_doubt = refused.in_doubt;
-        self.fault = Some(refused.error);
-        self.bare.apply_as_refused(parcel)
-    }
-
-    /// Applies a parcel that is stored. If memory runs out, it is in doubt.
-    fn follow(&mut self, parcel: Parcel) -> Outcomes
-        ensures doubt { self.new.in_doubt ≡ self.new.bare.stopped }
-        ensures table { self.new.table ≡ self.old.table }
-        ensures counts { self.new.counts ≡ self.old.counts }
-        ensures applied { Applies parcel self.old.bare result self.new.bare }
-        ensures applying { Applying (IsWithJournal self.old.bare) parcel result (IsWithJournal self.new.bare) }
-    {
+        if let Err(refused) = stored {
+            self.in_doubt = refused.in_doubt;
+            self.fault = Some(refused.error);
+            return self.bare.apply_as_refused(parcel);
+        }
+        self.counts = counts;
         let outcomes = self.bare.apply(parcel);
         self.in_doubt = self.bare.stopped();
         if self.in_doubt {
@@ -266,31 +256,7 @@ impl<S: Store + Drop> DurableLedger<S> {
 
     /// Stores a batch and applies it.
     fn apply_batch(&mut self, batch: Batch) -> Outcomes
-        ensures kept { IsStored (S.Store.view self.old.table.store) self.old.bare
-            → IsStored (S.Store.view self.new.table.store) self.new.bare }
-        ensures added { IsStored (S.Store.view self.old.table.store) self.old.bare
-            → IsClean (S.Store.view self.new.table.store) → self.new.bare.stopped ≡ false
-            → (S.Store.view self.new.table.store).committed 0 ≡ (S.Store.view self.old.table.store).committed 0
-            ++ rows_of self.old.bare.places (parcel.Batch batch) }
-        ensures released { self.new.bare.stopped ≡ false → Applies (parcel.Batch batch) self.old.bare result self.new.bare }
-        ensures refused { IsStored (S.Store.view self.old.table.store) self.old.bare
-            → IsClean (S.Store.view self.new.table.store) → self.new.bare.stopped ≡ true → result ≡ refusal_of (parcel.Batch batch) }
-        ensures crash { IsStored (S.Store.view self.old.table.store) self.old.bare
-            → LeavesWith (S.Store.recovers self.old.table.store) (S.Store.recovers self.new.table.store)
-            ((S.Store.view self.old.table.store).committed 0) (rows_of self.old.bare.places (parcel.Batch batch)) }
-        ensures certain { self.new.bare.stopped ≡ true → self.new.in_doubt ≡ false
-            → LeavesNothingNew (S.Store.recovers self.old.table.store) (S.Store.recovers self.new.table.store) }
-        ensures entries { IsStored (S.Store.view self.old.table.store) self.old.bare
-            → HasEntries (S.Store.view self.old.table.store) self.old.bare self.old.counts
-            → HasEntries (S.Store.view self.new.table.store) self.new.bare self.new.counts }
-        ensures openable { IsStored (S.Store.view self.old.table.store) self.old.bare
-            → HasEntries (S.Store.view self.old.table.store) self.old.bare self.old.counts
-            → CanBeOpened (S.Store.recovers self.old.table.store) → CanBeOpened (S.Store.recovers self.new.table.store) }
-        ensures stays { self.old.bare.stopped ≡ true → self.new ≡ self.old }
-        ensures applying { Applying (IsWithJournal self.old.bare) (parcel.Batch batch) result (IsWithJournal self.new.bare) }
-        ensures says { self.new.bare.stopped ≡ false → map group_in (rows_of self.old.bare.places (parcel.Batch batch)) ≡ groups_of_parcel (parcel.Batch batch) }
-        ensures clean { doubt (S.Store.view self.old.table.store).is_clean
-            ≤ doubt (S.Store.view self.new.table.store).is_clean }
+        ensures { AppliesInFile S.Store.view S.Store.recovers self.old (parcel.Batch batch) result self.new }
     {
         if self.bare.stopped()
             || batch.jobs().len() as u64 > PLACES_MAX.saturating_sub(self.bare.places())
@@ -304,51 +270,21 @@ impl<S: Store + Drop> DurableLedger<S> {
                 .bare
                 .apply_as_refused(Parcel::Batch(Batch::whole(parts)));
         };
-        match store_batch(&mut self.table, &mut self.bare, &parts) {
-            Ok(()) => {
-                self.counts = counts;
-                self.follow(Parcel::Batch(Batch::whole(parts)))
-            }
-            Err(refused) => self.stop(refused, Parcel::Batch(Batch::whole(parts))),
-        }
+        let stored = store_batch(&mut self.table, &mut self.bare, &parts);
+        self.finish(stored, counts, Parcel::Batch(Batch::whole(parts)))
     }
 
     /// Stores a pulse and applies it.
     fn apply_pulse(&mut self, moment: Moment) -> Outcomes
-        ensures kept { IsStored (S.Store.view self.old.table.store) self.old.bare
-            → IsStored (S.Store.view self.new.table.store) self.new.bare }
-        ensures added { IsStored (S.Store.view self.old.table.store) self.old.bare
-            → IsClean (S.Store.view self.new.table.store) → self.new.bare.stopped ≡ false
-            → (S.Store.view self.new.table.store).committed 0 ≡ (S.Store.view self.old.table.store).committed 0
-            ++ rows_of self.old.bare.places (parcel.Pulse moment) }
-        ensures released { self.new.bare.stopped ≡ false → Applies (parcel.Pulse moment) self.old.bare result self.new.bare }
-        ensures refused { IsStored (S.Store.view self.old.table.store) self.old.bare
-            → IsClean (S.Store.view self.new.table.store) → self.new.bare.stopped ≡ true → result ≡ refusal_of (parcel.Pulse moment) }
-        ensures crash { IsStored (S.Store.view self.old.table.store) self.old.bare
-            → LeavesWith (S.Store.recovers self.old.table.store) (S.Store.recovers self.new.table.store)
-            ((S.Store.view self.old.table.store).committed 0) (rows_of self.old.bare.places (parcel.Pulse moment)) }
-        ensures certain { self.new.bare.stopped ≡ true → self.new.in_doubt ≡ false
-            → LeavesNothingNew (S.Store.recovers self.old.table.store) (S.Store.recovers self.new.table.store) }
-        ensures entries { IsStored (S.Store.view self.old.table.store) self.old.bare
-            → HasEntries (S.Store.view self.old.table.store) self.old.bare self.old.counts
-            → HasEntries (S.Store.view self.new.table.store) self.new.bare self.new.counts }
-        ensures openable { IsStored (S.Store.view self.old.table.store) self.old.bare
-            → HasEntries (S.Store.view self.old.table.store) self.old.bare self.old.counts
-            → CanBeOpened (S.Store.recovers self.old.table.store) → CanBeOpened (S.Store.recovers self.new.table.store) }
-        ensures stays { self.old.bare.stopped ≡ true → self.new ≡ self.old }
-        ensures applying { Applying (IsWithJournal self.old.bare) (parcel.Pulse moment) result (IsWithJournal self.new.bare) }
-        ensures says { self.new.bare.stopped ≡ false → map group_in (rows_of self.old.bare.places (parcel.Pulse moment)) ≡ groups_of_parcel (parcel.Pulse moment) }
-        ensures clean { doubt (S.Store.view self.old.table.store).is_clean
-            ≤ doubt (S.Store.view self.new.table.store).is_clean }
+        ensures { AppliesInFile S.Store.view S.Store.recovers self.old (parcel.Pulse moment) result self.new }
     {
         let place = self.bare.places();
         if self.bare.stopped() || place >= PLACES_MAX {
             return self.bare.apply_as_refused(Parcel::Pulse(moment));
         }
-        match self.table.put_pulse(place, moment) {
-            Ok(()) => self.follow(Parcel::Pulse(moment)),
-            Err(refused) => self.stop(refused, Parcel::Pulse(moment)),
-        }
+        let counts = self.counts;
+        let stored = self.table.put_pulse(place, moment);
+        self.finish(stored, counts, Parcel::Pulse(moment))
     }
 
     /// Applies one parcel, as `BareLedger::apply` does, after the row that it adds is stored. If that fails, the ledger stops,
@@ -359,31 +295,7 @@ impl<S: Store + Drop> DurableLedger<S> {
     /// can be opened again. A batch with another number stops the ledger, as does one past the last place: nothing is written,
     /// and `fault` has nothing to say.
     pub fn apply(&mut self, parcel: Parcel) -> Outcomes
-        ensures kept { IsStored (S.Store.view self.old.table.store) self.old.bare
-            → IsStored (S.Store.view self.new.table.store) self.new.bare }
-        ensures added { IsStored (S.Store.view self.old.table.store) self.old.bare
-            → IsClean (S.Store.view self.new.table.store) → self.new.bare.stopped ≡ false
-            → (S.Store.view self.new.table.store).committed 0 ≡ (S.Store.view self.old.table.store).committed 0
-            ++ rows_of self.old.bare.places parcel }
-        ensures released { self.new.bare.stopped ≡ false → Applies parcel self.old.bare result self.new.bare }
-        ensures refused { IsStored (S.Store.view self.old.table.store) self.old.bare
-            → IsClean (S.Store.view self.new.table.store) → self.new.bare.stopped ≡ true → result ≡ refusal_of parcel }
-        ensures crash { IsStored (S.Store.view self.old.table.store) self.old.bare
-            → LeavesWith (S.Store.recovers self.old.table.store) (S.Store.recovers self.new.table.store)
-            ((S.Store.view self.old.table.store).committed 0) (rows_of self.old.bare.places parcel) }
-        ensures certain { self.new.bare.stopped ≡ true → self.new.in_doubt ≡ false
-            → LeavesNothingNew (S.Store.recovers self.old.table.store) (S.Store.recovers self.new.table.store) }
-        ensures entries { IsStored (S.Store.view self.old.table.store) self.old.bare
-            → HasEntries (S.Store.view self.old.table.store) self.old.bare self.old.counts
-            → HasEntries (S.Store.view self.new.table.store) self.new.bare self.new.counts }
-        ensures openable { IsStored (S.Store.view self.old.table.store) self.old.bare
-            → HasEntries (S.Store.view self.old.table.store) self.old.bare self.old.counts
-            → CanBeOpened (S.Store.recovers self.old.table.store) → CanBeOpened (S.Store.recovers self.new.table.store) }
-        ensures stays { self.old.bare.stopped ≡ true → self.new ≡ self.old }
-        ensures applying { Applying (IsWithJournal self.old.bare) parcel result (IsWithJournal self.new.bare) }
-        ensures says { self.new.bare.stopped ≡ false → map group_in (rows_of self.old.bare.places parcel) ≡ groups_of_parcel parcel }
-        ensures clean { doubt (S.Store.view self.old.table.store).is_clean
-            ≤ doubt (S.Store.view self.new.table.store).is_clean }
+        ensures { AppliesInFile S.Store.view S.Store.recovers self.old parcel result self.new }
     {
         match parcel {
             Parcel::Batch(batch) => self.apply_batch(batch),

@@ -1,14 +1,16 @@
 //! The table of entries.
 
-ghost use Rattle.std.specs.Prelude.{◌≡◌, ◌⊎◌, ◌<◌, ◌≤◌, [], false, map, IsTrue, IsSome, IfOk, OnOk, IfErr};
+ghost use Rattle.std.specs.Prelude.{◌≡◌, ◌<◌, ◌≤◌, ◌∷◌, [], false, map, IsTrue, IsSome, IfOk, OnOk};
+ghost use Rattle.tb_layout.specs.claim.Events.{Pulse};
 ghost use Rattle.tb_layout.specs.claim.Limits.{clock_max};
 ghost use Rattle.tb_layout.specs.claim.Bounds.{moment_max, places_max};
 ghost use Rattle.tb_work.specs.claim.Packet.{input_of};
 ghost use Rattle.tb_batch.specs.claim.Batch.{AreParts};
-ghost use Rattle.sqlite_trees.specs.Tree.{Trees, rowid};
+ghost use Rattle.sqlite_trees.specs.Tree.{rowid};
 ghost use Rattle.sqlite_trees.specs.View.{IsClean, doubt, is_int, Advances};
 ghost use Rattle.tb_durable.specs.claim.Rows.{jobs_row, pulse_row, settings_row, group_in};
-ghost use Rattle.tb_durable.specs.claim.Durable.{Adds, IsAdded, IsReading, LeavesNothingNew};
+ghost use Rattle.tb_durable.specs.claim.Durable.{IsReading};
+ghost use Rattle.tb_durable.specs.inside.Storing.{StoresRow};
 
 use crate::rows::{fill_batch, fill_pulse, fill_settings};
 use crate::settings::Settings;
@@ -76,13 +78,7 @@ impl<S: Store> Table<S> {
     /// Puts the row into the table, in a transaction of its own.
     fn commit_row(&mut self) -> Result<(), NotStored>
         requires { IsTrue (is_int (rowid self.old.row)) }
-        ensures ok { OnOk result (IsClean (S.Store.view self.new.store)
-            → Adds (S.Store.view self.old.store) (S.Store.view self.new.store) self.old.row) }
-        ensures crash { (db : Trees) → S.Store.recovers self.new.store db
-            → S.Store.recovers self.old.store db ⊎ IsAdded (S.Store.view self.old.store) self.old.row db }
-        ensures refused { IfErr result (λ error. error.in_doubt ≡ false
-            → LeavesNothingNew (S.Store.recovers self.old.store) (S.Store.recovers self.new.store)) }
-        ensures clean { doubt (S.Store.view self.old.store).is_clean ≤ doubt (S.Store.view self.new.store).is_clean }
+        ensures { StoresRow S.Store.view S.Store.recovers self.old.store self.old.row result self.new.store }
     {
         if self.store.shape(ENTRIES) != Shape::Table {
             return Err(NotStored {
@@ -110,14 +106,9 @@ impl<S: Store> Table<S> {
     pub(crate) fn put_batch(&mut self, place: u64, parts: &Parts) -> Result<(), NotStored>
         requires place { place < places_max }
         requires parts { AreParts parts.now }
-        ensures ok { OnOk result (IsClean (S.Store.view self.new.store)
-            → Adds (S.Store.view self.old.store) (S.Store.view self.new.store) (jobs_row place parts.now.jobs.items)) }
+        ensures stores { StoresRow S.Store.view S.Store.recovers self.old.store (jobs_row place parts.now.jobs.items)
+            result self.new.store }
         ensures read_back { OnOk result (group_in (jobs_row place parts.now.jobs.items) ≡ map input_of parts.now.jobs.items) }
-        ensures crash { (db : Trees) → S.Store.recovers self.new.store db → S.Store.recovers self.old.store db
-            ⊎ IsAdded (S.Store.view self.old.store) (jobs_row place parts.now.jobs.items) db }
-        ensures refused { IfErr result (λ error. error.in_doubt ≡ false
-            → LeavesNothingNew (S.Store.recovers self.old.store) (S.Store.recovers self.new.store)) }
-        ensures clean { doubt (S.Store.view self.old.store).is_clean ≤ doubt (S.Store.view self.new.store).is_clean }
     {
         if fill_batch(self.alloc, &mut self.row, place, parts).is_err() {
             return Err(no_memory());
@@ -128,14 +119,9 @@ impl<S: Store> Table<S> {
     /// Stores a pulse.
     pub(crate) fn put_pulse(&mut self, place: u64, moment: Moment) -> Result<(), NotStored>
         requires { place < places_max }
-        ensures ok { OnOk result (IsClean (S.Store.view self.new.store) → Adds (S.Store.view self.old.store) (S.Store.view self.new.store)
-            (pulse_row place moment)) }
+        ensures stores { StoresRow S.Store.view S.Store.recovers self.old.store (pulse_row place moment) result self.new.store }
+        ensures read_back { OnOk result (group_in (pulse_row place moment) ≡ Pulse moment ∷ []) }
         ensures bound { moment ≤ moment_max }
-        ensures crash { (db : Trees) → S.Store.recovers self.new.store db → S.Store.recovers self.old.store db
-            ⊎ IsAdded (S.Store.view self.old.store) (pulse_row place moment) db }
-        ensures refused { IfErr result (λ error. error.in_doubt ≡ false
-            → LeavesNothingNew (S.Store.recovers self.old.store) (S.Store.recovers self.new.store)) }
-        ensures clean { doubt (S.Store.view self.old.store).is_clean ≤ doubt (S.Store.view self.new.store).is_clean }
     {
         if fill_pulse(&mut self.row, place, moment).is_err() {
             return Err(no_memory());
@@ -146,9 +132,7 @@ impl<S: Store> Table<S> {
     /// Stores the settings.
     pub(crate) fn put_settings(&mut self, settings: Settings) -> Result<(), NotStored>
         requires { settings.clock ≤ clock_max }
-        ensures ok { OnOk result (IsClean (S.Store.view self.new.store)
-            → Adds (S.Store.view self.old.store) (S.Store.view self.new.store) (settings_row settings)) }
-        ensures clean { doubt (S.Store.view self.old.store).is_clean ≤ doubt (S.Store.view self.new.store).is_clean }
+        ensures { StoresRow S.Store.view S.Store.recovers self.old.store (settings_row settings) result self.new.store }
     {
         if fill_settings(&mut self.row, settings).is_err() {
             return Err(no_memory());

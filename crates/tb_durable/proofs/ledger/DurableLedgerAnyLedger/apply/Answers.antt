@@ -32,7 +32,7 @@ returns g c = record {
                 ∙ ap (λ groups. groups ++ map group_in (rows_of before.places c.args.parcel)) (was.kept.rows (clean_before clean) went)
                 ∙ ap (λ groups. old.groups ++ groups) (said.says goes)
                 ∙ sym (grew c.args.parcel old made.0 c.apply.result made.2.refused made.2.step
-                (ap (λ (l : LedgerState). l.stopped) made.1.same ∙ goes));
+                (ap (λ (l : LedgerState). l.stopped) made.1.same ∙ goes)).0;
           };
           entries = said.entries was.kept.stored was.entries;
           openable = λ clean. said.openable was.kept.stored was.entries (was.openable (clean_before clean));
