@@ -1,5 +1,5 @@
 -- What a parcel does to a ledger in a file: its row is put, and then it is applied, or the ledger stops.
-use Rattle.std.proofs.Common.{◌≡◌, ◌⊎◌, ◌<◌, ◌∙◌, ℕ, pos, true, false, List, [], ◌∷◌, ◌++◌, sym, ap, subst, arith, length, map}
+use Rattle.std.proofs.Common.{◌≡◌, ◌⊎◌, ◌<◌, ◌∙◌, pos, true, false, List, [], ◌∷◌, ◌++◌, sym, ap, subst, arith, length, map}
 use Rattle.tb_durable.proofs.Words.{OnOk, Result, Ok, Err, Int, Row, Trees, rowid, View, IsClean, Input, Outcomes, BareLedgerState, PacketCounts, IsAdded, IsStored, LeavesWith, groups_of_parcel, rows_of, IsEntryRow, group_in}
 use Rattle.tb_core.specs.declared.parcel.Parcel.{Parcel}
 use Rattle.tb_core.specs.claim.BareLedger.{after_refusal}

@@ -1,5 +1,4 @@
-use Rattle.std.proofs.Common.{◌⊎◌, inl, inr, rules}
-use Rattle.tb_durable.proofs.Words.{Trees, IsAdded}
+use Rattle.std.proofs.Common.{inl, inr, rules}
 use Rattle.tb_durable.proofs.StoreLemmas.{added}
 use Rattle.tb_durable.proofs.table.Table.commit_row.Goals as goal
 
