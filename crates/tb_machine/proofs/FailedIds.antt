@@ -1,6 +1,6 @@
 -- A transient code is only that of an event whose id isn't among those that failed.
 use Rattle.std.proofs.Common.{refl, ◌≡◌, ℕ, Bool, true, false, not, List, [], ◌∷◌, ◌+◌, Option, Some, None}
-use Rattle.tb_machine.proofs.Words.{◌&&◌, if◌then◌else◌, list_all, Transfer, TransferCode, Exists, IdAlreadyFailed, FlagsAreMutuallyExclusive, number_of, is_resolving, Facts, transfer_with, is_failed, first_row, is_transient, transfers_operation, event_checks, stored_checks, against_id, new_id_verdict, resolving_verdict, moving_verdict, resolved_transfer_of, has_exclusive_flags, nat_lt, clock_max, clock_exhausted, verdict_after}
+use Rattle.tb_machine.proofs.Words.{◌&&◌, if◌then◌else◌, list_all, Transfer, TransferCode, Exists, IdAlreadyFailed, FlagsAreMutuallyExclusive, number_of, is_resolving, Facts, transfer_with, is_failed, first_row, is_transient, transfers_operation, event_checks, stored_checks, against_id, new_id_verdict, resolving_verdict, creating_verdict, resolved_transfer_of, has_exclusive_flags, nat_lt, clock_max, clock_exhausted, verdict_after}
 
 -- no code of the table is transient
 abbrev lasts : List (Bool × TransferCode) → Bool
@@ -29,7 +29,7 @@ new_id facts timestamp event is = by (is_failed facts event.id) is
     by : (failed : Bool) → is_transient (number_of (if failed then IdAlreadyFailed
         else if has_exclusive_flags event then FlagsAreMutuallyExclusive
         else if is_resolving event then resolving_verdict facts timestamp event
-        else moving_verdict facts timestamp event)) ≡ true → failed ≡ false
+        else creating_verdict facts timestamp event)) ≡ true → failed ≡ false
     by true is = cc
     by false is = refl
 

@@ -1,6 +1,6 @@
 -- An event whose checks find nothing may be stored.
 use Rattle.std.proofs.Common.{refl, sym, ap, subst, ◌∙◌, arith, ◌≡◌, ℕ, ◌+◌, ◌*◌, ◌<◌, ◌≤◌, ◌^◌, Bool, true, false, not, List, [], ◌∷◌, Option, Some, None}
-use Rattle.tb_machine.proofs.Words.{◌==◌, ◌&&◌, ◌||◌, nat_lt, IsSome, if◌then◌else◌, AllByRecursion, list_all, option_map, eqb-true, nat_tests, Account, Transfer, TransferCode, Ok, number_of, is_pending, is_post, is_void, is_resolving, Facts, account_with, transfer_with, is_expired, balanced_account, with_balances, debits, credits, Pending, Posted, Voided, Expired, MayAdd, MayResolve, clock_max, nanoseconds_per_second, u128_max, first_row, new_id_verdict, new_id_checks, resolving_checks, resolving_verdict, against_named, pending_checks, status_checks, moving_checks, moving_verdict, against_accounts, balance_checks, resolved_transfer, resolved_transfer_of, stored_transfer, has_exclusive_flags}
+use Rattle.tb_machine.proofs.Words.{◌==◌, ◌&&◌, ◌||◌, nat_lt, IsSome, if◌then◌else◌, AllByRecursion, list_all, option_map, eqb-true, nat_tests, Account, Transfer, TransferCode, Ok, number_of, is_pending, is_post, is_void, is_resolving, Facts, account_with, transfer_with, is_expired, balanced_account, with_balances, debits, credits, Pending, Posted, Voided, Expired, MayAdd, MayResolve, clock_max, nanoseconds_per_second, u128_max, first_row, new_id_verdict, new_id_checks, resolving_checks, resolving_verdict, against_named, pending_checks, status_checks, creating_checks, creating_verdict, against_accounts, balance_checks, resolved_transfer, resolved_transfer_of, stored_transfer, has_exclusive_flags}
 use Rattle.tb_tables.specs.clauses.Indices.{IsIndexOf}
 use Rattle.tb_tables.specs.claim.Status.{is_named_by, status_of, is_due, expires_at}
 use Rattle.tb_tables.proofs.FoundById.{found-id}
@@ -47,13 +47,13 @@ not_not false h = cc
 record IsFine (facts : Facts) (timestamp : ℕ) (event : Transfer) : Type 0 where
   apart : has_exclusive_flags event ≡ false
   rest : number_of (if is_resolving event then resolving_verdict facts timestamp event
-      else moving_verdict facts timestamp event) ≡ 0
+      else creating_verdict facts timestamp event) ≡ 0
 
 fine : (facts : Facts) (timestamp : ℕ) (event : Transfer)
     → number_of (new_id_verdict facts timestamp event) ≡ 0 → IsFine facts timestamp event
 fine facts timestamp event ok =
     let p = passes (new_id_checks facts event) (if is_resolving event then resolving_verdict facts timestamp event
-    else moving_verdict facts timestamp event) refl ok in
+    else creating_verdict facts timestamp event) refl ok in
     record { apart = p.none.1.0; rest = p.rest }
 
 -- ---- a plain or pending transfer
@@ -68,10 +68,10 @@ record IsBetween (facts : Facts) (timestamp : ℕ) (event : Transfer) : Type 0 w
       (balance_checks timestamp (with_balances facts debit) (with_balances facts credit) event)
 
 is_between : (facts : Facts) (timestamp : ℕ) (event : Transfer)
-    → number_of (moving_verdict facts timestamp event) ≡ 0 → IsBetween facts timestamp event
+    → number_of (creating_verdict facts timestamp event) ≡ 0 → IsBetween facts timestamp event
 is_between facts timestamp event ok =
     by (account_with facts event.debit_account_id) (account_with facts event.credit_account_id) refl refl
-    (passes (moving_checks event) (first_row (against_accounts facts timestamp
+    (passes (creating_checks event) (first_row (against_accounts facts timestamp
     (balanced_account facts event.debit_account_id) (balanced_account facts event.credit_account_id) event) Ok) refl ok).rest
   where
     by : (debit credit : Option Account) → account_with facts event.debit_account_id ≡ debit
@@ -118,7 +118,7 @@ stands_between : (facts : Facts) (timestamp : ℕ) (event : Transfer)
 stands_between facts timestamp event ok plain =
     is_between facts timestamp event
     (sym (ap (λ b. number_of (if b then resolving_verdict facts timestamp event
-    else moving_verdict facts timestamp event)) plain) ∙ (fine facts timestamp event ok).rest)
+    else creating_verdict facts timestamp event)) plain) ∙ (fine facts timestamp event ok).rest)
 
 -- so that each has an index
 pub has_debit : (facts : Facts) (timestamp : ℕ) (event : Transfer)
@@ -247,7 +247,7 @@ may_resolve facts timestamp event ok resolves =
     let id = fine facts timestamp event ok in
     let verdict : number_of (resolving_verdict facts timestamp event) ≡ 0 =
     sym (ap (λ b. number_of (if b then resolving_verdict facts timestamp event
-    else moving_verdict facts timestamp event)) resolves) ∙ id.rest in
+    else creating_verdict facts timestamp event)) resolves) ∙ id.rest in
     let one = names facts timestamp event verdict in
     let kind = post_or_void (is_pending event) (is_post event) (is_void event) id.apart resolves in
     let pending_id = found-id (λ (transfer : Transfer). transfer.id) event.pending_id facts.transfers

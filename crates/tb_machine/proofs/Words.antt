@@ -20,7 +20,7 @@ pub use Rattle.tb_machine.specs.claim.Chain.{Operation, failures_from, clock_aft
 pub use Rattle.tb_machine.specs.claim.Checks.{first_row, u128_max}
 pub use Rattle.tb_machine.specs.claim.Operations.{is_transient, transfers_operation, accounts_operation}
 pub use Rattle.tb_machine.specs.claim.Replay.{replay, failures_of, State, results_of, after_packet, accounts_found}
-pub use Rattle.tb_machine.specs.claim.TransferVerdict.{event_checks, stored_checks, against_id, new_id_verdict, resolving_verdict, moving_verdict, resolved_transfer_of, has_exclusive_flags, new_id_checks, resolving_checks, against_named, pending_checks, status_checks, moving_checks, against_accounts, balance_checks, resolved_transfer, stored_transfer}
+pub use Rattle.tb_machine.specs.claim.TransferVerdict.{event_checks, stored_checks, against_id, new_id_verdict, resolving_verdict, creating_verdict, resolved_transfer_of, has_exclusive_flags, new_id_checks, resolving_checks, against_named, pending_checks, status_checks, creating_checks, against_accounts, balance_checks, resolved_transfer, stored_transfer}
 pub use Rattle.tb_machine.specs.declared.fault.ChainFault.{ChainFault}
 pub use Rattle.tb_machine.specs.inside.Examining.{LiesBelow, fault_as, first_chain_length, then_results, after_results}
 pub use Rattle.tb_machine.specs.inside.Committing.{Continues, HasCommitted}

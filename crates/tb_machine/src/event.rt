@@ -21,7 +21,7 @@ use crate::account_verdict::{account_verdict, new_account_verdict};
 use crate::prefetch::{Sides, Target};
 use crate::resolved::is_resolving;
 use crate::transfer_verdict::{
-    new_moving_verdict, new_resolving, stored_transfer_verdict, transfer_fault,
+    new_creating_verdict, new_resolving, stored_transfer_verdict, transfer_fault,
 };
 use tb_layout::{
     Account, NoMemory, Transfer, TransferCode, is_chunk_linked, read_account, read_transfer,
@@ -277,7 +277,7 @@ fn try_store_between(
         (add_transfer tables.old.now (stored_transfer tables.old.now timestamp event.now)) }
     ensures same { result ≢ Ok 0 → tables.new ≡ tables.old }
 {
-    let code = new_moving_verdict(tables, sides, timestamp, event);
+    let code = new_creating_verdict(tables, sides, timestamp, event);
     if code.number() == 0 && store_new(tables, sides, timestamp, event)? {
         return Ok(0);
     }

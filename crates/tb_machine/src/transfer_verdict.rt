@@ -13,7 +13,7 @@ ghost use Rattle.tb_machine.specs.claim.Checks.{first_row};
 ghost use Rattle.tb_machine.specs.inside.Prefetch.{IsTarget};
 ghost use Rattle.tb_machine.specs.declared.prefetch.Target.TheVariants.{Between, Named};
 
-use crate::moving_verdict::moving_verdict;
+use crate::creating_verdict::creating_verdict;
 use crate::prefetch::Sides;
 use crate::resolved::{is_resolving, resolved_against};
 use crate::resolving_verdict::resolve;
@@ -160,7 +160,7 @@ fn new_id_fault(tables: &Tables, event: &Transfer) -> Option<TransferCode>
 /// Returns the first check that a plain or pending transfer fails, or Ok, if its id is that of no transfer and it passes
 /// the checks of any event. Its accounts were looked up before.
 #[inline(always)]
-pub(crate) fn new_moving_verdict(
+pub(crate) fn new_creating_verdict(
     tables: &Tables,
     sides: Sides,
     timestamp: u64,
@@ -172,7 +172,7 @@ pub(crate) fn new_moving_verdict(
     if let Some(code) = new_id_fault(tables, event) {
         return code;
     }
-    moving_verdict(tables, sides, timestamp, event)
+    creating_verdict(tables, sides, timestamp, event)
 }
 
 /// Returns a post or a void as it is stored, or the first check that it fails, if its id is that of no transfer. It

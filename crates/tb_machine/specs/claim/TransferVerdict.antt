@@ -109,8 +109,8 @@ status_checks facts timestamp pending =
 
 -- ---- a plain or pending transfer
 
-abbrev pub moving_checks : Transfer → List (Bool × TransferCode)
-moving_checks event =
+abbrev pub creating_checks : Transfer → List (Bool × TransferCode)
+creating_checks event =
     (event.debit_account_id == 0, DebitAccountIdMustNotBeZero) ∷
     (event.debit_account_id == u128_max, DebitAccountIdMustNotBeIntMax) ∷
     (event.credit_account_id == 0, CreditAccountIdMustNotBeZero) ∷
@@ -160,15 +160,15 @@ module _ (facts : Facts) (timestamp : ℕ) where
   against_accounts (Some debit) None event = (true, CreditAccountNotFound) ∷ []
   against_accounts (Some debit) (Some credit) event = balance_checks timestamp debit credit event
 
-  abbrev pub moving_verdict : Transfer → TransferCode
-  moving_verdict event =
-      first_row (moving_checks event ++ against_accounts (balanced_account facts event.debit_account_id)
+  abbrev pub creating_verdict : Transfer → TransferCode
+  creating_verdict event =
+      first_row (creating_checks event ++ against_accounts (balanced_account facts event.debit_account_id)
       (balanced_account facts event.credit_account_id) event) Ok
 
   abbrev pub new_id_verdict : Transfer → TransferCode
   new_id_verdict event =
       first_row (new_id_checks facts event)
-      (if is_resolving event then resolving_verdict event else moving_verdict event)
+      (if is_resolving event then resolving_verdict event else creating_verdict event)
 
   abbrev pub against_id : Option Transfer → Transfer → TransferCode
   against_id (Some stored) event =

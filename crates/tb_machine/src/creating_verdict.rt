@@ -126,14 +126,14 @@ fn check_accounts_found(
 
 /// Returns the first check that a plain or pending transfer fails, or Ok.
 #[inline(always)]
-pub(crate) fn moving_verdict(
+pub(crate) fn creating_verdict(
     tables: &Tables,
     sides: Sides,
     timestamp: u64,
     event: &Transfer,
 ) -> TransferCode
     requires { AreSides tables.now.now event.now sides }
-    ensures { result ≡ spec.moving_verdict tables.now.now timestamp event.now }
+    ensures { result ≡ spec.creating_verdict tables.now.now timestamp event.now }
 {
     if event.debit_account_id == 0 {
         return TransferCode::DebitAccountIdMustNotBeZero;
