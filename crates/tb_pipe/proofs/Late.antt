@@ -75,7 +75,7 @@ module _ (limit : ℕ) (Empty : List Parcel → Type 0) where
   late_other xs x other late =
       late_more xs x late (λ next is. absurd (true≢false (sym (ap is_batch is) ∙ other)))
 
-  -- a parcel that is none is no batch at the end
+  -- parcels whose last one is no batch don't end in a batch
   other_last : (xs : List Parcel) (x : Parcel) → is_batch x ≡ false → (before : List Parcel) (group : List Numbered)
       → xs ++ x ∷ [] ≡ before ++ parcel.Batch group ∷ [] → ⊥
   other_last xs x other before group is =

@@ -41,9 +41,9 @@ pub record IsServedOf {L : Type 0} (is : L → LedgerState → Type 0) (stages :
   pub start : (served_of remains).start ≡ (pipeline_of stages).start
   pub submitters : (served_of remains).submitters ≡ (pipeline_of stages).submitters
 
-pub served_is : {L : Type 0} (may_be : L → LedgerState → Type 0) (stages : Stages L) (remains : StoppedStages L)
+pub served_is : {L : Type 0} {may_be : L → LedgerState → Type 0} {stages : Stages L} {remains : StoppedStages L}
     → IsPipeline may_be stages → HaveServed may_be stages remains → IsServedOf may_be stages remains
-served_is {L = L} may_be stages remains is served =
+served_is {L = L} {may_be = may_be} {stages = stages} {remains = remains} is served =
     let same = served.intake in
     record {
       served = record {

@@ -30,6 +30,5 @@ module _ {L : Type 0} {served : ServedState L} {ends : List EndedState} {control
       let seen : has_seen driver limit (jobs_in before.queued) before.read =
       subst (λ n. has_seen driver n (jobs_in before.queued) before.read)
       (ap (λ (seat : Seat). seat.limit) (settled.seats k ended within)) (have k driver before driver_is before_is) in
-      subst (λ items. has_seen driver limit (jobs_in items) ended.read)
-      (sym (queued_by_end ends control k before before_is))
+      rw (queued_by_end ends control k before before_is)
       (subst (λ r. has_seen driver limit (jobs_in before.queued) r) read seen)

@@ -16,9 +16,7 @@ returns-clause-seats c =
 
 pub invariant_of-result : goal.invariant_of-result
 invariant_of-result c =
-    let intake = c.in_ok-ends.ends.intake in
     let intake_is = c.in_ok-ends.ensures.intake in
-    let front = c.in-Ok.front in
     let front_is = c.in-Ok.ensures.front in
     let empty = c.in-Some.ensures.empty in
     record {

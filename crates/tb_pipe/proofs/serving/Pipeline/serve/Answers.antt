@@ -5,9 +5,7 @@ use Rattle.tb_pipe.proofs.serving.Pipeline.serve.Goals as goal
 
 pub returns-in-Ok-clause-submitters : goal.returns-in-Ok-clause-submitters
 returns-in-Ok-clause-submitters g c =
-    (served_is g.L.AnyLedger.is c.self.inside.stages c.in-Ok.remains c.self.invariant c.in-Ok.ensures.1.0).submitters
-    ∙ ap (λ (p : PipelineState _). p.submitters) c.self.view_is
+    (served_is c.self.invariant c.in-Ok.ensures.1.0).submitters ∙ ap (λ (p : PipelineState _). p.submitters) c.self.view_is
 
 pub invariant_of-result : goal.invariant_of-result
-invariant_of-result g c =
-    (served_is g.L.AnyLedger.is c.self.inside.stages c.in-Ok.remains c.self.invariant c.in-Ok.ensures.1.0).served
+invariant_of-result g c = (served_is c.self.invariant c.in-Ok.ensures.1.0).served
