@@ -2,6 +2,7 @@
 use Rattle.std.proofs.Common.{◌≡◌, suc, ◌<◌, ◌+◌, ◌*◌, ◌^◌, ◌/◌, ◌%◌, ℕ, Bool, true, false, List, [], ◌∷◌, Option, Some, None, refl, sym, ap, ◌∙◌, arith, length, length-append, map, drop}
 use Rattle.tb_durable.proofs.Words.{◌==◌, ◌&&◌, ◌||◌, IsSome, get_or, nat_lt, slice_index_or, if◌then◌else◌, flat_map, AllByRecursion, and_parts, ltb-true, drop_at, drop_more, take_at, Stub, event_size, Numbered, stub_of, admitted_are_whole, AreAdmitted, PacketCounts, counted, follows, stub_at, stub_bytes, stub_in, stubs_bytes, stubs_in, word_of}
 use Rattle.std.specs.Simd.{first_chunks}
+use Rattle.tb_layout.specs.claim.Bounds.{submitters_max}
 use Rattle.tb_layout.proofs.Numbers.{length-bytes_of, little_endian-bytes_of}
 use Rattle.tb_durable.specs.clauses.Counts.{counted_all}
 
@@ -83,7 +84,7 @@ counted_in_range before after [] all is = tt
 counted_in_range before after (job ∷ jobs) all is =
     let stub = stub_of job in
     let first = counted_first before after stub (map stub_of jobs) is in
-    let among = and_parts (nat_lt stub.submitter 16)
+    let among = and_parts (nat_lt stub.submitter submitters_max)
     ((stub.number == 0 || stub.number == slice_index_or before.numbers stub.submitter 0)
     && (nat_lt (stub.number + 1) (2 ^ 64) && nat_lt (slice_index_or before.packets stub.submitter 0 + 1) (2 ^ 64))) first.0 in
     let bounds = and_parts (nat_lt (stub.number + 1) (2 ^ 64)) (nat_lt (slice_index_or before.packets stub.submitter 0 + 1) (2 ^ 64))
@@ -92,7 +93,7 @@ counted_in_range before after (job ∷ jobs) all is =
     let whole = admitted_are_whole 8190 job.packet.bytes (event_size job.packet.operation) all.0 in (
       record {
         number = omega (arith, ltb-true (stub.number + 1) (2 ^ 64) bounds.0);
-        submitter = omega (arith, ltb-true stub.submitter 16 among.0);
+        submitter = omega (arith, ltb-true stub.submitter submitters_max among.0);
         count = omega (arith, whole.few);
       },
       counted_in_range (counted before stub) after jobs all.1 first.1,

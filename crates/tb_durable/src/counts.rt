@@ -3,13 +3,14 @@
 ghost use Rattle.std.specs.Prelude.{◌≡◌, Some, None, IfSome, IfNone};
 ghost use Rattle.std.specs.Option.{is_some};
 
+use tb_layout::SUBMITTERS_LENGTH;
 use tb_work::Stub;
 
 /// For each submitter how many of its packets are stored, and the number of its next packet if it goes on in the same run.
 #[derive(Clone, Copy, Drop)]
 pub(crate) struct PacketCounts {
-    pub(crate) packets: [u64; 16],
-    pub(crate) numbers: [u64; 16],
+    pub(crate) packets: [u64; SUBMITTERS_LENGTH],
+    pub(crate) numbers: [u64; SUBMITTERS_LENGTH],
 }
 
 impl PacketCounts {
@@ -20,8 +21,8 @@ impl PacketCounts {
         ensures { result ≡ no_packets }
     {
         PacketCounts {
-            packets: [0; 16],
-            numbers: [0; 16],
+            packets: [0; SUBMITTERS_LENGTH],
+            numbers: [0; SUBMITTERS_LENGTH],
         }
     }
 
@@ -33,7 +34,9 @@ impl PacketCounts {
         ensures same { IfNone result (self.new ≡ self.old) }
     {
         let submitter = stub.submitter as usize;
-        if submitter >= 16 || (stub.number != 0 && stub.number != self.numbers[submitter]) {
+        if submitter >= SUBMITTERS_LENGTH
+            || (stub.number != 0 && stub.number != self.numbers[submitter])
+        {
             return None;
         }
         let number = stub.number.checked_add(1)?;

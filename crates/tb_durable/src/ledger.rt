@@ -21,7 +21,9 @@ use sqlite_value::row::Row;
 use std::alloc::Global;
 use tb_batch::{Batch, Parts};
 use tb_core::{AnyLedger, BareLedger, Outcomes, Parcel, Seed};
-use tb_layout::{CREATE_ACCOUNTS, CREATE_TRANSFERS, NoMemory, PLACES_MAX};
+use tb_layout::{
+    CREATE_ACCOUNTS, CREATE_TRANSFERS, EVENT_SIZE, NoMemory, PLACES_MAX, SUBMITTERS_LENGTH,
+};
 use tb_machine::Machine;
 use tb_work::Moment;
 
@@ -55,7 +57,7 @@ impl<S: Store + Drop> Drop for DurableLedger<S> {
 fn reserve_for(bare: &mut BareLedger, parts: &Parts) -> Result<(), NoMemory>
     ensures { bare.new ≡ bare.old }
 {
-    let events = parts.body.len() / 128;
+    let events = parts.body.len() / EVENT_SIZE;
     match parts.operation {
         CREATE_ACCOUNTS => bare.reserve(events, 0),
         CREATE_TRANSFERS => bare.reserve(0, events),
@@ -162,14 +164,14 @@ impl<S: Store + Drop> DurableLedger<S> {
 
     /// Returns how many packets of each submitter are stored, of all runs. A submitter with a fixed list of packets continues after as many.
     /// After a stop with `in_doubt` the last batch may be stored and isn't counted: open the file again first.
-    pub fn packets(&self) -> [u64; 16]
+    pub fn packets(&self) -> [u64; SUBMITTERS_LENGTH]
         ensures { result ≡ self.now.counts.packets }
     {
         self.counts.packets
     }
 
     /// Returns the number of each submitter's next packet if the last run is continued. A new run, as of a pipeline, numbers them from 0.
-    pub fn numbers(&self) -> [u64; 16]
+    pub fn numbers(&self) -> [u64; SUBMITTERS_LENGTH]
         ensures { result ≡ self.now.counts.numbers }
     {
         self.counts.numbers

@@ -28,7 +28,9 @@ use sqlite_value::row::Row;
 use std::alloc::Global;
 use tb_batch::{Batch, Batcher, Offered};
 use tb_core::{BareLedger, Parcel};
-use tb_layout::{BATCH_MAX, CREATE_ACCOUNTS, CREATE_TRANSFERS, LOOKUP_ACCOUNTS, MOMENT_MAX};
+use tb_layout::{
+    BATCH_MAX, CREATE_ACCOUNTS, CREATE_TRANSFERS, EVENT_SIZE, ID_SIZE, LOOKUP_ACCOUNTS, MOMENT_MAX,
+};
 use tb_work::{Bytes, Job, Moment, Packet, Refusal, Stub};
 
 /// A ledger that has applied some rows, and how many packets of each submitter are in them.
@@ -66,9 +68,9 @@ fn event_size(operation: u8) -> Option<usize>
     ensures exact { result ≡ spec.event_size operation }
 {
     if operation == CREATE_ACCOUNTS || operation == CREATE_TRANSFERS {
-        Some(128)
+        Some(EVENT_SIZE)
     } else if operation == LOOKUP_ACCOUNTS {
-        Some(16)
+        Some(ID_SIZE)
     } else {
         None
     }
