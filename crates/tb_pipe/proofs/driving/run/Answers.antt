@@ -1,5 +1,5 @@
 use Rattle.std.proofs.Common.{refl, rules, ◌≡◌, ◌∙◌, ◌++◌, map, length, ap, sym}
-use Rattle.tb_pipe.proofs.Words.{length-map, task_origin, task_submitter, run_of, IntakeState, SenderState, end_origin, origin_of, queued_by}
+use Rattle.tb_pipe.proofs.Words.{length-map, task_origin, task_submitter, run_of, end_origin, origin_of, queued_by}
 use Rattle.std.proofs.lemmas.Simd.{map-map}
 use Rattle.tb_drive.specs.clauses.Plan.{with_items}
 use Rattle.tb_pipe.proofs.Control.{queued_by_control}
@@ -16,7 +16,6 @@ pub returns : goal.returns
 returns g c =
     let tasks = c.args.tasks.submitters in
     let before = map task_submitter tasks in
-    let task = c.args.tasks.control in
     let served = c.in-Ok.served in
     let joined = c.in_ok-ends.field-0 in
     let ends = joined.ends.items in
@@ -30,12 +29,9 @@ returns g c =
     let same : map task_origin tasks ≡ map origin_of before = sym (map-map origin_of task_submitter tasks) in
     let own : map end_origin ends ≡ served.submitters =
     results.own ∙ same ∙ c.requires.0 ∙ sym c.in-Ok.ensures.submitters in
-    let intake : served.intake ≡ record c.args.pipeline.intake {
-      taken = served.intake.taken;
-      seen_empty = served.intake.seen_empty;
-    } = c.in-Ok.ensures.intake in
-    let number : length served.submitters ≡ served.intake.submitters = ap length c.in-Ok.ensures.submitters
-    ∙ c.requires.2 ∙ sym (ap (λ (intake : IntakeState). intake.submitters) intake) in
+    let intake = c.in-Ok.ensures.intake in
+    let number : length served.submitters ≡ served.intake.submitters =
+    rw (c.in-Ok.ensures.submitters, intake) c.requires.2 in
     let long : length ends ≡ served.intake.submitters =
     sym (length-map ends end_origin) ∙ ap length own ∙ number in
     let copied : ends ≡ c.of-unsettled.result.value.items = search rules in
@@ -49,7 +45,7 @@ returns g c =
           let run = run_of served.intake ends end start ledger last in
           let limit : served.intake.limit ≡ opened.pipeline.intake.limit = rw (is.0, intake) refl in
           let after : end ≡ with_items opened.control control.0 = rw is.2 control.1 in
-          let queued : end.queued ≡ opened.control.queued ++ control.0 = ap (λ (sender : SenderState). sender.queued) after in (
+          let queued : end.queued ≡ opened.control.queued ++ control.0 = rw after refl in (
             ledger,
             report.1,
             record {
