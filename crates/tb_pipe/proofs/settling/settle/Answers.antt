@@ -1,5 +1,5 @@
-use Rattle.std.proofs.Common.{refl, subst}
-use Rattle.tb_pipe.proofs.Words.{LedgerState, IsReport, run_of}
+use Rattle.std.proofs.Common.{refl}
+use Rattle.tb_pipe.proofs.Words.{IsReport, run_of}
 use Rattle.tb_pipe.proofs.settling.settle.Goals as goal
 
 -- a `Ledger` is only itself
@@ -7,10 +7,7 @@ reported : (c : goal.After-settle_over) → IsReport (run_of c.args.served.intak
     c.args.served.start c.settle_over.result.ledger c.settle_over.result.ends.items) c.args.served.start
     c.args.served.intake.limit c.args.control.queued
 reported c =
-    let said = c.settle_over.ensures.report c.args.served.start refl in
-    subst (λ (ledger : LedgerState). IsReport (run_of c.args.served.intake c.args.ends.items c.args.control
-    c.args.served.start ledger c.settle_over.result.ends.items) c.args.served.start c.args.served.intake.limit
-    c.args.control.queued) said.1 said.2
+    let said = c.settle_over.ensures.report c.args.served.start refl in rw (← said.1) said.2
 
 pub returns-clause-report : goal.returns-clause-report
 returns-clause-report c = (reported c).lawful
