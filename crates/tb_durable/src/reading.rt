@@ -6,7 +6,7 @@ ghost use Rattle.sqlite_trees.specs.Tree.{Trees};
 ghost use Rattle.sqlite_trees.specs.View.{IsClean, doubt};
 ghost use Rattle.tb_durable.specs.claim.Rows.{settings_row};
 ghost use Rattle.tb_durable.specs.claim.Durable.{HasJournal, IsAdded, IsReading, IsReplaying, IsSettled, IsStored, IsJournal, IsFirst, LeavesNothingNew, opened_rows};
-ghost use Rattle.tb_durable.specs.clauses.Entries.{HasReadFile, IsFailure, IsFirstRow, IsHalfway, IsLedgerFile, LeavesSettings};
+ghost use Rattle.tb_durable.specs.clauses.Entries.{CanBeOpened, HasReadFile, IsFailure, IsFirstRow, IsHalfway, IsLedgerFile, LeavesSettings};
 ghost use Rattle.tb_durable.specs.clauses.Faults.{IsCause, IsFirstFault};
 ghost use Rattle.tb_durable.specs.declared.counts.PacketCounts.{PacketCounts as Counts};
 ghost use Rattle.sqlite_value.specs.Order.{Row};
@@ -217,6 +217,7 @@ pub(crate) fn read_ledger<S: Store>(
         ≡ opened_rows settings ((S.Store.view table.old.store).committed 0)) }
     ensures crash { LeavesSettings (S.Store.recovers table.old.store) (S.Store.recovers table.new.store)
         ((S.Store.view table.old.store).committed 0) settings }
+    ensures openable { CanBeOpened (S.Store.recovers table.old.store) → CanBeOpened (S.Store.recovers table.new.store) }
     ensures clean { doubt (S.Store.view table.old.store).is_clean ≤ doubt (S.Store.view table.new.store).is_clean }
 {
     let alloc = table.alloc;

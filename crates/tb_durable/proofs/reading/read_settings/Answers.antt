@@ -26,18 +26,15 @@ returns-in_err-stored-2-clause-opens g c = λ counts file clean.
 
 pub returns-in_err-write_settings-clause-crash : goal.returns-in_err-write_settings-clause-crash
 returns-in_err-write_settings-clause-crash g c =
-    let found : c.in_ok-read_first.field-0 ≡ false = search rules in
-    settings_left c.args.settings (g.S.Store.view c.args.table.now.store).committed c.read_first.ensures.crash c.in_ok-read_first.ensures.same (c.in_ok-read_first.ensures.none (ap Ok found))
+    settings_left c.args.settings (g.S.Store.view c.args.table.now.store).committed c.read_first.ensures.crash c.in_ok-read_first.ensures.same (c.in_ok-read_first.ensures.none (ap Ok (search rules)))
     c.write_settings.ensures.crash
 
 pub returns-in_err-stored-2-clause-crash : goal.returns-in_err-stored-2-clause-crash
 returns-in_err-stored-2-clause-crash g c =
-    let found : c.in_ok-read_first.field-0 ≡ false = search rules in
-    settings_left c.args.settings (g.S.Store.view c.args.table.now.store).committed c.read_first.ensures.crash c.in_ok-read_first.ensures.same (c.in_ok-read_first.ensures.none (ap Ok found))
+    settings_left c.args.settings (g.S.Store.view c.args.table.now.store).committed c.read_first.ensures.crash c.in_ok-read_first.ensures.same (c.in_ok-read_first.ensures.none (ap Ok (search rules)))
     c.write_settings.ensures.crash
 
 pub returns-clause-crash : goal.returns-clause-crash
 returns-clause-crash g c =
-    let found : c.in_ok-read_first.field-0 ≡ false = search rules in
-    settings_left c.args.settings (g.S.Store.view c.args.table.now.store).committed c.read_first.ensures.crash c.in_ok-read_first.ensures.same (c.in_ok-read_first.ensures.none (ap Ok found))
+    settings_left c.args.settings (g.S.Store.view c.args.table.now.store).committed c.read_first.ensures.crash c.in_ok-read_first.ensures.same (c.in_ok-read_first.ensures.none (ap Ok (search rules)))
     c.write_settings.ensures.crash

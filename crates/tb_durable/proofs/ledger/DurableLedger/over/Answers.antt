@@ -1,6 +1,5 @@
 use Rattle.std.proofs.Common.{subst, sym}
 use Rattle.tb_durable.proofs.Words.{Trees, IsLedgerFile}
-use Rattle.tb_durable.proofs.FileLemmas.{settings_open}
 use Rattle.tb_durable.proofs.RunLemmas.{some_kept}
 use Rattle.tb_durable.proofs.ledger.DurableLedger.over.Goals as goal
 
@@ -24,8 +23,4 @@ returns-in-Ok-clause-kept g c =
     )
 
 pub returns-in-Ok-clause-openable : goal.returns-in-Ok-clause-openable
-returns-in-Ok-clause-openable g c = λ opens. (settings_open c.args.settings c.requires c.read_ledger-read.ensures.crash opens, tt)
-
-pub returns-in-Err-clause-openable : goal.returns-in-Err-clause-openable
-returns-in-Err-clause-openable g c = λ opens.
-    (tt, rw c.into_store.ensures (settings_open c.args.settings c.requires c.read_ledger-read.ensures.crash opens))
+returns-in-Ok-clause-openable g c = λ opens. (c.read_ledger-read.ensures.openable opens, tt)
