@@ -1,6 +1,6 @@
 -- What was committed of a parcel.
-use Rattle.std.proofs.Common.{◌≡◌, ◌+◌, ℕ, Bool, true, false, List, [], ◌∷◌, ◌++◌, refl, ap, sym, subst, ◌∙◌, append-nil, length, map}
-use Rattle.tb_durable.proofs.Words.{if◌then◌else◌, ◌||◌, nat_lt, Input, Pulse, places_max, Numbered, input_of, Outcomes, LedgerState, inputs, Applied, apply_result, apply_step, must_stop, step_of_batch, with_entry, with_stop, BareLedgerState, HasCommitted, Applies, with_journal, groups_in, AddsGroup, groups_of_parcel}
+use Rattle.std.proofs.Common.{◌≡◌, ◌+◌, Bool, true, false, List, [], ◌∷◌, ◌++◌, refl, ap, sym, subst, ◌∙◌, append-nil, length, map}
+use Rattle.tb_durable.proofs.Words.{if◌then◌else◌, ◌||◌, nat_lt, Input, Pulse, places_max, input_of, Outcomes, LedgerState, inputs, Applied, apply_result, apply_step, must_stop, step_of_batch, with_entry, with_stop, BareLedgerState, HasCommitted, Applies, with_journal, groups_in, AddsGroup, groups_of_parcel}
 use Rattle.tb_core.specs.claim.BareLedger.{refusal_of}
 use Rattle.tb_work.specs.claim.Answer.{reply_with}
 use Rattle.tb_work.specs.declared.outcome.Outcome.TheVariants as outcome

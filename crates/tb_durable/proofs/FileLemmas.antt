@@ -1,6 +1,6 @@
 -- A ledger's file, read row by row and with one row more.
 use Rattle.std.proofs.Common.{◌≡◌, ◌⊎◌, inl, inr, Some, ◌<◌, ◌≤◌, ◌+◌, ℕ, pos, true, false, List, [], ◌∷◌, ◌++◌, refl, sym, ap, subst, ◌∙◌, arith, length, map}
-use Rattle.tb_durable.proofs.Words.{flat_map, Int, Row, Trees, rowid, View, Advances, Input, moment_max, AreParts, IsLawful, Parts, BareLedgerState, new_bare_ledger, PacketCounts, OpenFault, Settings, no_packets, Adds, AddsGroup, IsAdded, IsFirst, IsJournal, IsReading, IsSettled, IsStored, opened_rows, AreEntryRows, CanBeOpened, HasEntries, HasReadFile, IsEntryRow, IsFailure, IsFirstRow, IsHalfway, IsLedgerFile, group_in, jobs_row, pulse_row, settings_row, settings_stub, stub_bytes}
+use Rattle.tb_durable.proofs.Words.{flat_map, Int, Row, Trees, rowid, View, Advances, Input, moment_max, AreParts, IsLawful, Parts, BareLedgerState, new_bare_ledger, PacketCounts, OpenFault, Settings, no_packets, Adds, AddsGroup, IsAdded, IsFirst, IsJournal, IsReading, IsSettled, IsStored, LeavesNothingNew, opened_rows, AreEntryRows, CanBeOpened, HasEntries, HasReadFile, IsEntryRow, IsFailure, IsFirstRow, IsHalfway, IsLedgerFile, LeavesSettings, put_row, IsClean, group_in, jobs_row, pulse_row, settings_row, settings_stub, stub_bytes}
 use Rattle.tb_layout.specs.claim.Limits.{clock_max}
 use Rattle.tb_durable.specs.declared.fault.OpenFault.TheVariants as fault
 use Rattle.tb_durable.specs.clauses.Counts.{counted_all}
@@ -58,6 +58,33 @@ module _ (view : View) (row : Row) (counts : PacketCounts) (reading : IsReading 
     journal = new_journal row clock bare first is;
     left = subst (λ (b : BareLedgerState). AreEntryRows b.places no_packets reading.left counts) (sym is) parts.1;
   }
+
+-- ---- crashes while the settings are written
+
+-- the settings were put into a table that had no rows
+pub settings_left : (settings : Settings) (committed : Trees) {mid : View} {was early now : Trees → Type 0}
+    → LeavesNothingNew was early → (IsClean mid → mid.committed ≡ committed) → (IsClean mid → IsReading mid [] × (mid.committed 0 ≡ []))
+    → ((db : Trees) → now db → early db ⊎ IsAdded mid (settings_row settings) db) → LeavesSettings was now (committed 0) settings
+settings_left settings committed before same none crash db left =
+    elim (crash db left) [
+      | inl there ↦ inl (before db there)
+      | inr added ↦
+          let reading = none added.clean in
+          inr (
+            sym (ap (λ (t : Trees). t 0) (same added.clean)) ∙ reading.1,
+            added.rows ∙ ap (λ (t : Trees). put_row (settings_row settings) (t 0)) reading.0.settled.same
+                ∙ ap (put_row (settings_row settings)) reading.1,
+          )
+    ]
+
+-- then what is left can be opened, if what was left before could
+pub settings_open : (settings : Settings) {was now : Trees → Type 0} {rows : List Row} → settings.clock ≤ clock_max
+    → LeavesSettings was now rows settings → CanBeOpened was → CanBeOpened now
+settings_open settings low leaves opens db left =
+    elim (leaves db left) [
+      | inl there ↦ opens db there
+      | inr only ↦ (no_packets, subst (λ rows. IsLedgerFile rows no_packets) (sym only.1) (is_first_row settings low, refl))
+    ]
 
 -- ---- the next row
 

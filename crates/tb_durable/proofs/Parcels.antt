@@ -1,6 +1,6 @@
 -- What a parcel does to a ledger in a file: its row is put, and then it is applied, or the ledger stops.
-use Rattle.std.proofs.Common.{◌≡◌, ◌⊎◌, ◌<◌, ◌∙◌, ℕ, pos, true, false, List, [], ◌∷◌, ◌++◌, sym, ap, subst, arith, length, map}
-use Rattle.tb_durable.proofs.Words.{OnOk, Result, Ok, Err, Int, Row, Trees, rowid, View, IsClean, Input, Outcomes, BareLedgerState, PacketCounts, IsAdded, IsStored, LeavesWith, groups_of_parcel, rows_of, IsEntryRow, group_in}
+use Rattle.std.proofs.Common.{◌≡◌, ◌<◌, ◌∙◌, true, false, List, [], ◌∷◌, ◌++◌, sym, ap, subst, arith, length, map}
+use Rattle.tb_durable.proofs.Words.{OnOk, Result, Ok, Err, Row, Trees, View, IsClean, Input, Outcomes, BareLedgerState, PacketCounts, LeavesWith, groups_of_parcel, rows_of, IsEntryRow, group_in}
 use Rattle.tb_core.specs.declared.parcel.Parcel.{Parcel}
 use Rattle.tb_core.specs.claim.BareLedger.{after_refusal}
 use Rattle.tb_durable.specs.declared.ledger.DurableLedger.{DurableLedger}
@@ -22,39 +22,30 @@ pub record IsNextRow {S : Type 0} (old : DurableLedger S) (handed : Parcel) (row
   pub some : 0 < length group
   pub stops : (after_refusal old.bare handed).stopped ≡ true
 
-module _ {S : Type 0} {old : DurableLedger S} {handed : Parcel} {row : Row} {group : List Input} {after : PacketCounts}
-    (next : IsNextRow old handed row group after) where
-  at : rowid row ≡ Int (pos old.bare.places)
-  at = entry_place old.bare.places old.counts after row next.entry
-
-  leaves : {view : View} {was now : Trees → Type 0} → IsStored view old.bare
-      → ((db : Trees) → now db → was db ⊎ IsAdded view row db)
-      → LeavesWith was now (view.committed 0) (rows_of old.bare.places handed)
-  leaves {view} {was} {now} has crash =
-      subst (LeavesWith was now (view.committed 0)) (sym next.rows) (leaves_with_row row has next.goes_on at crash)
-
 module _ {S : Type 0} {view : S → View} {recovers : S → Trees → Type 0} {old new : DurableLedger S} {handed : Parcel} {row : Row}
     {group : List Input} {after : PacketCounts} {outcomes : Outcomes} (next : IsNextRow old handed row group after) where
   pub in_file : (stored : Result (Unit {0}) NotStored) → StoresRow view recovers old.table.store row stored new.table.store
       → OnOk stored (group_in row ≡ group) → Finishes stored after old.bare handed outcomes new
       → AppliesInFile view recovers old handed outcomes new
   in_file (Ok done) stores reads finishes =
+      let at = entry_place old.bare.places old.counts after row next.entry in
       let was : IsClean (view new.table.store) → IsClean (view old.table.store) = λ clean. omega (arith, stores.clean) in
       record {
         kept = λ has clean on.
             let rest = has (was clean) next.goes_on in
-            stored_more row rest.0 rest.1 (at next) (view new.table.store) new.bare (stores.ok clean)
+            stored_more row rest.0 rest.1 at (view new.table.store) new.bare (stores.ok clean)
             (adds_group handed finishes.applied (next.groups ∙ ap (λ one. one ∷ []) (sym reads)) on)
             (subst (λ inputs. 0 < length inputs) (sym reads) next.some);
         added = λ has clean on.
             let rest = has (was clean) next.goes_on in
-            added_last row rest.0 rest.1 (at next) (view new.table.store) (stores.ok clean)
+            added_last row rest.0 rest.1 at (view new.table.store) (stores.ok clean)
             ∙ ap (λ more. (view old.table.store).committed 0 ++ more) (sym next.rows);
         released = λ on. finishes.applied;
         refused = λ has clean stop.
             let journal = (has (was clean) next.goes_on).1 in
             gives_refusal handed finishes.applied (map group_in journal.entries) journal.committed stop;
-        crash = λ has. leaves next has stores.crash;
+        crash = λ has. subst (LeavesWith (recovers old.table.store) (recovers new.table.store) ((view old.table.store).committed 0))
+            (sym next.rows) (leaves_with_row row has next.goes_on at stores.crash);
         certain = λ stop certain. absurd (let doubt = finishes.doubt in cc);
         entries = λ has entries clean on.
             let rest = has (was clean) next.goes_on in
@@ -66,13 +57,15 @@ module _ {S : Type 0} {view : S → View} {recovers : S → Trees → Type 0} {o
         clean = stores.clean;
       }
   in_file (Err error) stores reads finishes =
+      let at = entry_place old.bare.places old.counts after row next.entry in
       let stop : new.bare.stopped ≡ true = ap (λ (b : BareLedgerState). b.stopped) finishes.stopped ∙ next.stops in
       record {
         kept = λ has clean on. absurd cc;
         added = λ has clean on. absurd cc;
         released = λ on. absurd cc;
         refused = λ has clean stop. finishes.refused;
-        crash = λ has. leaves next has stores.crash;
+        crash = λ has. subst (LeavesWith (recovers old.table.store) (recovers new.table.store) ((view old.table.store).committed 0))
+            (sym next.rows) (leaves_with_row row has next.goes_on at stores.crash);
         certain = λ stop certain. stores.refused (sym finishes.in_doubt ∙ certain);
         entries = λ has entries clean on. absurd cc;
         openable = λ has entries. crash_opens has entries next.goes_on next.entry stores.crash;

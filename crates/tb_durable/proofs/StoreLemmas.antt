@@ -1,6 +1,6 @@
 -- One row put and committed.
-use Rattle.std.proofs.Common.{◌≡◌, ◌≤◌, Bool, true, false, List, [], ◌∷◌, ◌++◌, refl, sym, ap, subst, ◌∙◌, arith, append-nil, append_assoc, Option, Some, IsTrue}
-use Rattle.tb_durable.proofs.Words.{unwrap_or, Row, Table, Trees, put_row, from_key, order_of, sought, View, IsClean, doubt, SetsTree, Commits, Advances, IsRolledBack, with_cursor, IsSettled, IsReading, Adds, IsAdded}
+use Rattle.std.proofs.Common.{◌≡◌, ◌⊎◌, ◌≤◌, inl, inr, Bool, true, false, List, [], ◌∷◌, ◌++◌, refl, sym, ap, subst, ◌∙◌, arith, append-nil, append_assoc, Option, Some, IsTrue}
+use Rattle.tb_durable.proofs.Words.{unwrap_or, Row, Table, Trees, put_row, from_key, order_of, sought, View, IsClean, doubt, SetsTree, Commits, Advances, IsRolledBack, with_cursor, IsSettled, IsReading, Adds, IsAdded, LeavesNothingNew}
 use Rattle.sqlite_value.specs.declared.keys.Order.{Order}
 use Rattle.sqlite_trees.specs.declared.store.Direction.TheVariants.{Forward}
 use Rattle.sqlite_trees.proofs.Doubt.{no_doubt}
@@ -33,17 +33,24 @@ adds old mid new row shut set commit shape =
       };
     }
 
-pub added : {old : View} {row : Row} {db : Trees} (mid : View) → (mid.is_open ≡ false → IsTrue mid.is_broken)
+-- a crash after the commit leaves the row in its place, or what it could leave before
+pub added : {old : View} {row : Row} {was put now : Trees → Type 0} (mid : View) → (mid.is_open ≡ false → IsTrue mid.is_broken)
     → (mid.is_clean ≡ false → mid.is_open ≡ false) → doubt old.is_clean ≤ doubt mid.is_clean
-    → (IsClean mid → SetsTree old mid 0 (put_row row)) → mid.is_broken ≡ false → db ≡ mid.trees → IsAdded old row db
-added mid shut dirty falls set sound is =
-    let clean : doubt mid.is_clean ≡ 0 = clean_if_sound mid shut sound dirty in
-    let it = set clean in
-    record {
-      clean = omega arith;
-      sound = it.sound;
-      rows = ap (λ (t : Trees). t 0) is ∙ ap (λ (v : View). v.trees 0) it.is;
-    }
+    → (IsClean mid → SetsTree old mid 0 (put_row row)) → LeavesNothingNew was put
+    → ((db : Trees) → now db → ((mid.is_broken ≡ false) × (db ≡ mid.trees)) ⊎ put db)
+    → (db : Trees) → now db → was db ⊎ IsAdded old row db
+added mid shut dirty falls set quiet crash = λ db left.
+    elim (crash db left) [
+      | inl new ↦
+          let clean : doubt mid.is_clean ≡ 0 = clean_if_sound mid shut new.0 dirty in
+          let it = set clean in
+          inr (record {
+            clean = omega arith;
+            sound = it.sound;
+            rows = ap (λ (t : Trees). t 0) new.1 ∙ ap (λ (v : View). v.trees 0) it.is;
+          })
+      | inr before ↦ inl (quiet db before)
+    ]
 
 -- ---- the table read in order
 

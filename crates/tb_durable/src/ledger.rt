@@ -91,7 +91,7 @@ impl<S: Store + Drop> DurableLedger<S> {
     ghost use Rattle.tb_durable.specs.claim.Durable.{IsJournal, IsStored, groups_of, opened_rows};
     ghost use Rattle.tb_durable.specs.clauses.Parcels.{AppliesInFile};
     ghost use Rattle.tb_durable.specs.clauses.Runs.{ShowsJournal};
-    ghost use Rattle.tb_durable.specs.clauses.Entries.{CanBeOpened, HasEntries, IsFailure, IsInFile, IsLedgerFile};
+    ghost use Rattle.tb_durable.specs.clauses.Entries.{CanBeOpened, HasEntries, IsFailure, IsInFile, IsLedgerFile, LeavesSettings};
     ghost use Rattle.tb_durable.specs.clauses.Faults.{IsCause};
     ghost use Rattle.tb_durable.specs.inside.Storing.{Finishes};
     ghost use Rattle.tb_durable.specs.declared.counts.PacketCounts.{PacketCounts as Counts};
@@ -123,6 +123,13 @@ impl<S: Store + Drop> DurableLedger<S> {
             → IfErr result (λ refused. IsClean (S.Store.view refused.1) → IsFailure refused.0)
             × IfOk result (λ ledger. IsClean (S.Store.view ledger.table.store) → ledger.counts ≡ counts) }
         ensures entries { IfOk result (λ ledger. HasEntries (S.Store.view ledger.table.store) ledger.bare ledger.counts) }
+        ensures crash { IfOk result (λ ledger. LeavesSettings (S.Store.recovers store) (S.Store.recovers ledger.table.store)
+            ((S.Store.view store).committed 0) settings)
+            × IfErr result (λ refused. LeavesSettings (S.Store.recovers store) (S.Store.recovers refused.1)
+            ((S.Store.view store).committed 0) settings) }
+        ensures openable { CanBeOpened (S.Store.recovers store)
+            → IfOk result (λ ledger. CanBeOpened (S.Store.recovers ledger.table.store))
+            × IfErr result (λ refused. CanBeOpened (S.Store.recovers refused.1)) }
     {
         let mut table = Table {
             store,

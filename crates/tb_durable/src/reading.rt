@@ -1,11 +1,12 @@
 //! A ledger read from its table.
 
-ghost use Rattle.std.specs.Prelude.{◌≡◌, ◌≤◌, ◌∷◌, [], true, false, Ok, List, IsSome, IsOk, IfOk, OnOk, IfErr};
+ghost use Rattle.std.specs.Prelude.{◌≡◌, ◌⊎◌, ◌≤◌, ◌∷◌, [], true, false, Ok, List, IsSome, IsOk, IfOk, OnOk, IfErr};
 ghost use Rattle.tb_layout.specs.claim.Limits.{clock_max};
+ghost use Rattle.sqlite_trees.specs.Tree.{Trees};
 ghost use Rattle.sqlite_trees.specs.View.{IsClean, doubt};
 ghost use Rattle.tb_durable.specs.claim.Rows.{settings_row};
-ghost use Rattle.tb_durable.specs.claim.Durable.{HasJournal, IsReading, IsReplaying, IsSettled, IsStored, IsJournal, IsFirst, opened_rows};
-ghost use Rattle.tb_durable.specs.clauses.Entries.{HasReadFile, IsFailure, IsFirstRow, IsHalfway, IsLedgerFile};
+ghost use Rattle.tb_durable.specs.claim.Durable.{HasJournal, IsAdded, IsReading, IsReplaying, IsSettled, IsStored, IsJournal, IsFirst, LeavesNothingNew, opened_rows};
+ghost use Rattle.tb_durable.specs.clauses.Entries.{CanBeOpened, HasReadFile, IsFailure, IsFirstRow, IsHalfway, IsLedgerFile, LeavesSettings};
 ghost use Rattle.tb_durable.specs.clauses.Faults.{IsCause, IsFirstFault};
 ghost use Rattle.tb_durable.specs.declared.counts.PacketCounts.{PacketCounts as Counts};
 ghost use Rattle.sqlite_value.specs.Order.{Row};
@@ -55,6 +56,7 @@ fn read_first<S: Store>(table: &mut Table<S>) -> Result<bool, OpenFault>
     ensures same { OnOk result (IsClean (S.Store.view table.new.store)
         → (S.Store.view table.new.store).committed ≡ (S.Store.view table.old.store).committed) }
     ensures cursor { OnOk result (IsSome ((S.Store.view table.new.store).cursors 0)) }
+    ensures crash { LeavesNothingNew (S.Store.recovers table.old.store) (S.Store.recovers table.new.store) }
     ensures clean { doubt (S.Store.view table.old.store).is_clean ≤ doubt (S.Store.view table.new.store).is_clean }
 {
     table.rewind()?;
@@ -72,6 +74,8 @@ fn write_settings<S: Store>(table: &mut Table<S>, settings: Settings) -> Result<
     ensures opens { IsClean (S.Store.view table.new.store) → IsReading (S.Store.view table.old.store) []
         → (S.Store.view table.old.store).committed 0 ≡ [] → IfErr result IsFailure }
     ensures cursor { OnOk result (IsSome ((S.Store.view table.new.store).cursors 0)) }
+    ensures crash { (db : Trees) → S.Store.recovers table.new.store db
+        → S.Store.recovers table.old.store db ⊎ IsAdded (S.Store.view table.old.store) (settings_row settings) db }
     ensures clean { doubt (S.Store.view table.old.store).is_clean ≤ doubt (S.Store.view table.new.store).is_clean }
 {
     if let Err(refused) = table.put_settings(settings) {
@@ -84,6 +88,7 @@ fn write_settings<S: Store>(table: &mut Table<S>, settings: Settings) -> Result<
 }
 
 /// Reads the first row, or writes it with these settings if there is none, and returns the settings in it.
+#[tactic(auto, using(crate::proofs::FileLemmas::settings_left))]
 fn read_settings<S: Store>(table: &mut Table<S>, settings: Settings) -> Result<Settings, OpenFault>
     requires { settings.clock ≤ clock_max }
     ensures fault { IfErr result (λ fault. IsClean (S.Store.view table.new.store)
@@ -98,6 +103,8 @@ fn read_settings<S: Store>(table: &mut Table<S>, settings: Settings) -> Result<S
     ensures opens { (counts : Counts) → IsLedgerFile ((S.Store.view table.old.store).committed 0) counts
         → IsClean (S.Store.view table.new.store) → IfErr result IsFailure }
     ensures cursor { OnOk result (IsSome ((S.Store.view table.new.store).cursors 0)) }
+    ensures crash { LeavesSettings (S.Store.recovers table.old.store) (S.Store.recovers table.new.store)
+        ((S.Store.view table.old.store).committed 0) settings }
     ensures clean { doubt (S.Store.view table.old.store).is_clean ≤ doubt (S.Store.view table.new.store).is_clean }
 {
     if read_first(table)? {
@@ -141,6 +148,7 @@ fn replay_row<S: Store>(table: &mut Table<S>, replaying: &mut Replaying) -> Resu
     ensures goes_on { OnOk result (replaying.old.ledger.stopped ≡ false → replaying.new.ledger.stopped ≡ false) }
     ensures committed { OnOk result (HasJournal replaying.old.ledger → HasJournal replaying.new.ledger) }
     ensures cursor { OnOk result (IsSome ((S.Store.view table.new.store).cursors 0)) }
+    ensures crash { LeavesNothingNew (S.Store.recovers table.old.store) (S.Store.recovers table.new.store) }
     ensures clean { doubt (S.Store.view table.old.store).is_clean ≤ doubt (S.Store.view table.new.store).is_clean }
 {
     if !table.next()? {
@@ -170,6 +178,7 @@ fn replay_rows<S: Store>(table: &mut Table<S>, replaying: &mut Replaying) -> Res
     ensures committed { OnOk result (HasJournal replaying.old.ledger → HasJournal replaying.new.ledger) }
     ensures same { OnOk result (IsClean (S.Store.view table.new.store)
         → (S.Store.view table.new.store).committed ≡ (S.Store.view table.old.store).committed) }
+    ensures crash { LeavesNothingNew (S.Store.recovers table.old.store) (S.Store.recovers table.new.store) }
     ensures clean { doubt (S.Store.view table.old.store).is_clean ≤ doubt (S.Store.view table.new.store).is_clean }
 {
     for _ in 0..u64::MAX {
@@ -207,6 +216,9 @@ pub(crate) fn read_ledger<S: Store>(
         → IfErr result IsFailure × IfOk result (λ read. read.replaying.counts ≡ counts) }
     ensures rows { OnOk result (IsClean (S.Store.view table.new.store) → (S.Store.view table.new.store).committed 0
         ≡ opened_rows settings ((S.Store.view table.old.store).committed 0)) }
+    ensures crash { LeavesSettings (S.Store.recovers table.old.store) (S.Store.recovers table.new.store)
+        ((S.Store.view table.old.store).committed 0) settings }
+    ensures openable { CanBeOpened (S.Store.recovers table.old.store) → CanBeOpened (S.Store.recovers table.new.store) }
     ensures clean { doubt (S.Store.view table.old.store).is_clean ≤ doubt (S.Store.view table.new.store).is_clean }
 {
     let alloc = table.alloc;

@@ -9,7 +9,7 @@ ghost use Rattle.tb_batch.specs.claim.Batch.{AreParts};
 ghost use Rattle.sqlite_trees.specs.Tree.{rowid};
 ghost use Rattle.sqlite_trees.specs.View.{IsClean, doubt, is_int, Advances};
 ghost use Rattle.tb_durable.specs.claim.Rows.{jobs_row, pulse_row, settings_row, group_in};
-ghost use Rattle.tb_durable.specs.claim.Durable.{IsReading};
+ghost use Rattle.tb_durable.specs.claim.Durable.{IsReading, LeavesNothingNew};
 ghost use Rattle.tb_durable.specs.inside.Storing.{StoresRow};
 
 use crate::rows::{fill_batch, fill_pulse, fill_settings};
@@ -146,6 +146,7 @@ impl<S: Store> Table<S> {
         ensures same { OnOk result (IsClean (S.Store.view self.new.store)
             → (S.Store.view self.new.store).committed ≡ (S.Store.view self.old.store).committed) }
         ensures cursor { OnOk result (IsSome ((S.Store.view self.new.store).cursors 0)) }
+        ensures crash { LeavesNothingNew (S.Store.recovers self.old.store) (S.Store.recovers self.new.store) }
         ensures clean { doubt (S.Store.view self.old.store).is_clean ≤ doubt (S.Store.view self.new.store).is_clean }
     {
         self.store.rollback();
@@ -163,6 +164,7 @@ impl<S: Store> Table<S> {
         ensures ok { IfOk result (λ found. IsClean (S.Store.view self.new.store)
             → Advances (S.Store.view self.old.store) (S.Store.view self.new.store) 0 self.new.row found) }
         ensures cursor { OnOk result (IsSome ((S.Store.view self.new.store).cursors 0)) }
+        ensures crash { LeavesNothingNew (S.Store.recovers self.old.store) (S.Store.recovers self.new.store) }
         ensures clean { doubt (S.Store.view self.old.store).is_clean ≤ doubt (S.Store.view self.new.store).is_clean }
     {
         self.store.next(0, &mut self.row)

@@ -16,9 +16,10 @@ use Rattle.sqlite_trees.specs.View.{View, IsClean}
 use Rattle.tb_durable.specs.declared.counts.PacketCounts.{PacketCounts}
 use Rattle.tb_durable.specs.declared.fault.OpenFault.{OpenFault}
 use Rattle.tb_durable.specs.declared.fault.OpenFault.TheVariants as fault
+use Rattle.tb_durable.specs.declared.settings.Settings.{Settings}
 use Rattle.tb_durable.specs.clauses.Counts.{counted_all, no_packets}
 use Rattle.tb_durable.specs.claim.Durable.{IsJournal, IsKept, IsReading}
-use Rattle.tb_durable.specs.claim.Rows.{HasColumns, format_version, group_in, stubs_in}
+use Rattle.tb_durable.specs.claim.Rows.{HasColumns, format_version, group_in, settings_row, stubs_in}
 
 -- ---- rows
 
@@ -93,6 +94,10 @@ pub record IsInFile (recovers : Trees → Type 0) (view : View) (bare : BareLedg
   pub openable : IsClean view → CanBeOpened recovers
 
 -- ---- opening
+
+-- after opening, a crash leaves what it could leave before, or only the settings, if the table had no rows
+abbrev pub LeavesSettings : (Trees → Type 0) → (Trees → Type 0) → List Row → Settings → Type 0
+LeavesSettings old new rows settings = (db : Trees) → new db → old db ⊎ ((rows ≡ []) × (db 0 ≡ settings_row settings ∷ []))
 
 -- memory or the disk failed
 abbrev pub IsFailure : OpenFault → Type 0

@@ -1,6 +1,6 @@
 use Rattle.std.proofs.Common.{arith, refl, rules, subst, sym, [], ◌∷◌}
 use Rattle.tb_durable.proofs.Words.{IsClean, HasJournal, opened_rows, IsCause, HasReadFile, IsFailure, IsHalfway, IsLedgerFile}
-use Rattle.tb_durable.proofs.FileLemmas.{begins_halfway, first_file, opened_file}
+use Rattle.tb_durable.proofs.FileLemmas.{begins_halfway, first_file, opened_file, settings_open}
 use Rattle.tb_durable.proofs.Journals.{new_journal}
 use Rattle.tb_durable.proofs.reading.read_ledger.Goals as goal
 
@@ -65,3 +65,14 @@ returns-clause-file g c = λ clean.
     (subst (HasReadFile view c.with_seed.result) (sym c.new.ensures) (first_file view c.read_settings.new.table.row
     c.in_ok-settings.settings.clock c.with_seed.result (c.in_ok-settings.ensures.row was) c.in_ok-settings.ensures.first
     c.in_ok-settings.ensures.settings c.with_seed.ensures.new))
+
+pub returns-in_err-settings-clause-openable : goal.returns-in_err-settings-clause-openable
+returns-in_err-settings-clause-openable g c = settings_open c.args.settings c.requires c.read_settings.ensures.crash
+
+pub returns-in_err-replay_rows-clause-openable : goal.returns-in_err-replay_rows-clause-openable
+returns-in_err-replay_rows-clause-openable g c =
+    settings_open c.args.settings c.requires (λ db left. c.read_settings.ensures.crash db (c.replay_rows.ensures.crash db left))
+
+pub returns-clause-openable : goal.returns-clause-openable
+returns-clause-openable g c =
+    settings_open c.args.settings c.requires (λ db left. c.read_settings.ensures.crash db (c.replay_rows.ensures.crash db left))

@@ -49,6 +49,7 @@ loop-preserved g c =
       replaying = λ clean replaying. after.more (ap Ok more) clean (before.replaying (was clean) replaying);
       file = λ clean has. after.entry (ap Ok more) clean (before.file (was clean) has);
       halfway = λ counts clean halfway. after.onward counts (ap Ok more) clean (before.halfway counts (was clean) halfway);
+      crash = λ db left. before.crash db (c.replay_row.ensures.crash db left);
       committed = λ has. after.committed (before.committed has);
       goes_on = λ on. after.goes_on (before.goes_on on);
     }

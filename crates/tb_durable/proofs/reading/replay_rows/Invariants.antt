@@ -1,4 +1,4 @@
-use Rattle.tb_durable.proofs.Words.{◌≡◌, ◌≤◌, false, IsSome, IsClean, doubt, PacketCounts, HasJournal, IsReplaying, HasReadFile, IsHalfway}
+use Rattle.tb_durable.proofs.Words.{◌≡◌, ◌≤◌, false, IsSome, IsClean, doubt, PacketCounts, HasJournal, IsReplaying, LeavesNothingNew, HasReadFile, IsHalfway}
 use Rattle.tb_durable.proofs.reading.replay_rows.Given as goal
 
 abbrev pub invariant-loop : goal.invariant-loop
@@ -16,6 +16,7 @@ invariant-loop g l = record {
   halfway : (counts : PacketCounts) → IsClean (g.S.Store.view l.table.store)
       → IsHalfway (g.S.Store.view l.fn.table.store) l.fn.replaying.ledger l.fn.replaying.counts counts
       → IsHalfway (g.S.Store.view l.table.store) l.replaying.ledger l.replaying.counts counts;
+  crash : LeavesNothingNew (g.S.Store.recovers l.fn.table.store) (g.S.Store.recovers l.table.store);
   committed : HasJournal l.fn.replaying.ledger → HasJournal l.replaying.ledger;
   goes_on : l.fn.replaying.ledger.stopped ≡ false → l.replaying.ledger.stopped ≡ false;
 }

@@ -21,3 +21,6 @@ returns-in-Ok-clause-kept g c =
         );
       },
     )
+
+pub returns-in-Ok-clause-openable : goal.returns-in-Ok-clause-openable
+returns-in-Ok-clause-openable g c = λ opens. (c.read_ledger-read.ensures.openable opens, tt)

@@ -1,18 +1,13 @@
-use Rattle.std.proofs.Common.{◌⊎◌, inl, inr, rules}
-use Rattle.tb_durable.proofs.Words.{Trees, IsAdded}
+use Rattle.std.proofs.Common.{rules}
 use Rattle.tb_durable.proofs.StoreLemmas.{added}
 use Rattle.tb_durable.proofs.table.Table.commit_row.Goals as goal
 
 pub returns-in-Ok : goal.returns-in-Ok
 returns-in-Ok g c = record {
   ok = search rules;
-  crash = λ db left.
-      elim (c.commit.ensures.crash db left) [
-        | inl new ↦ inr (added (g.S.Store.view c.put.new.self)
-            (g.met.S.Store.broken_if_shut c.put.new.self) (g.met.S.Store.shut_if_dirty c.put.new.self)
-            c.put.ensures.quiet.clean c.in_default.ensures.ok new.0 new.1)
-        | inr before ↦ inl (c.put.ensures.quiet.outcomes db before)
-      ];
+  crash = added (g.S.Store.view c.put.new.self) (g.met.S.Store.broken_if_shut c.put.new.self)
+      (g.met.S.Store.shut_if_dirty c.put.new.self) c.put.ensures.quiet.clean c.in_default.ensures.ok
+      c.put.ensures.quiet.outcomes c.commit.ensures.crash;
   refused = tt;
   clean = search rules;
 }
@@ -20,13 +15,9 @@ returns-in-Ok g c = record {
 pub returns-in-Err-commit : goal.returns-in-Err-commit
 returns-in-Err-commit g c = record {
   ok = tt;
-  crash = λ db left.
-      elim (c.commit.ensures.crash db left) [
-        | inl new ↦ inr (added (g.S.Store.view c.put.new.self)
-            (g.met.S.Store.broken_if_shut c.put.new.self) (g.met.S.Store.shut_if_dirty c.put.new.self)
-            c.put.ensures.quiet.clean c.in_default.ensures.ok new.0 new.1)
-        | inr before ↦ inl (c.put.ensures.quiet.outcomes db before)
-      ];
+  crash = added (g.S.Store.view c.put.new.self) (g.met.S.Store.broken_if_shut c.put.new.self)
+      (g.met.S.Store.shut_if_dirty c.put.new.self) c.put.ensures.quiet.clean c.in_default.ensures.ok
+      c.put.ensures.quiet.outcomes c.commit.ensures.crash;
   refused = search rules;
   clean = search rules;
 }
