@@ -39,7 +39,7 @@ pub added : {old : View} {row : Row} {was put now : Trees → Type 0} (mid : Vie
     → (IsClean mid → SetsTree old mid 0 (put_row row)) → LeavesNothingNew was put
     → ((db : Trees) → now db → ((mid.is_broken ≡ false) × (db ≡ mid.trees)) ⊎ put db)
     → (db : Trees) → now db → was db ⊎ IsAdded old row db
-added mid shut dirty falls set quiet crash db left =
+added mid shut dirty falls set quiet crash = λ db left.
     elim (crash db left) [
       | inl new ↦
           let clean : doubt mid.is_clean ≡ 0 = clean_if_sound mid shut new.0 dirty in

@@ -88,6 +88,7 @@ fn write_settings<S: Store>(table: &mut Table<S>, settings: Settings) -> Result<
 }
 
 /// Reads the first row, or writes it with these settings if there is none, and returns the settings in it.
+#[tactic(auto, using(crate::proofs::FileLemmas::settings_left))]
 fn read_settings<S: Store>(table: &mut Table<S>, settings: Settings) -> Result<Settings, OpenFault>
     requires { settings.clock ≤ clock_max }
     ensures fault { IfErr result (λ fault. IsClean (S.Store.view table.new.store)

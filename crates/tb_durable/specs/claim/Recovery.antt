@@ -11,7 +11,7 @@ use Rattle.tb_durable.specs.claim.Rows.{group_in}
 use Rattle.tb_durable.specs.claim.Durable.{IsJournal, groups_of}
 
 -- A crash leaves these rows, or these and after them what was being stored, a row or none. Between two calls of `apply` the
--- clause `rows` of `is_on_disk` says so, and of what a call leaves, also one that fails, its clause `crash`.
+-- clause `rows` of `is_on_disk` says so, and of what a call leaves, also one that fails, its field `crash`.
 abbrev pub LeavesOneOf : (Trees → Type 0) → List Row → List Row → Type 0
 LeavesOneOf recovers rows last = (db : Trees) → recovers db → (db 0 ≡ rows) ⊎ (db 0 ≡ rows ++ last)
 
