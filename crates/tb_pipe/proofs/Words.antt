@@ -4,7 +4,7 @@ pub use Rattle.std.proofs.lemmas.List.{map-append, length-map}
 pub use Rattle.std.proofs.lemmas.List.Elements.{All-get_or, Contains-append_left, Contains-push}
 pub use Rattle.std.proofs.lemmas.Option.{slice_get_within, slice_get-get_or, get_or_from_slice_get}
 pub use Rattle.std.proofs.lemmas.Result.{IfOk-weaker, IfOk-from_err}
-pub use Rattle.std.specs.Prelude.{◌||◌, ◌==◌, IsOk, Some, None, if◌then◌else◌, All, is_some, Contains, slice_index_or}
+pub use Rattle.std.specs.Prelude.{◌||◌, ◌==◌, IsOk, Some, None, if◌then◌else◌, All, is_some, Contains}
 pub use Rattle.tb_batch.specs.claim.Grouping.{is_taken, IsGroup}
 pub use Rattle.tb_core.specs.claim.Decision.{Decision, Admitted, AreDecisions, decisions_from, inputs_in}
 pub use Rattle.tb_core.specs.claim.Due.{replies_to, Ahead, Behind}
@@ -15,12 +15,12 @@ pub use Rattle.tb_core.specs.claim.Journal.{LedgerState, groups_since, inputs_si
 pub use Rattle.tb_core.specs.claim.Run.{Commits, replies_in, Ran}
 pub use Rattle.tb_core.specs.declared.outcomes.Outcomes.{Outcomes}
 pub use Rattle.tb_core.specs.declared.parcel.Parcel.{Parcel}
-pub use Rattle.tb_drive.specs.clauses.Seen.{HaveSeenEnds, jobs_in, ArePrefixesOf}
-pub use Rattle.tb_drive.specs.clauses.Tasks.{ControlTaskState, AreResultsOf, TasksState, task_origin, task_submitter}
+pub use Rattle.tb_drive.specs.clauses.Seen.{HaveSeenEnds, jobs_in}
+pub use Rattle.tb_drive.specs.clauses.Tasks.{task_origin, task_submitter}
 pub use Rattle.tb_pipe.specs.claim.SettledRun.{run_of}
 pub use Rattle.tb_pipe.specs.clauses.Carried.{is_last, has_last, WasEmptyAfter, AreSealedLate, MaySeal, IsBatched, AllBatched, is_batch, next_number, number_after, AreLetThrough, AreCleared, is_final, has_final, answers_in, given_on, IsCommitted, CommittedTo, AllCommitted, goes_on, BeginsNext}
 pub use Rattle.tb_pipe.specs.clauses.Outlets.{AllGiven, SameOutlets, AllLeft}
-pub use Rattle.tb_pipe.specs.clauses.Reported.{HasReported, GoesFrom, HoldsOfEach, IsReport}
+pub use Rattle.tb_pipe.specs.clauses.Reported.{IsReport}
 pub use Rattle.tb_pipe.specs.clauses.Run.{IsPipeline, IsServed, pipeline_of, served_of, PipelineState, ServedState}
 pub use Rattle.tb_pipe.specs.declared.stages.StoppedStages.{StoppedStages}
 pub use Rattle.tb_rings.specs.clauses.Ends.{given as given_to, outlet_ring, given, SameOutlet, taken, SameInlet, lies}

@@ -1,5 +1,5 @@
-use Rattle.std.proofs.Common.{rules, ◌≡◌, ◌∙◌, [], ◌∷◌, ◌++◌, ap, subst, sym}
-use Rattle.tb_drive.proofs.Words.{EndedState, SubmitterState, end_origin, origin_of, HasSeen, HasSeenEnd}
+use Rattle.std.proofs.Common.{rules, ◌≡◌, ◌∙◌, [], ◌∷◌, ◌++◌, ap}
+use Rattle.tb_drive.proofs.Words.{EndedState, SubmitterState, end_origin, origin_of}
 use Rattle.tb_work.specs.declared.item.Item.TheVariants.{End}
 use Rattle.tb_drive.proofs.Seen.{seen_at_end}
 use Rattle.tb_drive.proofs.submitting.end.Goals as goal
@@ -10,10 +10,8 @@ loop-preserved g c =
     record {
       own = c.read_or_wait.ensures.own ∙ ap origin_of same ∙ c.loop.invariant.own;
       front = c.read_or_wait.ensures.front ∙ ap (λ (one : SubmitterState). one.queued) same ∙ c.loop.invariant.front;
-      ended = λ had. c.read_or_wait.ensures.ended
-          (subst (HasSeen g.D.Driver.has_ended c.loop.driver) (sym same) (c.loop.invariant.ended had));
-      seen = λ had. c.read_or_wait.ensures.seen
-          (subst (HasSeen g.D.Driver.has_seen c.loop.driver) (sym same) (c.loop.invariant.seen had));
+      ended = λ had. c.read_or_wait.ensures.ended (rw same (c.loop.invariant.ended had));
+      seen = λ had. c.read_or_wait.ensures.seen (rw same (c.loop.invariant.seen had));
       share = c.read_or_wait.ensures.share ∙ c.loop.invariant.share;
     }
 
@@ -25,9 +23,9 @@ returns-in-Ok g c =
         ap end_origin is ∙ c.loop.invariant.own,
         (End ∷ [], ap (λ (one : EndedState). one.queued) is ∙ ap (λ items. items ++ End ∷ []) c.loop.invariant.front),
       );
-      seen = λ had. subst (HasSeenEnd g.D.Driver.has_seen c.loop.driver) (sym is)
+      seen = λ had. rw is
           (seen_at_end g.D.Driver.has_seen c.loop.driver c.loop.submitter (c.loop.invariant.seen had));
-      ended = λ had. subst (HasSeenEnd g.D.Driver.has_ended c.loop.driver) (sym is)
+      ended = λ had. rw is
           (seen_at_end g.D.Driver.has_ended c.loop.driver c.loop.submitter (c.loop.invariant.ended had));
       share = c.loop.invariant.share;
     }

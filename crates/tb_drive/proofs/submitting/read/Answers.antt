@@ -1,5 +1,5 @@
-use Rattle.std.proofs.Common.{◌<◌, length, ap, refl, subst, sym}
-use Rattle.tb_drive.proofs.Words.{SubmitterState, origin_of, HasAsked, HasSeen, jobs_in}
+use Rattle.std.proofs.Common.{◌<◌, length, ap, refl}
+use Rattle.tb_drive.proofs.Words.{SubmitterState, origin_of, jobs_in}
 use Rattle.tb_drive.proofs.Seen.{fewer_read}
 use Rattle.tb_drive.proofs.submitting.read.Goals as goal
 
@@ -11,12 +11,9 @@ returns-in-Some g c =
     record {
       own = ap origin_of is;
       front = ap (λ (one : SubmitterState). one.queued) is;
-      seen = λ had. subst (HasSeen g.D.Driver.has_seen c.receive.new.self) (sym is)
-          (c.receive.ensures.seen _ _ _ few had);
-      ended = λ had. subst (HasSeen g.D.Driver.has_ended c.receive.new.self) (sym is)
-          (c.receive.ensures.ended _ _ _ few had);
-      asked = λ packet had. subst (HasAsked g.D.Driver.has_asked c.receive.new.self packet) (sym is)
-          (c.receive.ensures.asked packet _ _ _ few had);
+      seen = λ had. rw is (c.receive.ensures.seen _ _ _ few had);
+      ended = λ had. rw is (c.receive.ensures.ended _ _ _ few had);
+      asked = λ packet had. rw is (c.receive.ensures.asked packet _ _ _ few had);
       share = c.receive.ensures.share;
     }
 
@@ -26,9 +23,9 @@ returns-in-None g c =
     record {
       own = ap origin_of is;
       front = ap (λ (one : SubmitterState). one.queued) is;
-      seen = subst (HasSeen g.D.Driver.has_seen c.args.driver.now) (sym is);
-      ended = subst (HasSeen g.D.Driver.has_ended c.args.driver.now) (sym is);
-      asked = λ packet. subst (HasAsked g.D.Driver.has_asked c.args.driver.now packet) (sym is);
+      seen = λ had. rw is had;
+      ended = λ had. rw is had;
+      asked = λ packet had. rw is had;
       share = refl;
     }
 

@@ -1,5 +1,5 @@
-use Rattle.std.proofs.Common.{rules, ◌≡◌, ◌∙◌, ap, subst, sym}
-use Rattle.tb_drive.proofs.Words.{SubmitterState, HasAsked, IsPrefixOf}
+use Rattle.std.proofs.Common.{rules, ◌≡◌, ◌∙◌, ap}
+use Rattle.tb_drive.proofs.Words.{SubmitterState}
 use Rattle.tb_drive.proofs.submitting.submit.Goals as goal
 
 pub loop-preserved : goal.loop-preserved
@@ -9,8 +9,7 @@ loop-preserved g c =
       own = c.read_or_wait.ensures.own ∙ c.submit_once.ensures.own ∙ c.loop.invariant.own;
       front = c.read_or_wait.ensures.front ∙ ap (λ (one : SubmitterState). one.queued) kept.1 ∙ c.loop.invariant.front;
       same = kept.0 ∙ c.loop.invariant.same;
-      asked = λ had. c.read_or_wait.ensures.asked c.args.packet
-          (subst (HasAsked g.D.Driver.has_asked c.loop.driver c.args.packet) (sym kept.1) (c.loop.invariant.asked had));
+      asked = λ had. c.read_or_wait.ensures.asked c.args.packet (rw kept.1 (c.loop.invariant.asked had));
       share = c.read_or_wait.ensures.share ∙ c.loop.invariant.share;
     }
 
@@ -18,14 +17,12 @@ pub returns-in-Ok-clause-seen : goal.returns-in-Ok-clause-seen
 returns-in-Ok-clause-seen g c = search rules
 
 pub returns-in-Ok-clause-front : goal.returns-in-Ok-clause-front
-returns-in-Ok-clause-front g c =
-    subst (λ first. IsPrefixOf first c.submit_once.new.submitter.queued) c.loop.invariant.front c.submit_once.ensures.front
+returns-in-Ok-clause-front g c = rw (← c.loop.invariant.front) c.submit_once.ensures.front
 
 pub returns-in-Err : goal.returns-in-Err
 returns-in-Err g c = record {
   own = c.submit_once.ensures.own ∙ c.loop.invariant.own;
-  front = subst (λ first. IsPrefixOf first c.submit_once.new.submitter.queued) c.loop.invariant.front
-      c.submit_once.ensures.front;
+  front = rw (← c.loop.invariant.front) c.submit_once.ensures.front;
   seen = search rules;
   share = c.submitted-in-Err.ensures.share ∙ c.loop.invariant.share;
 }
@@ -33,8 +30,7 @@ returns-in-Err g c = record {
 pub returns-then-is_given_up : goal.returns-then-is_given_up
 returns-then-is_given_up g c = record {
   own = c.submit_once.ensures.own ∙ c.loop.invariant.own;
-  front = subst (λ first. IsPrefixOf first c.submit_once.new.submitter.queued) c.loop.invariant.front
-      c.submit_once.ensures.front;
+  front = rw (← c.loop.invariant.front) c.submit_once.ensures.front;
   seen = λ had. tt;
   share = c.loop.invariant.share;
 }

@@ -1,13 +1,11 @@
-use Rattle.std.proofs.Common.{◌≡◌, ◌∙◌, subst}
-use Rattle.tb_drive.proofs.Words.{IsEnd, SubmitterTaskState}
+use Rattle.std.proofs.Common.{◌∙◌}
 use Rattle.tb_drive.proofs.Seen.{end_before}
 use Rattle.tb_drive.proofs.submitting.SubmitterTask.drive.Goals as goal
 use Rattle.tb_drive.proofs.submitting.SubmitterTask.drive.Goals.{in-Err, in-Ok}
 
 pub returns : goal.returns
 returns g c =
-    subst (λ (task : SubmitterTaskState). IsEnd task.submitter c.match-follow.ended
-    × (g.D.Driver.share c.match-follow.driver ≡ task.share)) c.self.view_is (elim c.match-follow.branch [
+    rw (← c.self.view_is) (elim c.match-follow.branch [
       | in-Ok w ↦ rw (w.ended-is, w.driver-is) (
         end_before c.self.inside.submitter c.follow.new.submitter _ c.follow.ensures.own c.follow.ensures.front
             w.end-ended.ensures.own,
