@@ -1,6 +1,6 @@
 use Rattle.std.proofs.Common.{◌≡◌, ap, arith, rules, false, Ok}
 use Rattle.tb_durable.proofs.Words.{IsClean, opened_rows}
-use Rattle.tb_durable.proofs.FileLemmas.{settings_left, written_first}
+use Rattle.tb_durable.proofs.FileLemmas.{written_first}
 use Rattle.tb_durable.proofs.reading.read_settings.Goals as goal
 
 pub returns-in_err-read_first-clause-fault : goal.returns-in_err-read_first-clause-fault
@@ -23,18 +23,3 @@ returns-in_err-stored-2-clause-opens g c = λ counts file clean.
     let first = written_first (g.S.Store.view c.write_settings.new.table.store) c.write_settings.new.table.row c.args.settings
     c.requires (c.in_ok-write_settings.ensures.row clean) (c.in_ok-write_settings.ensures.rows clean none.0 none.1) in
     let ok = c.in_err-stored-2.ensures.opens first in absurd cc
-
-pub returns-in_err-write_settings-clause-crash : goal.returns-in_err-write_settings-clause-crash
-returns-in_err-write_settings-clause-crash g c =
-    settings_left c.args.settings (g.S.Store.view c.args.table.now.store).committed c.read_first.ensures.crash c.in_ok-read_first.ensures.same (c.in_ok-read_first.ensures.none (ap Ok (search rules)))
-    c.write_settings.ensures.crash
-
-pub returns-in_err-stored-2-clause-crash : goal.returns-in_err-stored-2-clause-crash
-returns-in_err-stored-2-clause-crash g c =
-    settings_left c.args.settings (g.S.Store.view c.args.table.now.store).committed c.read_first.ensures.crash c.in_ok-read_first.ensures.same (c.in_ok-read_first.ensures.none (ap Ok (search rules)))
-    c.write_settings.ensures.crash
-
-pub returns-clause-crash : goal.returns-clause-crash
-returns-clause-crash g c =
-    settings_left c.args.settings (g.S.Store.view c.args.table.now.store).committed c.read_first.ensures.crash c.in_ok-read_first.ensures.same (c.in_ok-read_first.ensures.none (ap Ok (search rules)))
-    c.write_settings.ensures.crash
