@@ -97,12 +97,7 @@ fn packets_ahead(alloc: Global, desk: u32) -> Option<Vec<Packet>> {
 }
 
 /// Queues a desk's first packets, and returns their number. None if one is refused.
-fn queue_ahead<R: Wait>(
-    rt: &R,
-    alloc: Global,
-    opened: &mut Opened,
-    desk: u32,
-) -> Option<usize>
+fn queue_ahead<R: Wait>(rt: &R, alloc: Global, opened: &mut Opened, desk: u32) -> Option<usize>
     requires desk { desk < DESKS }
     requires ready { IsReady opened.old }
     ensures { OnSome result (IsReady opened.new) }

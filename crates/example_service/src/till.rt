@@ -180,9 +180,9 @@ impl Till {
     }
 
     /// Prints the result of a packet.
-    fn print(&self, packet: u64, result: PacketResult) -> io::Result<()> {
+    fn print(&self, packet: u64, packet_result: PacketResult) -> io::Result<()> {
         let till = self.number;
-        match result {
+        match packet_result {
             PacketResult::Committed(place) => {
                 println!(self.rt; "till {till}: packet {packet} is committed at place {place}")
             }
@@ -237,7 +237,7 @@ impl Driver for Till {
         let result = result_of(outcome);
         let number = self.answered;
         self.answered = number.saturating_add(1);
-        match result {
+        match packet_result {
             PacketResult::Failed(_, code) if is_transient(code) => self.retry(tries),
             PacketResult::Stopped => self.stopped = true,
             _ => {}
