@@ -234,7 +234,7 @@ impl Driver for Till {
         } = reply;
         let tries = packet.user;
         drop(packet);
-        let result = result_of(outcome);
+        let packet_result = result_of(outcome);
         let number = self.answered;
         self.answered = number.saturating_add(1);
         match packet_result {
@@ -242,7 +242,7 @@ impl Driver for Till {
             PacketResult::Stopped => self.stopped = true,
             _ => {}
         }
-        if self.print(number, result).is_err() {
+        if self.print(number, packet_result).is_err() {
             self.give_up();
         }
     }

@@ -7,3 +7,4 @@ mod Printing
 mod Pulses
 mod RefusalReasons
 mod Sharing
+mod Sending

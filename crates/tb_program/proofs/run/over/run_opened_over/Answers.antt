@@ -1,8 +1,13 @@
+use denote.Param.Send.{sendable}
+use Rattle.tb_program.proofs.Sending.{driver_send}
 use Rattle.std.proofs.Common.{◌≡◌, ◌∙◌, ◌++◌, List, [], length, map, string_bytes, ap, sym, subst}
 use Rattle.tb_program.proofs.Words.{length-map, ℕ, Vec, Global, IsGrouping, LedgerState, groups_since, inputs_since, moments_in, moments_queued, IsPrefix, Input, planned_items, jobs_in, ReplyValue, Item, HasSeenOf, share_of, results_of, AreHandedIn}
 use Rattle.tb_program.specs.clauses.RunText.{packets_text}
 use Rattle.tb_program.proofs.Answered.{all_answered, all_handed_in, committed_is}
 use Rattle.tb_program.proofs.run.over.run_opened_over.Goals as goal
+
+pub drive_over-requires-send-D : goal.drive_over-requires-send-D
+drive_over-requires-send-D g c κs within = search (sendable, driver_send) depth 9
 
 pub drive_over-requires-clause-seen : goal.drive_over-requires-clause-seen
 drive_over-requires-clause-seen g c κs within = λ k driver submitter driver_is submitter_is.
