@@ -1,6 +1,5 @@
 -- A script's driver may move to another thread.
 use denote.Param.Send.{IsSend, AllSend, EachSend, enum_send, recorded_send, struct_send, sendable}
-use denote.Enum.Enum.{Enum}
 use denote.Enum.Declared.{variants, shape as enum_shape}
 use denote.Struct.Struct.{Struct}
 use denote.Struct.Declared.{fields, shape}
