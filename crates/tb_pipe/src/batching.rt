@@ -99,6 +99,15 @@ impl<'g, G: Gate> BatchRing<'g, G> {
         self.give_all(rt, parcels);
     }
 
+    /// Returns whether the group held may wait for packets that join it though the queue is empty: the gate says so, and the committer
+    /// hasn't taken what was given before.
+    fn may_hold(&mut self, front: &Front) -> bool
+        ensures ring { SameOutlet self.old.outlet self.new.outlet }
+        ensures given { given self.new.outlet ≡ given self.old.outlet }
+    {
+        front.is_holding() && self.gate.joins_while_busy() && !self.outlet.all_taken()
+    }
+
     /// Gives the group held, if there is one, so that no later packet joins it.
     fn pass_group<R: Wait + Clock>(&mut self, rt: &R, front: &mut Front)
         ensures ring { SameOutlet self.old.outlet self.new.outlet }
@@ -111,10 +120,32 @@ impl<'g, G: Gate> BatchRing<'g, G> {
             self.give(rt, Parcel::Batch(batch));
         }
     }
+
+    /// Waits once the queue is empty: with the group held until the committer takes a batch, if it may; else it gives the group, and waits
+    /// for a ticket.
+    fn wait_for_more<R: Wait + Clock>(
+        &mut self,
+        rt: &R,
+        queue: &Intake,
+        front: &mut Front,
+        idle: &IdleWait,
+    )
+        ensures ring { SameOutlet self.old.outlet self.new.outlet }
+        ensures batched { (intake : IntakeState) → MaySeal intake front.old
+            → IsBatched intake front.old (given self.old.outlet)
+            → IsBatched intake front.new (given self.new.outlet) }
+    {
+        if self.may_hold(front) {
+            self.outlet.wait(rt, idle);
+            return;
+        }
+        self.pass_group(rt, front);
+        queue.wait(rt, idle);
+    }
 }
 
 /// Takes tickets and gives parcels until each sender has ended, and then gives the last parcel. What can't join the group
-/// held seals it, and so does an empty queue.
+/// held seals it, and so does an empty queue, unless the gate has it wait for a busy committer.
 pub(crate) fn batch_all<R: Wait + Clock, G: Gate>(
     rt: &R,
     intake: &mut Intake,
@@ -139,10 +170,7 @@ pub(crate) fn batch_all<R: Wait + Clock, G: Gate>(
                 ring.pass_ticket(rt, front, &mut parcels, ticket);
                 idle.reset();
             }
-            None => {
-                ring.pass_group(rt, front);
-                intake.wait(rt, &idle);
-            }
+            None => ring.wait_for_more(rt, intake, front, &idle),
         }
     }
     unreachable!()

@@ -13,7 +13,7 @@
 mod laws;
 mod waiting;
 
-ghost use Rattle.std.specs.Prelude.{◌≡◌, ◌<◌, ◌≤◌, ◌+◌, ◌↔◌, [], ◌∷◌, ◌++◌, length, IsTrue, OnOk, IfOk, IfErr, IsOk, IfSome, IfNone, IsSomeAnd};
+ghost use Rattle.std.specs.Prelude.{◌≡◌, ◌==◌, ◌<◌, ◌≤◌, ◌+◌, ◌↔◌, [], ◌∷◌, ◌++◌, length, IsTrue, OnOk, IfOk, IfErr, IsOk, IfSome, IfNone, IsSomeAnd};
 ghost use Rattle.tb_rings.specs.clauses.Ends.{given, taken, lies, slots, free, IsRing, SameOutlet, SameInlet};
 
 pub use laws::{no_wake_up_is_lost, waking_ends};
@@ -108,6 +108,15 @@ impl<T: Drop> Outlet<T> {
         self.producer.push_reserved(value);
         self.waker.wake();
         Ok(())
+    }
+
+    /// Returns whether the taker has taken all that was given, as far as is seen. Where it is false the taker may take the rest at any time.
+    pub fn all_taken(&mut self) -> bool
+        ensures ring { SameOutlet self.old self.new }
+        ensures given { given self.new ≡ given self.old }
+        ensures value { result ≡ (free self.new == slots self.new) }
+    {
+        self.producer.slots() == self.producer.capacity()
     }
 
     /// Waits for a slot as `Sleeper::wait` does; each value that is taken wakes it.

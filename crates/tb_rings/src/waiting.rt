@@ -16,8 +16,12 @@ const LOOKS: u32 = 64;
 /// time slice, some milliseconds.
 const YIELD_MICROSECONDS: u64 = 1_000;
 
-/// For how many waits a thread doesn't yield after two yields in a row took longer.
-const WAITS_WITHOUT_YIELDS: u32 = 100;
+/// For how many waits a thread doesn't yield after two yields in a row took longer. Each time that the next yield takes as long, it is for
+/// twice as many.
+const FIRST_WAITS_WITHOUT_YIELDS: u32 = 100;
+
+/// For how many waits it doesn't yield at most. In a pipeline with work to do they take less than a second.
+const MAX_WAITS_WITHOUT_YIELDS: u32 = 12_800;
 
 /// How many microseconds a thread sleeps between two looks at what nobody wakes it for: a look takes some two of processor time.
 const POLL_MICROSECONDS: u64 = 50;
@@ -31,6 +35,8 @@ struct Pausing {
     long_yields: Cell<u32>,
     /// For how many waits it doesn't yield.
     without_yields: Cell<u32>,
+    /// For how many waits it won't yield after the next long yield.
+    next_without_yields: Cell<u32>,
 }
 
 impl Pausing {
@@ -39,6 +45,7 @@ impl Pausing {
         Pausing {
             long_yields: Cell::new(long_yields),
             without_yields: Cell::new(0),
+            next_without_yields: Cell::new(FIRST_WAITS_WITHOUT_YIELDS),
         }
     }
 
@@ -52,10 +59,14 @@ impl Pausing {
     fn note(&self, is_long: bool) {
         if !is_long {
             self.long_yields.set(0);
+            self.next_without_yields.set(FIRST_WAITS_WITHOUT_YIELDS);
         } else if self.long_yields.get() == 0 {
             self.long_yields.set(1);
         } else {
-            self.without_yields.set(WAITS_WITHOUT_YIELDS);
+            let waits = self.next_without_yields.get();
+            self.without_yields.set(waits);
+            self.next_without_yields
+                .set(waits.saturating_mul(2).min(MAX_WAITS_WITHOUT_YIELDS));
         }
     }
 

@@ -29,10 +29,10 @@ loop-preserved g c =
     let none = c.in-None-take.ensures.none in
     let intake = c.loop.intake in
     record {
-      ring = c.pass_group-in-None-take.ensures.ring ∙ c.loop.invariant.ring;
+      ring = c.wait_for_more.ensures.ring ∙ c.loop.invariant.ring;
       intake = intake_empty c.args.intake.now intake c.take.new.self c.loop.invariant.intake none;
       none = c.loop.invariant.none;
-      batched = rw none (c.pass_group-in-None-take.ensures.batched (with_empty intake)
+      batched = rw none (c.wait_for_more.ensures.batched (with_empty intake)
           (inl (Contains-push intake.seen_empty (length intake.taken)))
           (empty_more c.loop.invariant.batched));
     }

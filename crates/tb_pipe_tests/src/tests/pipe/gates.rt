@@ -108,23 +108,29 @@ impl Gate for Notes {
 }
 
 /// Counts the batches that were sealed, and those that it let through, as long as each comes once and in order. It says yes
-/// to those below a number.
+/// to those below a number, and whether packets join while the committer is busy.
 #[derive(Drop)]
 pub(super) struct Counted {
     sealed: AtomicU64,
     passed: AtomicU64,
     asked: AtomicU64,
     below: AtomicU64,
+    joins: bool,
 }
 
 impl Counted {
-    pub(super) fn new(below: u64) -> Counted {
+    pub(super) fn new(below: u64, joins: bool) -> Counted {
         Counted {
             sealed: AtomicU64::new(0),
             passed: AtomicU64::new(0),
             asked: AtomicU64::new(0),
             below: AtomicU64::new(below),
+            joins,
         }
+    }
+
+    pub(super) fn wait_until_sealed(&self, batch: u64) {
+        waits_for(&self.sealed, batch.wrapping_add(1));
     }
 
     pub(super) fn wait_until_asked(&self, batch: u64) {
@@ -155,6 +161,10 @@ fn count(counter: &AtomicU64, batch: u64) {
 }
 
 impl Gate for Counted {
+    fn joins_while_busy(&self) -> bool {
+        self.joins
+    }
+
     fn sealed(&self, batch: u64) {
         count(&self.sealed, batch);
     }
