@@ -50,12 +50,14 @@ impl Group {
         ensures group { IfOk result (λ group. group ≡ job ∷ []) }
         ensures back { IfErr result (λ refused. refused.0 ≡ job) }
     {
-        let mut parts = Parts::new(alloc, job.packet().operation);
+        let operation = job.packet().operation;
         let events = job.stub().count;
         let shares = can_share(&job);
-        if shares {
-            parts.reserve_first(before.max(Size::of(&job)));
-        }
+        let mut parts = if shares {
+            Parts::with_room(alloc, operation, before.max(Size::of(&job)))
+        } else {
+            Parts::new(alloc, operation)
+        };
         if parts.reserve_for(&job, events).is_err() {
             return Err((job, NoMemory));
         }

@@ -28,6 +28,17 @@ pub struct Parts {
     pub accounts: Vec<Account>,
 }
 
+/// Returns a list with room for this number of items, or with none if the allocation fails. It takes fewer instructions than `reserve`.
+#[inline(always)]
+fn room_for<T: Drop>(alloc: Global, items: usize) -> Vec<T>
+    ensures { result.items ≡ [] }
+{
+    match Vec::with_capacity(alloc, items) {
+        Ok(room) => room,
+        Err(_) => Vec::new(alloc),
+    }
+}
+
 impl Parts {
     /// Returns no parts yet, of an operation. Takes no memory.
     pub(crate) fn new(alloc: Global, operation: u8) -> Parts
@@ -45,21 +56,21 @@ impl Parts {
         }
     }
 
-    /// Makes room for packets of a size, and for the jobs and failures of a few small ones at least. If that is
-    /// refused, there is as much room as before.
-    pub(crate) fn reserve_first(&mut self, size: Size)
-        requires { (self.old.failures.items ≡ []) × (self.old.accounts.items ≡ []) }
-        ensures operation { self.new.operation ≡ self.old.operation }
-        ensures jobs { (self.new.jobs.items ≡ self.old.jobs.items) × (self.new.stubs.items ≡ self.old.stubs.items)
-            × (self.new.body.items ≡ self.old.body.items) }
-        ensures answer { (self.new.failures.items ≡ []) × (self.new.accounts.items ≡ []) }
+    /// Returns no parts yet, of an operation, with room for packets of a size, and for the jobs and failures of a few small ones
+    /// at least, as far as memory allows that.
+    pub(crate) fn with_room(alloc: Global, operation: u8, size: Size) -> Parts
+        ensures operation { result.operation ≡ operation }
+        ensures jobs { (result.jobs.items ≡ []) × (result.stubs.items ≡ []) × (result.body.items ≡ []) }
+        ensures answer { (result.failures.items ≡ []) × (result.accounts.items ≡ []) }
     {
-        let _ = self.jobs.reserve(size.packets.max(FIRST_PACKETS));
-        let _ = self.stubs.reserve(size.packets);
-        let _ = self.body.reserve(size.bytes);
-        let _ = self
-            .failures
-            .reserve((size.events as usize).max(FIRST_PACKETS));
+        Parts {
+            operation,
+            body: room_for(alloc, size.bytes),
+            stubs: room_for(alloc, size.packets),
+            jobs: room_for(alloc, size.packets.max(FIRST_PACKETS)),
+            failures: room_for(alloc, (size.events as usize).max(FIRST_PACKETS)),
+            accounts: Vec::new(alloc),
+        }
     }
 
     /// Makes room for one more job, and for an answer to its events.

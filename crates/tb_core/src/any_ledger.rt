@@ -30,6 +30,12 @@ pub trait AnyLedger: Drop {
     /// the ledger stops.
     fn apply(&mut self, parcel: Parcel) -> Outcomes
         ensures applied { Applying (is self.old) parcel result (is self.new) };
+
+    /// Returns whether a commit waits for more than memory, as for a disk. Then packets that come meanwhile join in a pipeline, so that
+    /// the next commit has them all. It is asked once a run.
+    fn waits(&self) -> bool {
+        false
+    }
 }
 
 impl AnyLedger for Ledger {

@@ -369,4 +369,8 @@ impl<S: Store + Drop> AnyLedger for DurableLedger<S> {
     fn apply(&mut self, parcel: Parcel) -> Outcomes {
         DurableLedger::apply(self, parcel)
     }
+
+    fn waits(&self) -> bool {
+        true
+    }
 }

@@ -92,4 +92,8 @@ impl<L: AnyLedger> AnyLedger for CountedLedger<L> {
         }
         outcomes
     }
+
+    fn waits(&self) -> bool {
+        self.ledger.waits()
+    }
 }

@@ -18,23 +18,25 @@ use tb_rings::{IdleWait, Outlet};
 use tb_submit::Intake;
 use tb_work::Ticket;
 
-/// The batch ring with the gate, and how many batches were given.
+/// The batch ring with the gate, how many batches were given, and whether the group held waits for a committer that is busy.
 #[derive(Drop)]
 pub(crate) struct BatchRing<'g, G: Gate> {
     outlet: Outlet<Parcel>,
     gate: &'g G,
     batches: u64,
+    joins: bool,
 }
 
 impl<'g, G: Gate> BatchRing<'g, G> {
     /// Returns the ring with its gate, to which no batch was reported.
-    pub(crate) fn new(outlet: Outlet<Parcel>, gate: &'g G) -> BatchRing<'g, G>
+    pub(crate) fn new(outlet: Outlet<Parcel>, gate: &'g G, joins: bool) -> BatchRing<'g, G>
         ensures { result.outlet ≡ outlet }
     {
         BatchRing {
             outlet,
             gate,
             batches: 0,
+            joins,
         }
     }
 
@@ -46,6 +48,7 @@ impl<'g, G: Gate> BatchRing<'g, G> {
             outlet,
             gate: _,
             batches: _,
+            joins: _,
         } = self;
         outlet
     }
@@ -99,13 +102,13 @@ impl<'g, G: Gate> BatchRing<'g, G> {
         self.give_all(rt, parcels);
     }
 
-    /// Returns whether the group held may wait for packets that join it though the queue is empty: the gate says so, and the committer
-    /// hasn't taken what was given before.
+    /// Returns whether the group held may wait for packets that join it though the queue is empty: a commit waits for a disk, and the
+    /// committer hasn't taken what was given before. So no packet is committed later for that, and one wait serves more of them.
     fn may_hold(&mut self, front: &Front) -> bool
         ensures ring { SameOutlet self.old.outlet self.new.outlet }
         ensures given { given self.new.outlet ≡ given self.old.outlet }
     {
-        front.is_holding() && self.gate.joins_while_busy() && !self.outlet.all_taken()
+        self.joins && front.is_holding() && !self.outlet.all_taken()
     }
 
     /// Gives the group held, if there is one, so that no later packet joins it.
@@ -145,7 +148,7 @@ impl<'g, G: Gate> BatchRing<'g, G> {
 }
 
 /// Takes tickets and gives parcels until each sender has ended, and then gives the last parcel. What can't join the group
-/// held seals it, and so does an empty queue, unless the gate has it wait for a busy committer.
+/// held seals it, and so does an empty queue, unless the group waits for a busy committer.
 pub(crate) fn batch_all<R: Wait + Clock, G: Gate>(
     rt: &R,
     intake: &mut Intake,

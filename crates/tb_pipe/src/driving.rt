@@ -8,7 +8,7 @@ ghost use Rattle.tb_pipe.specs.clauses.QueuedAhead.{HasSubmitted};
 ghost use Rattle.tb_pipe.specs.declared.opening.Opened.{Opened};
 ghost use Rattle.tb_pipe.specs.clauses.Reported.{AreTasksOf, AreTogether, GoesFrom, HasReported};
 
-use crate::gate::GroupCommit;
+use crate::gate::Open;
 use crate::opening::Opened;
 use crate::serving::{Pipeline, Served};
 use crate::settling::{Report, settle_over};
@@ -84,7 +84,7 @@ where
     ensures shares { IfOk result (λ finished. map D.share finished.drivers.items ≡ map task_share tasks.submitters) }
 {
     let running = tasks.start(scope, rt, alloc, stop)?;
-    let Ok(served) = pipeline.serve(rt, &GroupCommit) else {
+    let Ok(served) = pipeline.serve(rt, &Open) else {
         return Err(DriveFault::NoThread);
     };
     let Joined {

@@ -6,12 +6,6 @@ ghost use Rattle.std.specs.Prelude.{◌≡◌, ℕ, IsTrue, true, ⊤};
 pub trait Gate: Sync {
     ghost lets_through: { Self → ℕ → Type 0 } = { λ _ _. ⊤ };
 
-    /// Returns whether packets may still join the group held though the queue is empty, as long as the committer hasn't taken the batches
-    /// before it. No packet is committed later for that, and one commit has more of them. If not, an empty queue always seals the group.
-    fn joins_while_busy(&self) -> bool {
-        false
-    }
-
     /// Notes that the batch was handed to the committer. The batcher calls it once for each batch.
     fn sealed(&self, batch: u64);
 
@@ -25,25 +19,6 @@ pub trait Gate: Sync {
 pub struct Open;
 
 impl Gate for Open {
-    fn sealed(&self, _batch: u64) {}
-
-    fn may_commit(&self, _batch: u64) -> bool
-        ensures through { IsTrue result → ⊤ }
-        ensures yes { result ≡ true }
-    {
-        true
-    }
-}
-
-/// The gate that lets every batch through, and has packets join while the committer is busy with earlier ones. Use it if a commit
-/// costs much however few packets it has, as one that waits for a disk does.
-pub struct GroupCommit;
-
-impl Gate for GroupCommit {
-    fn joins_while_busy(&self) -> bool {
-        true
-    }
-
     fn sealed(&self, _batch: u64) {}
 
     fn may_commit(&self, _batch: u64) -> bool

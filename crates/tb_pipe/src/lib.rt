@@ -39,7 +39,7 @@ mod stages;
 mod waiting;
 
 pub use driving::{Finished, drive_all, drive_over, submit_ahead};
-pub use gate::{Gate, GroupCommit, Open};
+pub use gate::{Gate, Open};
 pub use opening::{Opened, Options, open};
 pub use serving::{Pipeline, Served};
 pub use settling::{Report, settle, settle_over};

@@ -177,6 +177,7 @@ impl<L: AnyLedger> Stages<L> {
             committer,
             demultiplexer,
         } = self;
+        let joins = committer.ledger.waits();
         let Some(committer) = start_committer(scope, rt, gate, committer) else {
             intake.fail();
             drop(front);
@@ -192,7 +193,7 @@ impl<L: AnyLedger> Stages<L> {
             drop(batches);
             return Err(intake);
         };
-        let mut ring = BatchRing::new(batches, gate);
+        let mut ring = BatchRing::new(batches, gate, joins);
         batch_all(rt, &mut intake, &mut front, &mut ring);
         drop(front);
         Ok(StoppedStages {

@@ -27,6 +27,7 @@ mod days;
 mod driven;
 mod figures;
 mod gates;
+mod joined;
 mod memory;
 mod narrow;
 mod openings;

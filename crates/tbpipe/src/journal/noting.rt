@@ -44,4 +44,8 @@ impl<S: Store + Drop> AnyLedger for Noting<S> {
         }
         outcomes
     }
+
+    fn waits(&self) -> bool {
+        self.ledger.waits()
+    }
 }

@@ -5,7 +5,6 @@ ghost use Rattle.tb_submit.specs.clauses.Ends.{origin_of, end_origin, control_se
 ghost use Rattle.tb_pipe_tests.specs.inside.Together.{AreTogether, IsRun};
 
 use super::gates::Counted;
-use super::stops::give_way;
 use super::{
     Lone, MOST_TURNS, clock, end_all, opened, outcome_kind, packet_of, put, queue, submit,
 };
@@ -23,7 +22,7 @@ use tb_test_makers::{OutcomeKind, check};
 use tb_work::{Packet, Refusal};
 
 /// How often a reply is looked for that the gate holds back.
-const HELD_TURNS: u32 = 10_000;
+pub(super) const HELD_TURNS: u32 = 10_000;
 
 /// What a driver does.
 #[derive(Clone, Copy)]
@@ -37,9 +36,6 @@ pub(super) enum Course {
     /// Two packets whose batches the gate holds: each reply is looked for and doesn't come, then the gate lets that batch
     /// through, and it comes.
     Held,
-    /// Six packets, one after the other: the gate holds the batch of the first, that of the second waits for the committer, and the
-    /// others may join if that is so. Then all batches are let through.
-    Joining(bool),
 }
 
 /// What a driver saw.
@@ -77,7 +73,7 @@ impl Promise<Driven> for ComesBack {
 }
 
 /// Ends a submitter, again and again while the queue is full.
-fn end<R: Wait + Clock>(rt: &R, submitter: Submitter) -> Ended
+pub(super) fn end<R: Wait + Clock>(rt: &R, submitter: Submitter) -> Ended
     ensures { end_origin result ≡ origin_of submitter }
 {
     let mut submitter = submitter;
@@ -91,7 +87,7 @@ fn end<R: Wait + Clock>(rt: &R, submitter: Submitter) -> Ended
     unreachable!()
 }
 
-fn end_control<R: Wait + Clock>(rt: &R, control: Control, shut: bool) -> ControlEnd
+pub(super) fn end_control<R: Wait + Clock>(rt: &R, control: Control, shut: bool) -> ControlEnd
     ensures { result.seat ≡ control.seat }
 {
     let mut control = control;
@@ -124,7 +120,7 @@ fn reply_within(submitter: &mut Submitter, turns: u32) -> Option<OutcomeKind>
 }
 
 /// Returns the next reply; None if it doesn't come in time.
-fn wait_for_reply(submitter: &mut Submitter) -> Option<OutcomeKind>
+pub(super) fn wait_for_reply(submitter: &mut Submitter) -> Option<OutcomeKind>
     ensures { origin_of submitter.new ≡ origin_of submitter.old }
 {
     reply_within(submitter, MOST_TURNS)
@@ -219,39 +215,6 @@ fn hold(submitter: &mut Submitter, gate: &Counted, batch: u64) -> (bool, Option<
     (early, wait_for_reply(submitter))
 }
 
-/// Queues six packets while the gate holds the first, and lets them through. The batcher has time to see an empty queue after each: it
-/// has sealed the packet by then, unless that is to be joined by the next. Returns how many replies were committed at the next place
-/// each.
-fn submit_six<R: Wait + Clock + Abort>(
-    rt: &R,
-    alloc: Global,
-    submitter: &mut Submitter,
-    gate: &Counted,
-    joins: bool,
-) -> u64
-    ensures { origin_of submitter.new ≡ origin_of submitter.old }
-{
-    for number in 0..6u8 {
-        queue(rt, alloc, submitter, CREATE_ACCOUNTS, number + 1);
-        if joins && number >= 2 {
-            give_way(HELD_TURNS);
-        } else {
-            gate.wait_until_sealed(u64::from(number));
-        }
-        if number == 0 {
-            gate.wait_until_asked(0);
-        }
-    }
-    gate.let_through(6);
-    let mut next = 0;
-    for _ in 0..6 {
-        if wait_for_reply(submitter) == Some(OutcomeKind::Committed(next)) {
-            next = next.wrapping_add(1);
-        }
-    }
-    next
-}
-
 /// Does what comes ahead of the control's end.
 fn drive_first<R: Wait + Clock + Abort>(
     rt: &R,
@@ -266,7 +229,6 @@ fn drive_first<R: Wait + Clock + Abort>(
         Course::RoundClose => Saw::Replies(round(rt, alloc, submitter, 1), None, None),
         Course::ReadTwo => Saw::Replies(wait_for_reply(submitter), None, None),
         Course::Fifty => Saw::Indices(submit_fifty(rt, alloc, submitter)),
-        Course::Joining(joins) => Saw::Indices(submit_six(rt, alloc, submitter, gate, joins)),
         Course::Held => {
             queue(rt, alloc, submitter, CREATE_ACCOUNTS, 1);
             queue(rt, alloc, submitter, CREATE_TRANSFERS, 0);
@@ -435,11 +397,11 @@ fn assert_driven<R: Threads + Wait + Clock + Sync + Abort>(
     requires own { map end_origin driving.ends.items ++ origin_of driving.last ∷ [] ≡ driving.pipeline.submitters }
     requires control { driving.control.seat ≡ control_seat driving.pipeline.intake }
 {
-    let gate = match course {
-        Course::Held => Counted::new(0, false),
-        Course::Joining(joins) => Counted::new(0, joins),
-        _ => Counted::new(u64::MAX, false),
-    };
+    let gate = Counted::new(if matches!(course, Course::Held) {
+        0
+    } else {
+        u64::MAX
+    });
     let (report, saw) = run(rt, alloc, driving, course, &gate)
         .ok()
         .expect(rt, "threads can be started");
@@ -478,14 +440,4 @@ fn held_by_the_gate(rt: HostRuntime) {
         (false, Some(OutcomeKind::Committed(1))),
     ]);
     assert_driven(&rt, rt.alloc(), driving, Course::Held, wanted, 1, 2);
-}
-
-/// While the committer is busy with earlier batches the packets join, if the gate says so. Else each is sealed as the queue is empty.
-#[test]
-fn joined_while_the_committer_is_busy(rt: HostRuntime) {
-    for (joins, batches) in [(true, 3), (false, 6)] {
-        let driving = opened_driving(&rt, rt.alloc(), 64, 64, 1);
-        let course = Course::Joining(joins);
-        assert_driven(&rt, rt.alloc(), driving, course, Saw::Indices(6), 6, batches);
-    }
 }

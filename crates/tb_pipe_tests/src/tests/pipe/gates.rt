@@ -108,24 +108,22 @@ impl Gate for Notes {
 }
 
 /// Counts the batches that were sealed, and those that it let through, as long as each comes once and in order. It says yes
-/// to those below a number, and whether packets join while the committer is busy.
+/// to those below a number.
 #[derive(Drop)]
 pub(super) struct Counted {
     sealed: AtomicU64,
     passed: AtomicU64,
     asked: AtomicU64,
     below: AtomicU64,
-    joins: bool,
 }
 
 impl Counted {
-    pub(super) fn new(below: u64, joins: bool) -> Counted {
+    pub(super) fn new(below: u64) -> Counted {
         Counted {
             sealed: AtomicU64::new(0),
             passed: AtomicU64::new(0),
             asked: AtomicU64::new(0),
             below: AtomicU64::new(below),
-            joins,
         }
     }
 
@@ -161,10 +159,6 @@ fn count(counter: &AtomicU64, batch: u64) {
 }
 
 impl Gate for Counted {
-    fn joins_while_busy(&self) -> bool {
-        self.joins
-    }
-
     fn sealed(&self, batch: u64) {
         count(&self.sealed, batch);
     }
