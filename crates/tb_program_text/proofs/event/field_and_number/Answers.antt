@@ -20,10 +20,10 @@ named-requires c = search (rules, are_bare)
 pub named-requires-in-Transfer : goal.named-requires-in-Transfer
 named-requires-in-Transfer c = search (rules, are_bare)
 
-pub returns-in-Account-clause-both : goal.returns-in-Account-clause-both
+pub returns-in-Account : goal.returns-in-Account
 unfolding field_and_number
-returns-in-Account-clause-both c = rw c.in-Account.is c.named.ensures.both
+returns-in-Account c = rw c.in-Account.is c.named.ensures
 
-pub returns-in-Transfer-clause-both : goal.returns-in-Transfer-clause-both
+pub returns-in-Transfer : goal.returns-in-Transfer
 unfolding field_and_number
-returns-in-Transfer-clause-both c = rw c.in-Transfer.is c.named-in-Transfer.ensures.both
+returns-in-Transfer c = rw c.in-Transfer.is c.named-in-Transfer.ensures
