@@ -1,6 +1,6 @@
 -- The field that a word names, and its number.
 use Rattle.std.proofs.Common.{rules, ◌≡◌, ℕ, ◌+◌, ◌<◌, ◌≤◌, true, false, List, [], ◌∷◌, ◌++◌, length, take, drop, refl, ap, ◌∙◌, arith, ◌-◌, suc, Bor, Some, None, Option, Ok, Result, length-append, lt-ltb, le-ltb, inl, inr}
-use Rattle.tb_program_text.proofs.Words.{◌==◌, All, map, first_line, NamedField, slice_index_or, not, bytes_eq, get_or, list_all, position_or_len, before_first, rest_after, cases_lt, false_from_ne_true, Decides-eqb, split_at_first, passes_at_first, All-head, All-tail, All-drop, All-map, bytes_eq-Decides, drop-append-add, take-append_seam, get_or-append_seam, split_at, common_steps, Field, Fault, Draft, Layout, Account, Transfer, AreRowsOf, IsBare, Lies, fields_of, found, named, sides_of, ◌>>=◌, look_up, first_word, after_first_word, word_end, NamesField}
+use Rattle.tb_program_text.proofs.Words.{◌==◌, All, map, first_line, NamedField, slice_index_or, not, bytes_eq, get_or, list_all, position_or_len, before_first, rest_after, cases_lt, false_from_ne_true, Decides-eqb, split_at_first, passes_at_first, All-drop, All-map, bytes_eq-Decides, drop-append-add, take-append_seam, get_or-append_seam, split_at, common_steps, Field, Fault, Draft, Layout, Account, Transfer, AreRowsOf, IsBare, Lies, fields_of, found, named, sides_of, ◌>>=◌, look_up, first_word, after_first_word, word_end, NamesField}
 use Rattle.tb_program_text.specs.clauses.Event.{after_word, after_words, field_and_number}
 use Rattle.tb_program_text.specs.clauses.Text.{words_of}
 use Rattle.tb_program_text.proofs.FirstLines.{found_after}
@@ -71,26 +71,14 @@ after_sign text word end h =
     ∙ ap (λ byte. word ++ byte ∷ drop (suc (length word)) text) h.sign
     ∙ ap (λ (count : ℕ). word ++ end ∷ drop count text) one)
 
-abbrev row_of : Bor (List ℕ) × Field → List ℕ × Field
+abbrev pub row_of : Bor (List ℕ) × Field → List ℕ × Field
 row_of row = (row.0.now, row.1)
 
 -- a table is its first row and the others
-pub record FirstRow (table : List (Bor (List ℕ) × Field)) (first : Bor (List ℕ) × Field) : Type 0 where
-  pub rows : map row_of table ≡ row_of first ∷ map row_of (take (length table - 1) (drop 1 table))
-  pub bare : IsBare first.0.now
-  pub others : All (λ row. IsBare row.0.now) (take (length table - 1) (drop 1 table))
-
-pub first_row : (table : List (Bor (List ℕ) × Field)) (d : Bor (List ℕ) × Field)
-    → All (λ row. IsBare row.0.now) table → 1 ≤ length table →
-    FirstRow table (slice_index_or table 0 d)
-first_row [] d bare h = absurd (omega arith)
-first_row (row ∷ rows) d bare h =
-    let whole : take (suc (length rows) - 1) rows ≡ rows = grind (arith, common_steps) in
-    record {
-      rows = rw whole refl;
-      bare = All-head (λ row. IsBare row.0.now) row rows bare;
-      others = rw whole (All-tail (λ row. IsBare row.0.now) row rows bare);
-    }
+pub first_of : (table : List (Bor (List ℕ) × Field)) (d : Bor (List ℕ) × Field) → 1 ≤ length table
+    → table ≡ slice_index_or table 0 d ∷ take (length table - 1) (drop 1 table)
+first_of [] d h = absurd (omega arith)
+first_of (row ∷ rows) d h = let whole : take (suc (length rows) - 1) rows ≡ rows = grind (arith, common_steps) in rw whole refl
 
 -- ---- one word after another
 

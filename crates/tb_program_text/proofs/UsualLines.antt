@@ -92,11 +92,13 @@ field_is_text layout name field e =
     found_row (λ word value. is_text word ≡ true) (fields_of layout) name field (all-implied (λ row. is_text row.0)
     (λ row. is_text row.0 ≡ true) (fields_of layout) (λ row h. h) (names_are_text layout)) e
 
+-- a number that was put was given
 number_given : (draft : Draft) (field : Field) (number : Option ℕ) {next : Draft} → put draft field number ≡ Ok next
     → (n : ℕ) × (number ≡ Some n)
 number_given draft field None e = absurd (search (rules, e))
 number_given draft field (Some n) e = (n, refl)
 
+-- a word is its sides with `=` between them
 sides_are : (word : List ℕ) (sides : List ℕ × List ℕ) → sides_of word ≡ Ok sides → word ≡ sides.0 ++ 61 ∷ sides.1
 sides_are word sides e = elim (cases_lt (position_or_len (λ byte. byte == 61) word) (length word)) [
   | inl below ↦
@@ -202,9 +204,11 @@ taken (Ok None) first more h = record { line = h.line; rest = tt }
 taken (Ok (Some left)) first more h = record { line = more h.line; rest = h.rest ∙ sym first.others }
 
 module _ (parsed next : ParsedScript) (text rest : List ℕ) {Fails : Type 0} (result : Result (Option (Bor (List ℕ))) Fails) where
+  -- the line was taken if it isn't too long
   abbrev Taken : Type 0
   Taken = TakesUsual text (next ≡ parsed) (length (first_line text) ≤ line_max → after_line parsed (first_line text) ≡ Ok next) result
 
+  -- the fields after the keyword were taken
   abbrev EventTaken : Layout → Type 0
   EventTaken layout = TakesUsual rest (next ≡ parsed)
       ((is_some parsed.packet ≡ true) × (with_event parsed layout (words_of (first_line rest)) ≡ Ok next)) result
