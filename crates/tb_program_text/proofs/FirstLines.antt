@@ -13,13 +13,13 @@ found_after p (byte ∷ front) others none =
     rw (parts.0, found_after p front others parts.1) (omega arith)
 
 -- what is before a stop in a text begins with some bytes
-pub record Begins (stop : ℕ → Bool) (text front others : List ℕ) : Type 0 where
+pub record BeginsBefore (stop : ℕ → Bool) (text front others : List ℕ) : Type 0 where
   pub before : before_first stop text ≡ front ++ before_first stop others
   pub rest : drop (position_or_len stop text) text ≡ drop (position_or_len stop others) others
 
-pub begins : (stop : ℕ → Bool) (text front others : List ℕ) → list_all (λ byte. not (stop byte)) front ≡ true
-    → text ≡ front ++ others → Begins stop text front others
-begins stop text front others none e =
+begins_before : (stop : ℕ → Bool) (text front others : List ℕ) → list_all (λ byte. not (stop byte)) front ≡ true
+    → text ≡ front ++ others → BeginsBefore stop text front others
+begins_before stop text front others none e =
     let at = found_after stop front others none in
     record {
       before = rw (e, at) (take-append-add front others (position_or_len stop others));
@@ -28,16 +28,16 @@ begins stop text front others none e =
 
 -- the same, with the bytes of the first line counted
 cut_line : (text : List ℕ) (count : ℕ) → list_all (λ byte. not (byte == 10)) (take count text) ≡ true
-    → Begins (λ byte. byte == 10) text (take count text) (drop count text)
+    → BeginsBefore (λ byte. byte == 10) text (take count text) (drop count text)
 cut_line text count none =
-    begins (λ byte. byte == 10) text (take count text) (drop count text) none (sym (take-append-drop count text))
+    begins_before (λ byte. byte == 10) text (take count text) (drop count text) none (sym (take-append-drop count text))
 
 -- the same of a word and a sign after it
 pub begins_signed : (stop : ℕ → Bool) (text word : List ℕ) (sign : ℕ) (others : List ℕ)
     → list_all (λ byte. not (stop byte)) word ≡ true → stop sign ≡ false → text ≡ word ++ sign ∷ others
-    → Begins stop text (word ++ sign ∷ []) others
+    → BeginsBefore stop text (word ++ sign ∷ []) others
 begins_signed stop text word sign others none passed e =
-    begins stop text (word ++ sign ∷ []) others
+    begins_before stop text (word ++ sign ∷ []) others
     (list_all-append (λ byte. not (stop byte)) word (sign ∷ []) ∙ rw (none, passed) refl)
     (e ∙ sym (append_assoc word (sign ∷ []) others))
 

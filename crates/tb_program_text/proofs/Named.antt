@@ -106,7 +106,7 @@ rows_from layout rows index size long are =
     )
 
 -- a name that the rows have, before a `=`
-pub record Names (word : List ℕ) (rows : List (List ℕ × Field)) (both : Field × List ℕ) : Type 0 where
+pub record NamesRow (word : List ℕ) (rows : List (List ℕ × Field)) (both : Field × List ℕ) : Type 0 where
   pub name : List ℕ
   pub sides : sides_of word ≡ Ok (name, both.1)
   pub row : look_up name rows ≡ Some both.0
@@ -115,8 +115,8 @@ some_found : {Value : Type 0} (value : Option Value) {made : Value} → found va
 some_found None e = absurd (search (rules, e))
 some_found (Some value) e = cc
 
-pub names : (word : List ℕ) (rows : List (List ℕ × Field)) (both : Field × List ℕ) → named word rows ≡ Ok both → Names word rows both
-names word rows both e =
+pub names_row : (word : List ℕ) (rows : List (List ℕ × Field)) (both : Field × List ℕ) → named word rows ≡ Ok both → NamesRow word rows both
+names_row word rows both e =
     let sides = both_done (sides_of word) (λ s. found (look_up s.0 rows) >>= λ f. Ok (f, s.1)) e in
     let row = both_done (found (look_up sides.between.0 rows)) (λ f. Ok (f, sides.between.1)) sides.ended in
     let same : (row.between, sides.between.1) ≡ both = cc in
@@ -133,7 +133,7 @@ pub named_among : (layout : Layout) (rows : List (Bor (List ℕ) × Field)) (tex
     → NamesField text 13 (field_and_number layout (first_word (first_line text))) (Ok named_field)
 unfolding field_and_number
 named_among layout rows text named_field own few h =
-    let is = names (first_word (first_line text)) (map row_of rows) _ h.both in
+    let is = names_row (first_word (first_line text)) (map row_of rows) _ h.both in
     record {
       both = rw (
         is.sides,
@@ -154,5 +154,5 @@ fields_lie Transfer = search rules
 pub lies_of : (layout : Layout) (word : List ℕ) (both : Field × List ℕ) → field_and_number layout word ≡ Ok both → Lies both.0
 unfolding field_and_number
 lies_of layout word both e =
-    let is = names word (fields_of layout) both e in
+    let is = names_row word (fields_of layout) both e in
     found_row (λ name field. Lies field) (fields_of layout) is.name both.0 (fields_lie layout) is.row

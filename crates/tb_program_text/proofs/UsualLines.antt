@@ -9,7 +9,7 @@ use Rattle.tb_program_text.specs.clauses.Number.{number_of}
 use Rattle.tb_program_text.specs.clauses.Script.{after_line, with_line}
 use Rattle.tb_program_text.specs.clauses.Text.{words_of}
 use Rattle.tb_program_text.proofs.FirstLines.{begins_signed, found_after}
-use Rattle.tb_program_text.proofs.Named.{names, parts_of}
+use Rattle.tb_program_text.proofs.Named.{names_row, parts_of}
 use Rattle.tb_program_text.proofs.Spelling.{IsNamed, keyword_named, text_no_end}
 use Rattle.tb_program_text.proofs.Steps.{both_done}
 use Rattle.tb_program_text.proofs.Tables.{found_row}
@@ -118,7 +118,7 @@ word_is_text layout draft word e =
     (λ both. new_field draft both.0 >>= λ field. put draft field (number_of both.1)) e in
     let new = both_done (new_field draft named.between.0) (λ field. put draft field (number_of named.between.1)) named.ended in
     let number = number_given draft new.between (number_of named.between.1) new.ended in
-    let is = names word (fields_of layout) named.between named.began in
+    let is = names_row word (fields_of layout) named.between named.began in
     ap is_text (sides_are word (is.name, named.between.1) is.sides)
     ∙ list_all-append is_text_byte is.name (61 ∷ named.between.1)
     ∙ rw (field_is_text layout is.name named.between.0 is.row, number_is_text named.between.1 number.0 number.1) refl
