@@ -1,6 +1,6 @@
 -- A line spelled from the fields of an event adds the bytes that are written of it.
 use Rattle.std.proofs.Common.{◌≡◌, ℕ, zero, suc, ◌+◌, ◌-◌, ◌*◌, ◌/◌, ◌%◌, ◌^◌, ◌<◌, ◌≤◌, Bool, true, false, List, [], ◌∷◌, ◌++◌, length, take, drop, replicate, set, refl, sym, ap, ◌∙◌, arith, Some, Ok, Result, length-append, append_assoc, subst, lt-ltb}
-use Rattle.tb_program_text.proofs.Words.{◌==◌, ◌&&◌, All, map, codes, decimal, nat_le, nat_lt, slice_index_or, is_some, not, list_all, byte_at, bytes_low_first, to_le_bytes, w128, drop-replicate, get_or-set_other, All-head, All-tail, list_all-append, and_parts, nat_tests, drop-append-add, take-append_seam, Fault, Draft, Layout, Keyword, Adds, SpelledAccountsAreLaidOut, SpelledTransfersAreLaidOut, SpelledIdsAreLaidOut, ParsedScript, may_stand, with_bytes, field, NamedNumber, IsOfItsSize, field_word, fields_line, line_of_words, named_of_account, named_of_transfer, ◌>>=◌}
+use Rattle.tb_program_text.proofs.Words.{◌==◌, ◌&&◌, All, map, codes, decimal, nat_le, nat_lt, slice_index_or, is_some, not, list_all, byte_at, bytes_low_first, to_le_bytes, w128, drop-replicate, get_or-set_other, All-head, All-tail, list_all-append, and_parts, nat_tests, drop-append-add, take-append_seam, Fault, Draft, Layout, Keyword, Adds, SpelledAccountsAreLaidOut, SpelledTransfersAreLaidOut, SpelledIdsAreLaidOut, ParsedScript, may_stand, with_bytes, field, NamedNumber, IsOfItsSize, field_word, fields_line, line_of_words, named_of_account, named_of_transfer, fields_of, look_up, ◌>>=◌}
 use Rattle.std.proofs.Math.Nat.{div-div-eq-div-mul, div-one, pow-suc, pow-le-pow_right}
 use Rattle.tb_layout.specs.declared.account.Account.{Account}
 use Rattle.tb_layout.specs.declared.transfer.Transfer.{Transfer}
@@ -9,7 +9,7 @@ use Rattle.tb_program_text.specs.declared.event.Layout.TheVariants as layout
 use Rattle.tb_program_text.specs.declared.keyword.Keyword.TheVariants as word
 use Rattle.tb_program_text.specs.clauses.Keyword.{keyword_of}
 use Rattle.tb_program_text.specs.clauses.Script.{with_line}
-use Rattle.tb_program_text.specs.clauses.Event.{field_of, after_word, after_words, event_of}
+use Rattle.tb_program_text.specs.clauses.Event.{field_and_number, after_word, after_words, event_of}
 use Rattle.tb_program_text.proofs.Named.{sides_of_named}
 use Rattle.tb_program_text.proofs.Spelling.{is_word, is_word_byte, decimal_is_word, length-decimal, number_line, number_within-decimal, keyword_line, IsNamed, keyword_named}
 
@@ -47,28 +47,11 @@ length-bytes_of (suc size) number = ap suc (length-bytes_of size (number / 256))
 
 -- what is known of a field at an index and an offset without its number
 record IsFieldAt (layout : Layout) (index offset size : ℕ) (name : List ℕ) : Type 0 where
-  found : field_of layout name ≡ Some (field index offset size)
+  found : look_up name (fields_of layout) ≡ Some (field index offset size)
   bare : list_all (λ byte. not (byte == 61)) name ≡ true
-  closed : (nat_le size 16 && (nat_le (length name) 24 && is_word name)) ≡ true
-
-small_of : {layout : Layout} {index offset size : ℕ} {name : List ℕ}
-    → IsFieldAt layout index offset size name → size ≤ 16
-small_of {layout} {index} {offset} {size} {name} is =
-    let h = (and_parts (nat_le size 16) (nat_le (length name) 24 && is_word name) is.closed).0 in
-    grind (arith, nat_tests)
-
-short_of : {layout : Layout} {index offset size : ℕ} {name : List ℕ}
-    → IsFieldAt layout index offset size name → length name ≤ 24
-short_of {layout} {index} {offset} {size} {name} is =
-    let h = (and_parts (nat_le (length name) 24) (is_word name)
-    (and_parts (nat_le size 16) (nat_le (length name) 24 && is_word name) is.closed).1).0 in
-    grind (arith, nat_tests)
-
-word_of : {layout : Layout} {index offset size : ℕ} {name : List ℕ}
-    → IsFieldAt layout index offset size name → is_word name ≡ true
-word_of {layout} {index} {offset} {size} {name} is =
-    (and_parts (nat_le (length name) 24) (is_word name)
-    (and_parts (nat_le size 16) (nat_le (length name) 24 && is_word name) is.closed).1).1
+  small : size ≤ 16
+  short : length name ≤ 24
+  word : is_word name ≡ true
 
 -- the fields from an index and an offset on
 abbrev AreInTurn : Layout → ℕ → ℕ → List NamedNumber → Type 0
@@ -102,9 +85,9 @@ module _ (layout : Layout) where
       IsOfItsSize field → slice_index_or given index false ≡ false → length front + field.size ≤ 128 →
       after_word layout (drafted front given) (field_word field)
       ≡ Ok (drafted (front ++ bytes_of field.size field.number) (set given index true))
-  unfolding after_word
+  unfolding after_word field_and_number
   one_field field front given is h unset room =
-      let small = fits field.size field.number (small_of is) h in
+      let small = fits field.size field.number is.small h in
       let bytes = bytes_of field.size field.number in
       let tail : drop (length front + field.size) (front ++ replicate (128 - length front) 0)
       ≡ replicate (128 - length (front ++ bytes)) 0 =
@@ -117,7 +100,7 @@ module _ (layout : Layout) where
         unset,
         number_within-decimal 0 (256 ^ field.size - 1) field.number (omega arith) (omega (arith, h)) small,
       )
-      (rw (take-append_seam front (replicate (128 - length front) 0), lowest field.size field.number (small_of is), tail) refl)
+      (rw (take-append_seam front (replicate (128 - length front) 0), lowest field.size field.number is.small, tail) refl)
 
   all_fields : (index : ℕ) (front : List ℕ) (given : List Bool) (fields : List NamedNumber)
       → AreInTurn layout index (length front) fields →
@@ -179,14 +162,14 @@ module _ (layout : Layout) where
       → AreInTurn layout index offset fields → All IsOfItsSize fields → AreGoodWords keyword fields
   good_words index offset keyword [] turn h = record { words = refl; short = omega arith }
   good_words index offset keyword (field ∷ fields) turn h =
-      let small = fits field.size field.number (small_of turn.0) (All-head IsOfItsSize field fields h) in
+      let small = fits field.size field.number turn.0.small (All-head IsOfItsSize field fields h) in
       let rest = good_words (suc index) (offset + field.size) (field_word field) fields turn.1
       (All-tail IsOfItsSize field fields h) in
       record {
-        words = rw (field_is_word field.name field.number (word_of turn.0) small, rest.words) refl;
+        words = rw (field_is_word field.name field.number turn.0.word small, rest.words) refl;
         short = omega (
           arith,
-          short_of turn.0,
+          turn.0.short,
           rest.short,
           length-decimal field.number small,
           length-append field.name (61 ∷ decimal field.number),
@@ -209,25 +192,28 @@ module _ (layout : Layout) where
       ((makes parsed).0 ∙ begun)
       ((makes parsed).1 (map field_word fields) ∙ rw (event_is_laid_out fields whole h) refl)).read
 
-at : {layout : Layout} {index offset size : ℕ} {name : List ℕ} → field_of layout name ≡ Some (field index offset size) →
+at : {layout : Layout} {index offset size : ℕ} {name : List ℕ} → look_up name (fields_of layout) ≡ Some (field index offset size) →
     list_all (λ byte. not (byte == 61)) name ≡ true
     → (nat_le size 16 && (nat_le (length name) 24 && is_word name)) ≡ true →
     IsFieldAt layout index offset size name
-at found bare closed = record { found = found; bare = bare; closed = closed }
+at {layout} {index} {offset} {size} {name} found bare closed =
+    let sized = and_parts (nat_le size 16) (nat_le (length name) 24 && is_word name) closed in
+    let named = and_parts (nat_le (length name) 24) (is_word name) sized.1 in
+    let small : size ≤ 16 = grind (arith, nat_tests, sized.0) in
+    let short : length name ≤ 24 = grind (arith, nat_tests, named.0) in
+    record { found = found; bare = bare; small = small; short = short; word = named.1 }
 
 infixr 5 ◌⨾◌
 ◌⨾◌ : {A B : Type 0} → A → B → A × B
 first ⨾ others = (first, others)
 
 accounts_in_turn : (account : Account) → AreInTurn layout.Account 0 0 (named_of_account account)
-unfolding field_of
 accounts_in_turn account =
     at refl refl refl ⨾ at refl refl refl ⨾ at refl refl refl ⨾ at refl refl refl ⨾ at refl refl refl ⨾
     at refl refl refl ⨾ at refl refl refl ⨾ at refl refl refl ⨾ at refl refl refl ⨾ at refl refl refl ⨾
     at refl refl refl ⨾ at refl refl refl ⨾ at refl refl refl ⨾ tt
 
 transfers_in_turn : (transfer : Transfer) → AreInTurn layout.Transfer 0 0 (named_of_transfer transfer)
-unfolding field_of
 transfers_in_turn transfer =
     at refl refl refl ⨾ at refl refl refl ⨾ at refl refl refl ⨾ at refl refl refl ⨾ at refl refl refl ⨾
     at refl refl refl ⨾ at refl refl refl ⨾ at refl refl refl ⨾ at refl refl refl ⨾ at refl refl refl ⨾

@@ -1,8 +1,8 @@
 -- The first line of a text, and its first word.
-use Rattle.std.proofs.Common.{◌≡◌, ℕ, ◌+◌, ◌<◌, ◌≤◌, Bool, true, not, List, [], ◌∷◌, length, ◌++◌, take, drop, refl, sym, ap, ◌∙◌, arith, inl, inr, ◌⊎◌, suc, length-append, append_assoc, take-append-drop, length-take-le}
-use Rattle.tb_program_text.proofs.Words.{◌==◌, ◌||◌, position_or_len, list_all, is_ascii_digit, common_steps, drop-drop, length-drop, nil_from_length, length-prefix_len, and_parts, drop-append-add, take-append-add, take-append_seam, drop-append_seam, first_line, after_first_line, first_word, after_first_word}
+use Rattle.std.proofs.Common.{◌≡◌, ℕ, ◌+◌, ◌<◌, ◌≤◌, Bool, true, false, not, List, [], ◌∷◌, length, ◌++◌, take, drop, refl, sym, ap, ◌∙◌, arith, inl, inr, ◌⊎◌, length-append, append_assoc, take-append-drop, length-take-le}
+use Rattle.tb_program_text.proofs.Words.{◌==◌, ◌||◌, position_or_len, list_all, list_all-append, is_ascii_digit, common_steps, drop-drop, length-drop, nil_from_length, length-prefix_len, and_parts, drop-append-add, take-append-add, take-append_seam, drop-append_seam, before_first, first_line, after_first_line, first_word, line_end, word_end, spaces, IsAfterFirstWord}
 use Rattle.tb_program_text.specs.clauses.Text.{lines_of, words_of}
-use Rattle.tb_program_text.proofs.Texts.{list_all-implied, next_taken, none_before, spaces, word_end, line_end, lines_first, words_from_space, trimmed_begins}
+use Rattle.tb_program_text.proofs.Texts.{list_all-implied, next_taken, none_before, lines_first, words_from_space, trimmed_begins}
 
 -- what is first found after bytes that don't pass
 pub found_after : (p : ℕ → Bool) (front others : List ℕ) → list_all (λ byte. not (p byte)) front ≡ true
@@ -12,27 +12,42 @@ found_after p (byte ∷ front) others none =
     let parts = and_parts (not (p byte)) (list_all (λ x. not (p x)) front) none in
     rw (parts.0, found_after p front others parts.1) (omega arith)
 
-abbrev pub has_no_end : List ℕ → Bool
-has_no_end front = list_all (λ byte. not (byte == 10)) front
+-- what is before a stop in a text begins with some bytes
+pub record BeginsBefore (stop : ℕ → Bool) (text front others : List ℕ) : Type 0 where
+  pub before : before_first stop text ≡ front ++ before_first stop others
+  pub rest : drop (position_or_len stop text) text ≡ drop (position_or_len stop others) others
 
--- a text whose first line begins with some bytes
-pub record BeginsLine (text front others : List ℕ) : Type 0 where
-  pub line : first_line text ≡ front ++ first_line others
-  pub rest : after_first_line text ≡ after_first_line others
-
-pub begins_line : (text front others : List ℕ) → has_no_end front ≡ true → text ≡ front ++ others → BeginsLine text front others
-begins_line text front others none e =
-    let at = found_after (λ byte. byte == 10) front others none in
+begins_before : (stop : ℕ → Bool) (text front others : List ℕ) → list_all (λ byte. not (stop byte)) front ≡ true
+    → text ≡ front ++ others → BeginsBefore stop text front others
+begins_before stop text front others none e =
+    let at = found_after stop front others none in
     record {
-      line = rw (e, at) (take-append-add front others (line_end others));
-      rest = rw (e, at) (drop-append-add front others (line_end others));
+      before = rw (e, at) (take-append-add front others (position_or_len stop others));
+      rest = rw (e, at) (drop-append-add front others (position_or_len stop others));
     }
 
--- the same, with the bytes counted
-pub cut_line : (text : List ℕ) (count : ℕ) → has_no_end (take count text) ≡ true
-    → BeginsLine text (take count text) (drop count text)
+-- the same, with the bytes of the first line counted
+cut_line : (text : List ℕ) (count : ℕ) → list_all (λ byte. not (byte == 10)) (take count text) ≡ true
+    → BeginsBefore (λ byte. byte == 10) text (take count text) (drop count text)
 cut_line text count none =
-    begins_line text (take count text) (drop count text) none (sym (take-append-drop count text))
+    begins_before (λ byte. byte == 10) text (take count text) (drop count text) none (sym (take-append-drop count text))
+
+-- the same of a word and a sign after it
+pub begins_signed : (stop : ℕ → Bool) (text word : List ℕ) (sign : ℕ) (others : List ℕ)
+    → list_all (λ byte. not (stop byte)) word ≡ true → stop sign ≡ false → text ≡ word ++ sign ∷ others
+    → BeginsBefore stop text (word ++ sign ∷ []) others
+begins_signed stop text word sign others none passed e =
+    begins_before stop text (word ++ sign ∷ []) others
+    (list_all-append (λ byte. not (stop byte)) word (sign ∷ []) ∙ rw (none, passed) refl)
+    (e ∙ sym (append_assoc word (sign ∷ []) others))
+
+-- if a text doesn't begin so, what is before a stop in it doesn't either
+pub not_signed : (stop : ℕ → Bool) (text word : List ℕ) (sign : ℕ) → ((others : List ℕ) → text ≡ word ++ sign ∷ others → ⊥)
+    → (others : List ℕ) → before_first stop text ≡ word ++ sign ∷ others → ⊥
+not_signed stop text word sign differs others e =
+    let back = drop (position_or_len stop text) text in
+    differs (others ++ back) (sym (take-append-drop (position_or_len stop text) text) ∙ ap (λ front. front ++ back) e
+    ∙ append_assoc word (sign ∷ others) back)
 
 -- a text is its first line and the rest
 pub whole_text : (text : List ℕ) → first_line text ++ after_first_line text ≡ text
@@ -73,37 +88,15 @@ trimmed_text text rest e =
     let cut = cut_line text (spaces text)
     (list_all-implied (λ byte. byte == 32) (λ byte. not (byte == 10)) (take (spaces text) text) no_end only) in
     rw e (record {
-      words = sym (ap words_of cut.line ∙ words_after (take (spaces text) text) (first_line (drop (spaces text) text)) only);
+      words = sym (ap words_of cut.before ∙ words_after (take (spaces text) text) (first_line (drop (spaces text) text)) only);
       begins = line_begins (drop (spaces text) text) (trimmed_begins text);
       others = sym cut.rest;
       within = omega (
         arith,
-        ap length cut.line,
+        ap length cut.before,
         length-append (take (spaces text) text) (first_line (drop (spaces text) text)),
       );
     })
-
--- ---- a name and what follows it
-
-pub record NamedLine (text name others : List ℕ) : Type 0 where
-  pub line : first_line text ≡ name ++ 61 ∷ first_line others
-  pub rest : after_first_line text ≡ after_first_line others
-
-pub named_line : (text name others : List ℕ) → has_no_end name ≡ true → text ≡ name ++ 61 ∷ others → NamedLine text name others
-named_line text name others none e =
-    let begins = begins_line text name (61 ∷ others) none e in
-    let one : 1 + line_end others ≡ suc (line_end others) = omega arith in
-    record {
-      line = begins.line ∙ ap (λ line. name ++ line) (rw one refl);
-      rest = begins.rest ∙ rw one refl;
-    }
-
--- a line whose text doesn't begin so, doesn't either
-pub no_name_first : (text name : List ℕ) → ((others : List ℕ) → text ≡ name ++ 61 ∷ others → ⊥) → (others : List ℕ)
-    → first_line text ≡ name ++ 61 ∷ others → ⊥
-no_name_first text name differs others e = differs (others ++ after_first_line text)
-    (sym (whole_text text) ∙ ap (λ front. front ++ after_first_line text) e
-    ∙ append_assoc name (61 ∷ others) (after_first_line text))
 
 -- ---- the first word
 
@@ -120,8 +113,7 @@ no_end_in_word byte h = grind (arith, common_steps, h)
 -- a text cut after its first word
 pub record WordCut (text : List ℕ) (count : ℕ) : Type 0 where
   pub word : first_word (first_line text) ≡ take count text
-  pub rest : first_line (drop count text) ≡ after_first_word (first_line text)
-  pub others : after_first_line (drop count text) ≡ after_first_line text
+  pub rest : IsAfterFirstWord text (drop count text)
 
 pub word_cut : (text : List ℕ) (count : ℕ) → count ≤ length text → count ≡ position_or_len ends_word text → WordCut text count
 word_cut text count within e =
@@ -133,9 +125,11 @@ word_cut text count within e =
     let long : length front ≡ count = length-take-le count text within in
     let at : word_end (first_line text) ≡ length front = sym (word_end_in_line text) ∙ sym e ∙ sym long in
     record {
-      word = ap (λ n. take n (first_line text)) at ∙ ap (take (length front)) cut.line ∙ take-append_seam front back;
-      rest = sym (ap (λ n. drop n (first_line text)) at ∙ ap (drop (length front)) cut.line ∙ drop-append_seam front back);
-      others = sym cut.rest;
+      word = ap (λ n. take n (first_line text)) at ∙ ap (take (length front)) cut.before ∙ take-append_seam front back;
+      rest = record {
+        rest = sym (ap (λ n. drop n (first_line text)) at ∙ ap (drop (length front)) cut.before ∙ drop-append_seam front back);
+        others = sym cut.rest;
+      };
     }
 
 digit_ends_nothing : (byte : ℕ) → is_ascii_digit byte ≡ true → not (ends_word byte) ≡ true

@@ -1,5 +1,6 @@
 pub mod Words
 pub mod Tables
+pub mod Steps
 pub mod Texts
 pub mod FirstLines
 pub mod Numbers

@@ -1,6 +1,6 @@
 -- Lines one after another: those without fault, and the first faulty one.
 use Rattle.std.proofs.Common.{◌≡◌, ℕ, suc, ◌+◌, List, [], ◌∷◌, ◌++◌, length, Result, Ok, Err, refl, sym, ap, ◌∙◌, arith}
-use Rattle.tb_program_text.proofs.Words.{IsOk, Fault, ParsedScript, at_line, ◌>>=◌, FirstFaultDecides, FaultlessLinesAreParsed}
+use Rattle.tb_program_text.proofs.Words.{nil_from_length, IsOk, Fault, ParsedScript, at_line, ◌>>=◌, FirstFaultDecides, FaultlessLinesAreParsed}
 use Rattle.tb_program_text.specs.clauses.Text.{lines_of}
 use Rattle.tb_program_text.specs.clauses.Script.{after_line, after_lines}
 
@@ -19,8 +19,7 @@ line_faulty number parsed fault all line lines e h = rw e (rw h refl)
 pub lines_ended : (number : ℕ) (parsed : ParsedScript) (bs : List ℕ) → length bs ≡ 0
     → after_lines number parsed (lines_of bs) ≡ Ok parsed
 unfolding after_lines lines_of
-lines_ended number parsed [] h = refl
-lines_ended number parsed (b ∷ bs) h = absurd (omega arith)
+lines_ended number parsed bs none = rw (nil_from_length bs none) refl
 
 first_step : (number : ℕ) (r : Result ParsedScript Fault) (lines : List (List ℕ)) (next : ParsedScript)
     → (at_line number r >>= λ s. after_lines (number + 1) s lines) ≡ Ok next →

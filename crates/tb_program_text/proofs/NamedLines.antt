@@ -1,7 +1,7 @@
 -- The lines of an output, one after the other, with the names of their codes.
-use Rattle.std.proofs.Common.{◌≡◌, ℕ, List, [], ◌∷◌, ◌++◌, length, drop, codes, refl, arith}
+use Rattle.std.proofs.Common.{◌≡◌, ℕ, List, [], ◌∷◌, ◌++◌, length, drop, codes, refl}
 use Rattle.tb_program_text.specs.clauses.Text.{lines_of, words_of}
-use Rattle.tb_program_text.proofs.Words.{first_operation, named_line}
+use Rattle.tb_program_text.proofs.Words.{nil_from_length, first_operation, named_line}
 use Rattle.tb_program_text.specs.clauses.Naming.{named_lines}
 
 pub line_named : (operations : List ℕ) (all : List (List ℕ)) (line : List ℕ) (lines : List (List ℕ)) → all ≡ line ∷ lines
@@ -12,5 +12,4 @@ line_named operations all line lines e = rw e refl
 
 pub none_named : (operations bytes : List ℕ) → length bytes ≡ 0 → named_lines operations (lines_of bytes) ≡ []
 unfolding named_lines lines_of
-none_named operations [] h = refl
-none_named operations (byte ∷ bytes) h = absurd (omega arith)
+none_named operations bytes none = rw (nil_from_length bytes none) refl

@@ -1,6 +1,6 @@
 -- What `parse` answers for a word of digits.
 use Rattle.std.proofs.Common.{◌≡◌, ℕ, zero, suc, ◌+◌, ◌-◌, ◌*◌, ◌/◌, ◌%◌, ◌<◌, ◌≤◌, ◌^◌, true, false, List, ◌∷◌, ◌++◌, length, take, get_or, refl, ap, ◌∙◌, arith, rules, lt-ltb, le-ltb, length-take-le, Some, None, Ok, Err, Result, inl, inr}
-use Rattle.tb_program_text.proofs.Words.{◌==◌, list_all, position_or_len, is_ascii_digit, ParsesUnsigned, digits_value, IsAscii-from_digits, list_all_more, bytes_low_first, to_le_bytes, w64, w128, cases_lt, common_steps, fitting, first_word, after_first_word}
+use Rattle.tb_program_text.proofs.Words.{list_all, is_ascii_digit, ParsesUnsigned, digits_value, IsAscii-from_digits, list_all_more, bytes_low_first, to_le_bytes, w64, w128, cases_lt, common_steps, fitting, first_word, after_first_word, word_end}
 use Rattle.std.specs.Str.{IsUtf8}
 use Rattle.std.specs.Result.{result_ok, OkIff}
 use Rattle.std.proofs.lemmas.Str.{IsUtf8-from_ascii, digit_value_digit}
@@ -93,11 +93,10 @@ parsed word r h digits short = digits_read word r (parse_digits own 128 word r h
 -- a line that begins with a number begins with a word
 pub number_first : (line : List ℕ) (n : ℕ) → number_of (first_word line) ≡ Some n
     → words_of line ≡ first_word line ∷ words_of (after_first_word line)
-number_first line n number = elim (cases_lt 0 (position_or_len (λ byte. byte == 32) line)) [
+number_first line n number = elim (cases_lt 0 (word_end line)) [
   | inl some ↦ words_first line some
   | inr none ↦
-      let empty = no_number (first_word line) (omega
-      (arith, length-take-le (position_or_len (λ byte. byte == 32) line) line (search rules), none)) in
+      let empty = no_number (first_word line) (omega (arith, length-take-le (word_end line) line (search rules), none)) in
       cc
 ]
 

@@ -1,6 +1,6 @@
 -- What is spelled is read.
 use Rattle.std.proofs.Common.{◌≡◌, ℕ, suc, ◌+◌, ◌-◌, ◌/◌, ◌%◌, ◌^◌, ◌<◌, ◌≤◌, Bool, true, false, List, [], ◌∷◌, ◌++◌, length, map, refl, sym, ap, ◌∙◌, arith, Some, None, Option, Ok, length-append, subst, append_assoc, lt-ltb, le-ltb, zero, append-nil}
-use Rattle.tb_program_text.proofs.Words.{◌==◌, ◌&&◌, nat_le, nat_lt, filter, codes, decimal, slice_index, All, unwrap_or, list_all, flat_map, is_ascii_digit, digits_value, list_all-append, All-head, All-tail, AllPass-from_list_all, and_parts, nat_tests, decimal_is_IsNumeral_wide, length-decimal-le_wide, Keyword, number_within, ◌>>=◌, ParsedScript, nothing_parsed, items_of, may_stand, is_text, with_words, with_pulse, with_close, submitters_of, line_of_words, text_of_lines, setting_lines, settings_lines, byte_line, packet_lines, item_lines, IsWithin, CanBeSet, CanBeSubmitted, CanBeWritten, CanAllBeWritten, shut_by, SpelledScriptsAreRead}
+use Rattle.tb_program_text.proofs.Words.{◌==◌, ◌&&◌, nat_le, nat_lt, filter, codes, decimal, slice_index, All, unwrap_or, list_all, flat_map, is_ascii_digit, digits_value, list_all-append, All-head, All-tail, AllPass-from_list_all, and_parts, nat_tests, decimal_is_IsNumeral_wide, length-decimal-le_wide, Keyword, number_within, ◌>>=◌, ParsedScript, nothing_parsed, items_of, may_stand, is_text, is_text_byte, with_words, with_pulse, with_close, submitters_of, line_of_words, text_of_lines, setting_lines, settings_lines, byte_line, packet_lines, item_lines, IsWithin, CanBeSet, CanBeSubmitted, CanBeWritten, CanAllBeWritten, shut_by, SpelledScriptsAreRead}
 use Rattle.std.proofs.lemmas.List.Splits.{slice_split_at, slice_split_none}
 use Rattle.hex.specs.Hex.{IsBytes, encode_lower, encode_with, lower_digits}
 use Rattle.hex.proofs.HexLemmas.{decode_of-encode_lower}
@@ -28,13 +28,13 @@ is_word_byte byte = nat_le 33 byte && nat_le byte 126
 abbrev pub is_word : List ℕ → Bool
 is_word word = nat_lt 0 (length word) && list_all is_word_byte word
 
-word_is_text : (x : ℕ) → is_word_byte x ≡ true → (nat_le 32 x && nat_le x 126) ≡ true
+word_is_text : (x : ℕ) → is_word_byte x ≡ true → is_text_byte x ≡ true
 word_is_text x h = grind (arith, nat_tests)
 
 no_space : (x : ℕ) → is_word_byte x ≡ true → (x == 32) ≡ false
 no_space x h = grind (arith, nat_tests)
 
-text_no_end : (x : ℕ) → (nat_le 32 x && nat_le x 126) ≡ true → (x == 10) ≡ false
+pub text_no_end : (x : ℕ) → is_text_byte x ≡ true → (x == 10) ≡ false
 text_no_end x h = grind (arith, nat_tests)
 
 digit_is_word : (x : ℕ) → is_ascii_digit x ≡ true → is_word_byte x ≡ true
@@ -59,13 +59,13 @@ words_of-line_of_words (word ∷ next ∷ words) h =
 is_text-line_of_words : (words : List (List ℕ)) → list_all is_word words ≡ true → is_text (line_of_words words) ≡ true
 is_text-line_of_words [] h = refl
 is_text-line_of_words (word ∷ []) h =
-    list_all-implied is_word_byte (λ b. nat_le 32 b && nat_le b 126) word word_is_text
+    list_all-implied is_word_byte is_text_byte word word_is_text
     (and_parts (nat_lt 0 (length word)) (list_all is_word_byte word) (and_parts (is_word word) true h).0).1
 is_text-line_of_words (word ∷ next ∷ words) h =
     let both = and_parts (is_word word) (list_all is_word (next ∷ words)) h in
-    let front = list_all-implied is_word_byte (λ b. nat_le 32 b && nat_le b 126) word word_is_text
+    let front = list_all-implied is_word_byte is_text_byte word word_is_text
     (and_parts (nat_lt 0 (length word)) (list_all is_word_byte word) both.0).1 in
-    list_all-append (λ b. nat_le 32 b && nat_le b 126) word (32 ∷ line_of_words (next ∷ words))
+    list_all-append is_text_byte word (32 ∷ line_of_words (next ∷ words))
     ∙ rw (front, is_text-line_of_words (next ∷ words) both.1) refl
 
 -- ---- lines
@@ -74,7 +74,7 @@ lines_of-one_more : (line rest : List ℕ) → is_text line ≡ true → lines_o
 unfolding lines_of
 lines_of-one_more [] rest h = refl
 lines_of-one_more (b ∷ line) rest h =
-    let parts = and_parts (nat_le 32 b && nat_le b 126) (is_text line) h in
+    let parts = and_parts (is_text_byte b) (is_text line) h in
     rw (text_no_end b parts.0, lines_of-one_more line rest parts.1) refl
 
 lines_of-text_of_lines : (lines : List (List ℕ)) → list_all is_text lines ≡ true

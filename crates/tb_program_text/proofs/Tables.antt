@@ -2,10 +2,6 @@
 use Rattle.std.proofs.Common.{rules, ◌≡◌, Decides, cond, ℕ, Bool, true, false, List, [], ◌∷◌, refl, sym, subst, Some, Option}
 use Rattle.tb_program_text.proofs.Words.{All, bytes_eq, All-head, All-tail, bytes_eq-Decides, look_up}
 
--- rows that a table has for their names
-abbrev pub AreOwn : {Value : Type 0} → List (List ℕ × Value) → List (List ℕ × Value) → Type 0
-AreOwn table rows = All (λ row. look_up row.0 table ≡ Some row.1) rows
-
 found_by : {Value : Type 0} (P : List ℕ → Value → Type 0) (same : Bool) (word : List ℕ) (row : List ℕ × Value) {value : Value}
     {others : Option Value} → Decides same (word ≡ row.0) → P row.0 row.1 → (others ≡ Some value → P word value)
     → cond same (Some row.1) others ≡ Some value → P word value

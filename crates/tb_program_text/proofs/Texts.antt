@@ -1,8 +1,9 @@
 -- The first line of bytes, and the first word of a line.
 use Rattle.std.proofs.Common.{◌≡◌, ℕ, ◌+◌, ◌<◌, Bool, true, false, cond, not, List, [], ◌∷◌, length, ◌++◌, take, drop, refl, sym, ap, ◌∙◌, arith, lt-ltb, inl, inr, Some, None, Option, ◌⊎◌, suc}
-use Rattle.tb_program_text.proofs.Words.{◌==◌, ◌&&◌, All, filter, nat_lt, position, unwrap_or, position_or_len, slice_split, onto_first, list_all, common_steps, All-nil, All-cons, length-prefix_len, list_all-append, get_or-take, list_all-from_AllPass, prefix_len-le-length, prefix_len_passes, position_or_len_is, and_parts, cases_lt, cond_below, false_from_ne_true}
+use Rattle.tb_program_text.proofs.Words.{◌==◌, ◌&&◌, All, filter, nat_lt, position, unwrap_or, position_or_len, slice_split, onto_first, list_all, common_steps, All-nil, All-cons, length-prefix_len, list_all-append, get_or-take, list_all-from_AllPass, prefix_len-le-length, prefix_len_passes, position_or_len_is, nil_from_length, and_parts, cases_lt, cond_below, false_from_ne_true}
 use Rattle.memchr.specs.Find.{IsFirstByte, is_byte}
-use Rattle.tb_program_text.specs.clauses.Text.{lines_of, words_of}
+use Rattle.tb_program_text.specs.clauses.Text.{line_end, lines_of, word_end, words_of}
+use Rattle.tb_program_text.specs.inside.FirstWord.{spaces}
 
 -- what passes a test passes each that it implies
 pub list_all-implied : (p q : ℕ → Bool) (xs : List ℕ) → ((x : ℕ) → p x ≡ true → q x ≡ true)
@@ -33,9 +34,6 @@ next_taken b n bs = let one : 1 + n ≡ suc n = omega arith in rw one refl
 next_dropped : (b n : ℕ) (bs : List ℕ) → drop (1 + n) (b ∷ bs) ≡ drop n bs
 next_dropped b n bs = let one : 1 + n ≡ suc n = omega arith in rw one refl
 
-abbrev pub line_end : List ℕ → ℕ
-line_end bs = position_or_len (λ b. b == 10) bs
-
 pub lines_first : (bs : List ℕ) → 0 < length bs
     → lines_of bs ≡ take (line_end bs) bs ∷ lines_of (drop (line_end bs + 1) bs)
 unfolding lines_of
@@ -44,12 +42,6 @@ lines_first (b ∷ []) h = grind (arith, common_steps)
 lines_first (b ∷ c ∷ bs) h =
     let n = line_end (c ∷ bs) in
     grind (arith, common_steps, lines_first (c ∷ bs) (omega arith), next_taken b n (c ∷ bs), next_dropped b n (c ∷ bs))
-
-abbrev pub word_end : List ℕ → ℕ
-word_end bs = position_or_len (λ b. b == 32) bs
-
-abbrev pub spaces : List ℕ → ℕ
-spaces bs = position_or_len (λ b. not (b == 32)) bs
 
 abbrev pub some_words : List (List ℕ) → List (List ℕ)
 some_words ws = filter (λ word. nat_lt 0 (length word)) ws
@@ -128,8 +120,7 @@ before_found byte bs (Some i) h =
 
 pub empty_words : (line : List ℕ) → length line ≡ 0 → words_of line ≡ []
 unfolding words_of
-empty_words [] h = refl
-empty_words (b ∷ bs) h = absurd (omega arith)
+empty_words line none = rw (nil_from_length line none) refl
 
 -- all bytes pass, and one more
 pub all_and_next : (p : ℕ → Bool) (bs : List ℕ) (b : ℕ) (all : Bool) → all ≡ list_all p bs

@@ -1,22 +1,19 @@
 -- Lines without fault are text, and what they say.
-use Rattle.std.proofs.Common.{◌≡◌, ℕ, ◌+◌, ◌<◌, ◌≤◌, Bool, true, false, cond, not, List, [], ◌∷◌, length, ◌++◌, take, drop, refl, sym, ap, ◌∙◌, arith, rules, inl, inr, Some, None, Option, Ok, Err, Result, suc, lt-ltb, le-ltb, le-leb, take-append-drop}
-use Rattle.tb_program_text.proofs.Words.{◌==◌, ◌&&◌, IfOk, codes, is_some, map, nat_le, slice_index_or, after_first, before_first, list_all, onto_first, position_or_len, slice_split, is_ascii_digit, common_steps, list_all-append, and_parts, cases_lt, take-append_seam, drop-append_seam, Field, Draft, Layout, Account, Transfer, Fault, Keyword, blank, fields_of, greatest, new_field, sides_of, with_number, number_within, within, ParsedScript, is_text, line_max, may_stand, packet_numbers, with_bytes, with_event, with_words, ◌>>=◌, after_first_line, first_line}
-use Rattle.std.specs.Option.{MatchOption}
-use Rattle.tb_program_text.specs.declared.fault.Fault.TheVariants.{BadField, LineTooLong}
+use Rattle.std.proofs.Common.{Bor, ◌≡◌, ℕ, ◌+◌, ◌<◌, ◌≤◌, Bool, true, false, cond, not, List, [], ◌∷◌, length, ◌++◌, take, drop, refl, sym, ap, ◌∙◌, arith, rules, inl, inr, Some, None, Option, Ok, Err, Result, suc, lt-ltb, le-ltb, le-leb, take-append-drop, append_assoc}
+use Rattle.tb_program_text.proofs.Words.{◌==◌, ◌&&◌, codes, is_some, map, after_first, before_first, list_all, onto_first, position_or_len, slice_split, is_ascii_digit, common_steps, list_all-append, and_parts, cases_lt, take-append_seam, drop-append_seam, Field, Draft, Layout, Account, Transfer, Keyword, blank, fields_of, look_up, named, new_field, put, sides_of, line_end, word_end, ParsedScript, is_text, is_text_byte, TakesUsual, line_max, may_stand, packet_numbers, with_bytes, with_event, with_words, ◌>>=◌, after_first_line, first_line}
+use Rattle.tb_program_text.specs.declared.fault.Fault.TheVariants.{LineTooLong}
 use Rattle.tb_program_text.specs.declared.keyword.Keyword.TheVariants as word
-use Rattle.tb_program_text.specs.clauses.Event.{after_word, after_words, event_of, field_of}
+use Rattle.tb_program_text.specs.clauses.Event.{after_word, after_words, event_of, field_and_number}
 use Rattle.tb_program_text.specs.clauses.Keyword.{keyword_of}
 use Rattle.tb_program_text.specs.clauses.Number.{number_of}
 use Rattle.tb_program_text.specs.clauses.Script.{after_line, with_line}
 use Rattle.tb_program_text.specs.clauses.Text.{words_of}
-use Rattle.tb_program_text.proofs.FirstLines.{begins_line, found_after, has_no_end}
-use Rattle.tb_program_text.proofs.Named.{parts_of}
-use Rattle.tb_program_text.proofs.Spelling.{IsNamed, keyword_named}
+use Rattle.tb_program_text.proofs.FirstLines.{begins_signed, found_after}
+use Rattle.tb_program_text.proofs.Named.{names_row, parts_of}
+use Rattle.tb_program_text.proofs.Spelling.{IsNamed, keyword_named, text_no_end}
+use Rattle.tb_program_text.proofs.Steps.{both_done}
 use Rattle.tb_program_text.proofs.Tables.{found_row}
-use Rattle.tb_program_text.proofs.Texts.{all-implied, kept, line_end, list_all-implied, some_words, word_end, words_first, words_from_space}
-
-abbrev is_text_byte : ℕ → Bool
-is_text_byte byte = nat_le 32 byte && nat_le byte 126
+use Rattle.tb_program_text.proofs.Texts.{all-implied, kept, list_all-implied, some_words, words_first, words_from_space}
 
 -- what all elements pass, those after some do
 pub all_dropped : (passes : ℕ → Bool) (bytes : List ℕ) (count : ℕ) → list_all passes bytes ≡ true
@@ -28,15 +25,12 @@ all_dropped passes bytes count all =
 
 -- ---- a line of text is one line
 
-no_line_end : (byte : ℕ) → is_text_byte byte ≡ true → (byte == 10) ≡ false
-no_line_end byte h = grind (arith, common_steps, h)
-
 pub one_line : (line : List ℕ) → is_text line ≡ true → first_line line ≡ line
 one_line [] h = refl
 one_line (byte ∷ bytes) h =
     let parts = and_parts (is_text_byte byte) (is_text bytes) h in
     let one : 1 + line_end bytes ≡ suc (line_end bytes) = omega arith in
-    rw (no_line_end byte parts.0, one) (ap (λ line. byte ∷ line) (one_line bytes parts.1))
+    rw (text_no_end byte parts.0, one) (ap (λ line. byte ∷ line) (one_line bytes parts.1))
 
 -- ---- a line is text if its words are
 
@@ -92,81 +86,50 @@ names_are_text : (layout : Layout) → list_all (λ row. is_text row.0) (fields_
 names_are_text Account = refl
 names_are_text Transfer = refl
 
-field_is_text : (layout : Layout) (name : List ℕ) (field : Field) → field_of layout name ≡ Some field → is_text name ≡ true
-unfolding field_of
+field_is_text : (layout : Layout) (name : List ℕ) (field : Field) → look_up name (fields_of layout) ≡ Some field
+    → is_text name ≡ true
 field_is_text layout name field e =
     found_row (λ word value. is_text word ≡ true) (fields_of layout) name field (all-implied (λ row. is_text row.0)
     (λ row. is_text row.0 ≡ true) (fields_of layout) (λ row h. h) (names_are_text layout)) e
 
-abbrev with_sides : Layout → Draft → List ℕ × List ℕ → Result Draft Fault
-with_sides layout draft sides =
-    new_field draft (field_of layout sides.0) >>= λ f. number_within 0 (greatest f.size) sides.1 >>= λ n.
-    Ok (with_number draft f n)
+-- a number that was put was given
+number_given : (draft : Draft) (field : Field) (number : Option ℕ) {next : Draft} → put draft field number ≡ Ok next
+    → (n : ℕ) × (number ≡ Some n)
+number_given draft field None e = absurd (search (rules, e))
+number_given draft field (Some n) e = (n, refl)
 
-number_given : (low high : ℕ) (number : Option ℕ) (made : ℕ → Result Draft Fault) (next : Draft)
-    → (within low high number >>= made) ≡ Ok next → (n : ℕ) × (number ≡ Some n)
-number_given low high None made next e = absurd (search (rules, e))
-number_given low high (Some n) made next e = (n, refl)
-
-not_given : (given : Bool) (field : Field) (made : Field → Result Draft Fault) (next : Draft)
-    → (cond given (Err BadField) (Ok field) >>= made) ≡ Ok next → made field ≡ Ok next
-not_given true field made next e = absurd (search (rules, e))
-not_given false field made next e = e
-
-named_field : (layout : Layout) (draft next : Draft) (name digits : List ℕ) (field : Option Field) →
-    field ≡ field_of layout name →
-    (new_field draft field >>= λ f. number_within 0 (greatest f.size) digits >>= λ n. Ok (with_number draft f n)) ≡ Ok next →
-    (is_text name ≡ true) × (is_text digits ≡ true)
-named_field layout draft next name digits None is e = absurd (search (rules, e))
-named_field layout draft next name digits (Some field) is e =
-    let taken = not_given (slice_index_or draft.given field.index false) field
-    (λ f. number_within 0 (greatest f.size) digits >>= λ n. Ok (with_number draft f n)) next e in
-    let number = number_given 0 (greatest field.size) (number_of digits) (λ n. Ok (with_number draft field n)) next taken in
-    (field_is_text layout name field (sym is), number_is_text digits number.0 number.1)
-
-same_sides : (r : Result (List ℕ × List ℕ) Fault) (sides others : List ℕ × List ℕ) → r ≡ Ok sides → r ≡ Ok others
-    → sides ≡ others
-same_sides r sides others e f = cc
-
+-- a word is its sides with `=` between them
 sides_are : (word : List ℕ) (sides : List ℕ × List ℕ) → sides_of word ≡ Ok sides → word ≡ sides.0 ++ 61 ∷ sides.1
 sides_are word sides e = elim (cases_lt (position_or_len (λ byte. byte == 61) word) (length word)) [
   | inl below ↦
-      let front = before_first (λ byte. byte == 61) word in
-      let back = after_first (λ byte. byte == 61) word in
-      let found : sides_of word ≡ Ok (front, back)
-      = rw (lt-ltb (position_or_len (λ byte. byte == 61) word) (length word) below) refl in
-      parts_of word below ∙ ap (λ (s : List ℕ × List ℕ). s.0 ++ 61 ∷ s.1) (same_sides (sides_of word) (front, back) sides found e)
+      let found = rw (lt-ltb (position_or_len (λ byte. byte == 61) word) (length word) below) at e in
+      let same : (before_first (λ byte. byte == 61) word, after_first (λ byte. byte == 61) word) ≡ sides = cc found in
+      parts_of word below ∙ ap (λ (s : List ℕ × List ℕ). s.0 ++ 61 ∷ s.1) same
   | inr above ↦
       let found = rw (le-ltb (position_or_len (λ byte. byte == 61) word) (length word) above) at e in
       absurd (search (rules, found))
 ]
 
-word_by_sides : (layout : Layout) (draft next : Draft) (word : List ℕ) (sides : Result (List ℕ × List ℕ) Fault)
-    → sides_of word ≡ sides → (sides >>= λ s. with_sides layout draft s) ≡ Ok next → is_text word ≡ true
-word_by_sides layout draft next word (Err fault) is e = absurd (search (rules, e))
-word_by_sides layout draft next word (Ok sides) is e =
-    let both = named_field layout draft next sides.0 sides.1 (field_of layout sides.0) refl e in
-    ap is_text (sides_are word sides is) ∙ list_all-append is_text_byte sides.0 (61 ∷ sides.1) ∙ rw (both.0, both.1) refl
-
-word_is_text : (layout : Layout) (draft next : Draft) (word : List ℕ) → after_word layout draft word ≡ Ok next
+word_is_text : (layout : Layout) (draft : Draft) {next : Draft} (word : List ℕ) → after_word layout draft word ≡ Ok next
     → is_text word ≡ true
-unfolding after_word
-word_is_text layout draft next word e = word_by_sides layout draft next word (sides_of word) refl e
+unfolding after_word field_and_number
+word_is_text layout draft word e =
+    let named = both_done (named word (fields_of layout))
+    (λ both. new_field draft both.0 >>= λ field. put draft field (number_of both.1)) e in
+    let new = both_done (new_field draft named.between.0) (λ field. put draft field (number_of named.between.1)) named.ended in
+    let number = number_given draft new.between (number_of named.between.1) new.ended in
+    let is = names_row word (fields_of layout) named.between named.began in
+    ap is_text (sides_are word (is.name, named.between.1) is.sides)
+    ∙ list_all-append is_text_byte is.name (61 ∷ named.between.1)
+    ∙ rw (field_is_text layout is.name named.between.0 is.row, number_is_text named.between.1 number.0 number.1) refl
 
-event_step : (layout : Layout) (draft : Draft) {next : Draft} (word : List ℕ) (words : List (List ℕ)) (r : Result Draft Fault)
-    → after_word layout draft word ≡ r → (r >>= λ d. after_words layout d words) ≡ Ok next
-    → ((d : Draft) → after_words layout d words ≡ Ok next → list_all is_text words ≡ true)
-    → list_all is_text (word ∷ words) ≡ true
-event_step layout draft word words (Err fault) is e later = absurd (search (rules, e))
-event_step layout draft word words (Ok d) is e later = rw (word_is_text layout draft d word is, later d e) refl
-
-pub event_is_text : (layout : Layout) (draft next : Draft) (words : List (List ℕ)) → after_words layout draft words ≡ Ok next
+event_is_text : (layout : Layout) (draft : Draft) {next : Draft} (words : List (List ℕ)) → after_words layout draft words ≡ Ok next
     → list_all is_text words ≡ true
 unfolding after_words
-event_is_text layout draft next [] e = refl
-event_is_text layout draft next (word ∷ words) e =
-    event_step layout draft word words (after_word layout draft word) refl e
-    (λ d later. event_is_text layout d next words later)
+event_is_text layout draft [] e = refl
+event_is_text layout draft (word ∷ words) e =
+    let both = both_done (after_word layout draft word) (λ next. after_words layout next words) e in
+    rw (word_is_text layout draft word both.began, event_is_text layout both.between words both.ended) refl
 
 -- ---- numbers
 
@@ -196,12 +159,11 @@ pub record KeywordFirst (text name rest : List ℕ) : Type 0 where
   pub words : words_of (first_line text) ≡ name ∷ words_of (first_line rest)
   pub others : after_first_line text ≡ after_first_line rest
 
-pub keyword_first : (text name rest : List ℕ) → has_no_end name ≡ true → list_all (λ byte. not (byte == 32)) name ≡ true
-    → 0 < length name → text ≡ name ++ 32 ∷ rest → KeywordFirst text name rest
+pub keyword_first : (text name rest : List ℕ) → list_all (λ byte. not (byte == 10)) name ≡ true
+    → list_all (λ byte. not (byte == 32)) name ≡ true → 0 < length name → text ≡ name ++ 32 ∷ rest → KeywordFirst text name rest
 keyword_first text name rest none bare some e =
-    let begins = begins_line text name (32 ∷ rest) none e in
-    let one : 1 + line_end rest ≡ suc (line_end rest) = omega arith in
-    let line : first_line text ≡ name ++ 32 ∷ first_line rest = begins.line ∙ ap (λ line. name ++ line) (rw one refl) in
+    let begun = begins_signed (λ byte. byte == 10) text name 32 rest none refl e in
+    let line : first_line text ≡ name ++ 32 ∷ first_line rest = begun.before ∙ append_assoc name (32 ∷ []) (first_line rest) in
     let at : word_end (name ++ 32 ∷ first_line rest) ≡ length name
     = found_after (λ byte. byte == 32) name (32 ∷ first_line rest) bare ∙ omega arith in
     let long : 0 < word_end (name ++ 32 ∷ first_line rest) = rw at some in
@@ -210,7 +172,7 @@ keyword_first text name rest none bare some e =
       words = ap words_of line ∙ words_first (name ++ 32 ∷ first_line rest) long
           ∙ rw (at, take-append_seam name (32 ∷ first_line rest), drop-append_seam name (32 ∷ first_line rest))
           (ap (λ ws. name ∷ ws) (words_from_space 32 (first_line rest) refl));
-      others = begins.rest ∙ rw one refl;
+      others = begun.rest;
     }
 
 -- such a line, if its words are text and in their place
@@ -226,51 +188,53 @@ usual_line parsed {text} {name} {rest} first named text_name text_rest short sta
     (ap (with_words parsed) first.words ∙ rw (named.mark, named.is, stands) e)
 
 -- the fields of an event are text
-event_by : (parsed next : ParsedScript) (layout : Layout) (words : List (List ℕ)) (r : Result Draft Fault)
-    → after_words layout blank words ≡ r →
-    ((r >>= λ draft. Ok draft.bytes) >>= λ bytes. Ok (with_bytes parsed bytes)) ≡ Ok next → list_all is_text words ≡ true
-event_by parsed next layout words (Err fault) is e = absurd (search (rules, e))
-event_by parsed next layout words (Ok draft) is e = event_is_text layout blank draft words is
-
 fields_are_text : (parsed next : ParsedScript) (layout : Layout) (line : List ℕ)
     → with_event parsed layout (words_of line) ≡ Ok next → is_text line ≡ true
 unfolding event_of
 fields_are_text parsed next layout line e =
-    line_is_text line (event_by parsed next layout (words_of line) (after_words layout blank (words_of line)) refl e)
+    let draft = after_words layout blank (words_of line) in
+    let event = both_done (draft >>= λ d. Ok d.bytes) (λ bytes. Ok (with_bytes parsed bytes)) e in
+    line_is_text line (event_is_text layout blank (words_of line) (both_done draft (λ d. Ok d.bytes) event.began).began)
 
-pub usual_transfer : (parsed next : ParsedScript) (text fields : List ℕ) → text ≡ codes "transfer" ++ 32 ∷ fields →
-    (is_some parsed.packet ≡ true) × (with_event parsed Transfer (words_of (first_line fields)) ≡ Ok next)
-    → length (first_line text) ≤ line_max → after_line parsed (first_line text) ≡ Ok next
-unfolding keyword_of with_line
-usual_transfer parsed next text fields e event short =
-    usual_line parsed (keyword_first text (codes "transfer") fields refl refl (omega arith) e)
-    (keyword_named word.Transfer (codes "transfer") refl (omega arith) refl refl) refl (fields_are_text parsed next Transfer (first_line fields) event.1)
-    short event.0 event.1
+-- a line is taken if what follows its keyword and the space is
+taken : {Fails : Type 0} {text name rest : List ℕ} {same known said : Type 0} (result : Result (Option (Bor (List ℕ))) Fails)
+    → KeywordFirst text name rest → (known → said) → TakesUsual rest same known result → TakesUsual text same said result
+taken (Err fails) first more h = record { line = tt; rest = tt }
+taken (Ok None) first more h = record { line = h.line; rest = tt }
+taken (Ok (Some left)) first more h = record { line = more h.line; rest = h.rest ∙ sym first.others }
 
-pub usual_account : (parsed next : ParsedScript) (text fields : List ℕ) → text ≡ codes "account" ++ 32 ∷ fields →
-    (is_some parsed.packet ≡ true) × (with_event parsed Account (words_of (first_line fields)) ≡ Ok next)
-    → length (first_line text) ≤ line_max → after_line parsed (first_line text) ≡ Ok next
-unfolding keyword_of with_line
-usual_account parsed next text fields e event short =
-    usual_line parsed (keyword_first text (codes "account") fields refl refl (omega arith) e)
-    (keyword_named word.Account (codes "account") refl (omega arith) refl refl) refl (fields_are_text parsed next Account (first_line fields) event.1)
-    short event.0 event.1
+module _ (parsed next : ParsedScript) (text rest : List ℕ) {Fails : Type 0} (result : Result (Option (Bor (List ℕ))) Fails) where
+  -- the line was taken if it isn't too long
+  abbrev Taken : Type 0
+  Taken = TakesUsual text (next ≡ parsed) (length (first_line text) ≤ line_max → after_line parsed (first_line text) ≡ Ok next) result
 
-pub usual_packet : (parsed next : ParsedScript) (text numbers : List ℕ) → text ≡ codes "packet" ++ 32 ∷ numbers →
-    (is_text (first_line numbers) ≡ true) × (with_line parsed word.Packet (words_of (first_line numbers)) ≡ Ok next)
-    → length (first_line text) ≤ line_max → after_line parsed (first_line text) ≡ Ok next
-unfolding keyword_of
-usual_packet parsed next text numbers e packet short =
-    usual_line parsed (keyword_first text (codes "packet") numbers refl refl (omega arith) e)
-    (keyword_named word.Packet (codes "packet") refl (omega arith) refl refl) refl packet.0 short refl packet.1
+  -- the fields after the keyword were taken
+  abbrev EventTaken : Layout → Type 0
+  EventTaken layout = TakesUsual rest (next ≡ parsed)
+      ((is_some parsed.packet ≡ true) × (with_event parsed layout (words_of (first_line rest)) ≡ Ok next)) result
+
+  pub usual_transfer : text ≡ codes "transfer" ++ 32 ∷ rest → EventTaken Transfer → Taken
+  unfolding keyword_of with_line
+  usual_transfer e h =
+      let first = keyword_first text (codes "transfer") rest refl refl (omega arith) e in
+      taken result first (λ event short. usual_line parsed first (keyword_named word.Transfer (codes "transfer") refl (omega arith) refl refl)
+      refl (fields_are_text parsed next Transfer (first_line rest) event.1) short event.0 event.1) h
+
+  pub usual_account : text ≡ codes "account" ++ 32 ∷ rest → EventTaken Account → Taken
+  unfolding keyword_of with_line
+  usual_account e h =
+      let first = keyword_first text (codes "account") rest refl refl (omega arith) e in
+      taken result first (λ event short. usual_line parsed first (keyword_named word.Account (codes "account") refl (omega arith) refl refl)
+      refl (fields_are_text parsed next Account (first_line rest) event.1) short event.0 event.1) h
+
+  pub usual_packet : text ≡ codes "packet" ++ 32 ∷ rest → TakesUsual rest (next ≡ parsed)
+      ((is_text (first_line rest) ≡ true) × (with_line parsed word.Packet (words_of (first_line rest)) ≡ Ok next)) result → Taken
+  unfolding keyword_of
+  usual_packet e h =
+      let first = keyword_first text (codes "packet") rest refl refl (omega arith) e in
+      taken result first (λ packet short. usual_line parsed first (keyword_named word.Packet (codes "packet") refl (omega arith) refl refl)
+      refl packet.0 short refl packet.1) h
 
 pub too_long : (parsed : ParsedScript) (line : List ℕ) → line_max < length line → after_line parsed line ≡ Err LineTooLong
 unfolding after_line
 too_long parsed line long = rw (lt-ltb line_max (length line) long) refl
-
--- what is known of a line that was taken says more of it
-pub says_more : {Rest Fails : Type 0} (taken : Result (Option Rest) Fails) (same known said : Type 0) → (known → said)
-    → IfOk taken (λ usual. MatchOption usual same (λ rest. known)) → IfOk taken (λ usual. MatchOption usual same (λ rest. said))
-says_more (Err fails) same known said more h = h
-says_more (Ok None) same known said more h = h
-says_more (Ok (Some rest)) same known said more h = more h

@@ -2,10 +2,12 @@
 
 ghost use Rattle.std.specs.Prelude.{◌≡◌, ◌≤◌, ◌<◌, ◌+◌, ◌⊎◌, Some, All, length, map, IfOk};
 ghost use Rattle.std.specs.Int.{to_le_bytes, w128};
-ghost use Rattle.tb_program_text.specs.clauses.Text.{words_of, first_line, after_first_line, first_word, after_first_word};
-ghost use Rattle.tb_program_text.specs.clauses.Steps.{Gives, Makes, Tells};
+ghost use Rattle.tb_program_text.specs.clauses.Text.{words_of, first_line, after_first_line, first_word};
+ghost use Rattle.tb_program_text.specs.clauses.Steps.{Gives, Makes};
 ghost use Rattle.tb_program_text.specs.clauses.Number.{number_of};
-ghost use Rattle.tb_program_text.specs.clauses.Event.{Lies, IsBare, AreRowsOf, named, field_and_number, greatest, new_field, with_number, put, after_word, after_words, blank, hex_bytes};
+ghost use Rattle.tb_program_text.specs.clauses.Event.{named, field_and_number, greatest, new_field, with_number, put, after_word, after_words, blank, hex_bytes};
+ghost use Rattle.tb_program_text.specs.inside.Fields.{Lies, IsBare, AreRowsOf, NamesField};
+ghost use Rattle.tb_program_text.specs.inside.FirstWord.{IsAfterFirstWord};
 
 use crate::fault::{Fault, LineError};
 use crate::number::{in_bounds, leading_number, long_first};
@@ -107,12 +109,8 @@ struct NamedField<'a> {
 #[inline(always)]
 fn named<'a>(mut rows: &[(&[u8], Field)], text: &'a [u8]) -> Result<NamedField<'a>, Fault>
     requires { All (λ row. IsBare row.0.now) rows.now }
-    ensures both { Tells (λ first. (first.field, first_word (first_line first.from_number.now))) result
-        (named (first_word (first_line text.now)) (map (λ row. (row.0.now, row.1)) rows.entry.now)) }
-    ensures rest { IfOk result (λ first. after_first_word (first_line first.from_number.now)
-        ≡ after_first_word (first_line text.now)) }
-    ensures lines { IfOk result (λ first. after_first_line first.from_number.now ≡ after_first_line text.now) }
-    ensures rows_after { IfOk result (λ first. first.rows_after ≤ length rows.entry.now) }
+    ensures { NamesField text.now (length rows.entry.now)
+        (named (first_word (first_line text.now)) (map (λ row. (row.0.now, row.1)) rows.entry.now)) result }
 {
     while let [(name, field), others @ ..] = rows {
         if let Some(from_number) = strip_word(text, name, b'=') {
@@ -130,12 +128,7 @@ fn named<'a>(mut rows: &[(&[u8], Field)], text: &'a [u8]) -> Result<NamedField<'
 /// Returns the field that the first word of a text names.
 #[tactic(auto, unfolding(crate::specs::clauses::Event::field_and_number))]
 fn field_and_number(layout: Layout, text: &[u8]) -> Result<NamedField, Fault>
-    ensures both { Tells (λ first. (first.field, first_word (first_line first.from_number.now))) result
-        (field_and_number layout (first_word (first_line text.now))) }
-    ensures rest { IfOk result (λ first. after_first_word (first_line first.from_number.now)
-        ≡ after_first_word (first_line text.now)) }
-    ensures lines { IfOk result (λ first. after_first_line first.from_number.now ≡ after_first_line text.now) }
-    ensures rows_after { IfOk result (λ first. first.rows_after ≤ 13) }
+    ensures { NamesField text.now 13 (field_and_number layout (first_word (first_line text.now))) result }
 {
     match layout {
         Layout::Account => named(&ACCOUNT_FIELDS, text),
@@ -146,7 +139,7 @@ fn field_and_number(layout: Layout, text: &[u8]) -> Result<NamedField, Fault>
 /// Returns the field that the first word of a text names, looked for among some rows of the table first: the fields of
 /// an event mostly come in the table's order.
 #[inline(always)]
-#[tactic(auto, using(crate::proofs::Named::named_in_rows))]
+#[tactic(auto, using(crate::proofs::Named::named_among))]
 fn field_among<'a>(
     layout: Layout,
     rows: &[(&[u8], Field)],
@@ -154,12 +147,7 @@ fn field_among<'a>(
 ) -> Result<NamedField<'a>, Fault>
     requires rows { AreRowsOf layout rows.now }
     requires few { length rows.now ≤ 13 }
-    ensures both { Tells (λ first. (first.field, first_word (first_line first.from_number.now))) result
-        (field_and_number layout (first_word (first_line text.now))) }
-    ensures rest { IfOk result (λ first. after_first_word (first_line first.from_number.now)
-        ≡ after_first_word (first_line text.now)) }
-    ensures lines { IfOk result (λ first. after_first_line first.from_number.now ≡ after_first_line text.now) }
-    ensures rows_after { IfOk result (λ first. first.rows_after ≤ 13) }
+    ensures { NamesField text.now 13 (field_and_number layout (first_word (first_line text.now))) result }
 {
     if let Ok(first) = named(rows, text) {
         return Ok(first);
@@ -186,7 +174,7 @@ fn greatest(size: usize) -> u128
 /// Returns the field, if it wasn't given before.
 fn new_field(draft: &Draft, f: Field) -> Result<Field, Fault>
     requires { Lies f }
-    ensures field { result ≡ new_field draft.now (Some f) }
+    ensures field { result ≡ new_field draft.now f }
     ensures lies { IfOk result Lies }
 {
     if draft.given[f.index] {
@@ -241,8 +229,7 @@ fn put(draft: &mut Draft, f: Field, n: Option<u128>) -> Result<(), Fault>
 fn put_first<'a>(draft: &mut Draft, f: Field, text: &'a [u8]) -> Result<&'a [u8], Fault>
     requires { Lies f }
     ensures draft { Makes result draft.new (put draft.old f (number_of (first_word (first_line text.now)))) }
-    ensures rest { IfOk result (λ rest. first_line rest.now ≡ after_first_word (first_line text.now)) }
-    ensures lines { IfOk result (λ rest. after_first_line rest.now ≡ after_first_line text.now) }
+    ensures rest { IfOk result (λ rest. IsAfterFirstWord text.now rest.now) }
 {
     if let Some((n, rest)) = leading_number(text) {
         put(draft, f, Some(u128::from(n)))?;
@@ -262,7 +249,7 @@ struct Assigned<'a> {
 
 /// Takes the first word of a text, NAME=N. The rows are those that its field is probably among.
 #[inline(always)]
-#[tactic(auto, using(crate::proofs::Named::after_word_named, crate::proofs::Named::lies_of))]
+#[tactic(auto, using(crate::proofs::Named::lies_of), unfolding(crate::specs::clauses::Event::after_word))]
 fn assign<'a>(
     layout: Layout,
     draft: &mut Draft,
@@ -272,8 +259,7 @@ fn assign<'a>(
     requires rows { AreRowsOf layout rows.now }
     requires few { length rows.now ≤ 13 }
     ensures draft { Makes result draft.new (after_word layout draft.old (first_word (first_line text.now))) }
-    ensures rest { IfOk result (λ next. first_line next.rest.now ≡ after_first_word (first_line text.now)) }
-    ensures lines { IfOk result (λ next. after_first_line next.rest.now ≡ after_first_line text.now) }
+    ensures rest { IfOk result (λ next. IsAfterFirstWord text.now next.rest.now) }
     ensures rows_after { IfOk result (λ next. next.rows_after ≤ 13) }
 {
     let first = field_among(layout, rows, text)?;

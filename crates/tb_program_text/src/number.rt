@@ -3,8 +3,9 @@
 ghost use Rattle.std.specs.Prelude.{true, ◌≡◌, ◌≤◌, ◌∷◌, [], Some, IfOk, IfSome, map};
 ghost use Rattle.std.specs.List.{list_all};
 ghost use Rattle.std.specs.Char.{is_ascii_digit};
-ghost use Rattle.tb_program_text.specs.clauses.Text.{words_of, first_line, after_first_line, first_word, after_first_word};
+ghost use Rattle.tb_program_text.specs.clauses.Text.{words_of, first_line, after_first_line, first_word};
 ghost use Rattle.tb_program_text.specs.clauses.Number.{number_of, fitting, within, number_within};
+ghost use Rattle.tb_program_text.specs.inside.FirstWord.{IsAfterFirstWord};
 
 use crate::fault::Fault;
 use crate::text::{is_at_line_end, is_at_word_end, split_first_word, trim_spaces};
@@ -47,8 +48,7 @@ const SHORT: usize = 19;
 #[inline(always)]
 pub(crate) fn leading_number(text: &[u8]) -> Option<(u64, &[u8])>
     ensures number { IfSome result (λ both. number_of (first_word (first_line text.now)) ≡ Some both.0) }
-    ensures rest { IfSome result (λ both. first_line both.1.now ≡ after_first_word (first_line text.now)) }
-    ensures others { IfSome result (λ both. after_first_line both.1.now ≡ after_first_line text.now) }
+    ensures rest { IfSome result (λ both. IsAfterFirstWord text.now both.1.now) }
 {
     let end = text.len().min(SHORT);
     let mut number = 0u64;
@@ -133,8 +133,7 @@ pub(crate) fn number_within(word: &[u8], low: u128, high: u128) -> Result<u128, 
 #[inline(never)]
 pub(crate) fn long_first(text: &[u8]) -> (Option<u128>, &[u8])
     ensures number { result.0 ≡ fitting (number_of (first_word (first_line text.now))) }
-    ensures rest { first_line result.1.now ≡ after_first_word (first_line text.now) }
-    ensures others { after_first_line result.1.now ≡ after_first_line text.now }
+    ensures rest { IsAfterFirstWord text.now result.1.now }
 {
     let (word, rest) = split_first_word(text);
     (long_number(word), rest)

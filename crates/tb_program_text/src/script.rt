@@ -1,12 +1,12 @@
 //! A script, line after line.
 
-ghost use Rattle.std.specs.Prelude.{◌≡◌, ◌≤◌, ◌++◌, ◌∷◌, true, Ok, Err, [], drop, length, is_some, IfOk, IfSome, OnOk};
-ghost use Rattle.std.specs.Option.{MatchOption};
+ghost use Rattle.std.specs.Prelude.{◌≡◌, ◌≤◌, ◌++◌, ◌∷◌, true, Ok, Err, [], drop, length, is_some, IfOk, OnOk};
 ghost use Rattle.tb_program_text.specs.declared.fault.LineError.TheVariants.{Fault as FaultOf};
 ghost use Rattle.tb_program_text.specs.clauses.Text.{words_of, first_line, after_first_line};
 ghost use Rattle.tb_program_text.specs.clauses.Steps.{Tells, Leaves};
 ghost use Rattle.tb_program_text.specs.clauses.Keyword.{no_word, one_word, two_words};
 ghost use Rattle.tb_program_text.specs.clauses.Script.{ParsedScript, nothing_parsed, so_far, items_of, has_begun, may_stand, with_packet, with_bytes, with_event, packet_numbers, one_number, with_line, is_text as is_text_line, line_max, after_line, InBounds};
+ghost use Rattle.tb_program_text.specs.inside.UsualLine.{TakesUsual};
 
 use crate::event::{Draft, Layout, assign_all, hex_bytes};
 use crate::fault::{Fault, LineError};
@@ -370,10 +370,8 @@ impl Script {
         layout: Layout,
         fields: &'a [u8],
     ) -> Result<Option<&'a [u8]>, NoMemory>
-        ensures event { IfOk result (λ usual. MatchOption usual (self.new ≡ self.old) (λ _.
-            (is_some self.old.packet ≡ true)
-            × (with_event self.old layout (words_of (first_line fields.now)) ≡ Ok self.new))) }
-        ensures rest { IfOk result (λ usual. IfSome usual (λ rest. rest.now ≡ after_first_line fields.now)) }
+        ensures { TakesUsual fields.now (self.new ≡ self.old) ((is_some self.old.packet ≡ true)
+            × (with_event self.old layout (words_of (first_line fields.now)) ≡ Ok self.new)) result }
     {
         if self.packet.is_none() {
             return Ok(None);
@@ -392,10 +390,8 @@ impl Script {
         alloc: Global,
         numbers: &'a [u8],
     ) -> Result<Option<&'a [u8]>, NoMemory>
-        ensures packet { IfOk result (λ usual. MatchOption usual (self.new ≡ self.old) (λ _.
-            (is_text_line (first_line numbers.now) ≡ true)
-            × (with_line self.old Keyword.Packet (words_of (first_line numbers.now)) ≡ Ok self.new))) }
-        ensures rest { IfOk result (λ usual. IfSome usual (λ rest. rest.now ≡ after_first_line numbers.now)) }
+        ensures { TakesUsual numbers.now (self.new ≡ self.old) ((is_text_line (first_line numbers.now) ≡ true)
+            × (with_line self.old Keyword.Packet (words_of (first_line numbers.now)) ≡ Ok self.new)) result }
     {
         let Some(two) = two_short_numbers(numbers) else {
             return Ok(None);
@@ -416,9 +412,8 @@ impl Script {
         alloc: Global,
         text: &'a [u8],
     ) -> Result<Option<&'a [u8]>, NoMemory>
-        ensures line { IfOk result (λ usual. MatchOption usual (self.new ≡ self.old) (λ _.
-            length (first_line text.now) ≤ line_max → after_line self.old (first_line text.now) ≡ Ok self.new)) }
-        ensures rest { IfOk result (λ usual. IfSome usual (λ rest. rest.now ≡ after_first_line text.now)) }
+        ensures { TakesUsual text.now (self.new ≡ self.old)
+            (length (first_line text.now) ≤ line_max → after_line self.old (first_line text.now) ≡ Ok self.new) result }
     {
         if let Some(fields) = strip_word(text, b"transfer", b' ') {
             return self.take_usual_event(Layout::Transfer, fields);

@@ -4,7 +4,8 @@ ghost use Rattle.std.specs.Prelude.{◌≡◌, ◌<◌, ◌≤◌, ◌==◌, ◌
 ghost use Rattle.std.specs.Option.{MatchOption};
 ghost use Rattle.std.specs.List.{position_or_len, list_all};
 ghost use Rattle.std.specs.Iterator.{YieldsFirstRef, item_count};
-ghost use Rattle.tb_program_text.specs.clauses.Text.{words_of, first_line, after_first_line, first_word, after_first_word};
+ghost use Rattle.tb_program_text.specs.clauses.Text.{words_of, word_end, first_line, after_first_line, first_word, after_first_word};
+ghost use Rattle.tb_program_text.specs.inside.FirstWord.{IsAfterFirstWord, spaces};
 
 use memchr::memchr;
 
@@ -35,7 +36,7 @@ fn offset_of(bytes: &[u8], byte: u8) -> Option<usize>
 /// Returns the number of bytes before the first space. They are read one by one: words are short.
 #[tactic(auto, using(crate::proofs::Texts::nowhere))]
 fn length_before_space(bytes: &[u8]) -> usize
-    ensures value { result ≡ position_or_len (λ b. b == 32) bytes.now }
+    ensures value { result ≡ word_end bytes.now }
     ensures bound { result ≤ length bytes.now }
 {
     match offset_of(bytes, 32) {
@@ -47,7 +48,7 @@ fn length_before_space(bytes: &[u8]) -> usize
 /// Returns the number of spaces at the front.
 #[tactic(auto, using(crate::proofs::Texts::nowhere))]
 fn leading_spaces(bytes: &[u8]) -> usize
-    ensures value { result ≡ position_or_len (λ b. not (b == 32)) bytes.now }
+    ensures value { result ≡ spaces bytes.now }
     ensures bound { result ≤ length bytes.now }
 {
     match offset_of_other(bytes, 32) {
@@ -60,9 +61,9 @@ fn leading_spaces(bytes: &[u8]) -> usize
 #[tactic(auto, using(crate::proofs::Texts::words_trimmed, crate::proofs::Texts::trimmed_begins))]
 pub(crate) fn trim_spaces(line: &[u8]) -> &[u8]
     ensures same { words_of result.now ≡ words_of line.now }
-    ensures begins { (length result.now ≡ 0) ⊎ (0 < position_or_len (λ b. b == 32) result.now) }
+    ensures begins { (length result.now ≡ 0) ⊎ (0 < word_end result.now) }
     ensures within { length result.now ≤ length line.now }
-    ensures rest { result.now ≡ drop (position_or_len (λ b. not (b == 32)) line.now) line.now }
+    ensures rest { result.now ≡ drop (spaces line.now) line.now }
 {
     let (_, trimmed) = line.split_at(leading_spaces(line));
     trimmed
@@ -120,8 +121,7 @@ fn length_before_word_end(text: &[u8]) -> usize
 #[tactic(auto, using(crate::proofs::FirstLines::word_cut))]
 pub(crate) fn split_first_word(text: &[u8]) -> (&[u8], &[u8])
     ensures word { result.0.now ≡ first_word (first_line text.now) }
-    ensures rest { first_line result.1.now ≡ after_first_word (first_line text.now) }
-    ensures others { after_first_line result.1.now ≡ after_first_line text.now }
+    ensures rest { IsAfterFirstWord text.now result.1.now }
 {
     text.split_at(length_before_word_end(text))
 }

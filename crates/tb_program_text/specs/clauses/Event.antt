@@ -1,7 +1,6 @@
 -- The bytes of an event, from its line.
-use Rattle.std.specs.Prelude.{◌≡◌, ◌<◌, ◌≤◌, ◌⊎◌, ℕ, ◌+◌, ◌-◌, ◌^◌, ◌==◌, not, false, true, List, [], ◌∷◌, ◌++◌, length, take, drop, replicate, set, Option, Some, None, Result, Ok, Err, codes, slice_index_or, if◌then◌else◌, nat_lt, All}
-use Rattle.std.specs.Borrow.{Bor}
-use Rattle.std.specs.List.{before_first, after_first, position_or_len, list_all}
+use Rattle.std.specs.Prelude.{ℕ, ◌+◌, ◌-◌, ◌^◌, ◌==◌, false, true, List, [], ◌∷◌, ◌++◌, length, take, drop, replicate, set, Option, Some, None, Result, Ok, Err, codes, slice_index_or, if◌then◌else◌, nat_lt}
+use Rattle.std.specs.List.{before_first, after_first, position_or_len}
 use Rattle.std.specs.Int.{w128, to_le_bytes}
 use Rattle.hex.specs.Hex.{decode_of}
 use Rattle.tb_program_text.specs.declared.fault.Fault.{Fault}
@@ -10,18 +9,12 @@ use Rattle.tb_program_text.specs.declared.event.Field.{Field}
 use Rattle.tb_program_text.specs.declared.event.Draft.{Draft}
 use Rattle.tb_program_text.specs.declared.event.Layout.{Layout}
 use Rattle.tb_program_text.specs.declared.event.Layout.TheVariants.{Account, Transfer}
-use Rattle.tb_program_text.specs.clauses.Number.{number_within, within}
+use Rattle.tb_program_text.specs.clauses.Number.{number_of, within}
 use Rattle.tb_program_text.specs.clauses.Steps.{◌>>=◌, look_up}
 
 -- the field at an index among the fields, an offset, and with a size in bytes
 abbrev pub field : ℕ → ℕ → ℕ → Field
 field index offset size = record { index = index; offset = offset; size = size }
-
--- a field is within the event
-pub record Lies (field : Field) : Type 0 where
-  pub index : field.index < 13
-  pub inside : field.offset + field.size ≤ 128
-  pub size : (field.size ≡ 2) ⊎ ((field.size ≡ 4) ⊎ ((field.size ≡ 8) ⊎ (field.size ≡ 16)))
 
 -- in the order in which lines mostly give them
 abbrev pub account_fields : List (List ℕ × Field)
@@ -62,17 +55,13 @@ abbrev pub fields_of : Layout → List (List ℕ × Field)
 fields_of Account = account_fields
 fields_of Transfer = transfer_fields
 
-unfoldable pub field_of : Layout → List ℕ → Option Field
-field_of layout name = look_up name (fields_of layout)
-
 -- an event, none of whose fields was given
 abbrev pub blank : Draft
 blank = record { bytes = replicate 128 0; given = replicate 13 false }
 
 -- a field that was not given before
-abbrev pub new_field : Draft → Option Field → Result Field Fault
-new_field draft None = Err BadField
-new_field draft (Some field) = if slice_index_or draft.given field.index false then Err BadField else Ok field
+abbrev pub new_field : Draft → Field → Result Field Fault
+new_field draft field = if slice_index_or draft.given field.index false then Err BadField else Ok field
 
 -- the number in the field's place, its lowest byte first
 abbrev pub with_number : Draft → Field → ℕ → Draft
@@ -92,17 +81,6 @@ sides_of word =
     if nat_lt (position_or_len (λ byte. byte == 61) word) (length word)
     then Ok (before_first (λ byte. byte == 61) word, after_first (λ byte. byte == 61) word)
     else Err BadField
-
--- no byte of a name is `=`, a space or the end of a line
-abbrev pub IsBare : List ℕ → Type 0
-IsBare name =
-    (list_all (λ byte. not (byte == 61)) name ≡ true) × (list_all (λ byte. not (byte == 32)) name ≡ true)
-    × (list_all (λ byte. not (byte == 10)) name ≡ true)
-
--- some rows of the table of a layout's fields
-abbrev pub AreRowsOf : Layout → List (Bor (List ℕ) × Field) → Type 0
-AreRowsOf layout rows =
-    All (λ row. IsBare row.0.now) rows × All (λ row. look_up row.0.now (fields_of layout) ≡ Some row.1) rows
 
 abbrev pub found : {Value : Type 0} → Option Value → Result Value Fault
 found None = Err BadField
@@ -127,10 +105,9 @@ put draft field number = do
 -- one word NAME=N
 unfoldable pub after_word : Layout → Draft → List ℕ → Result Draft Fault
 after_word layout draft word = do
-  sides ← sides_of word
-  field ← new_field draft (field_of layout sides.0)
-  number ← number_within 0 (greatest field.size) sides.1
-  Ok (with_number draft field number)
+  named ← field_and_number layout word
+  field ← new_field draft named.0
+  put draft field (number_of named.1)
 
 unfoldable pub after_words : Layout → Draft → List (List ℕ) → Result Draft Fault
 after_words layout draft [] = Ok draft

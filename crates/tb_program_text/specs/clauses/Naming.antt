@@ -1,12 +1,10 @@
 -- An output with the names of its codes, and how much of it failed.
-use Rattle.std.specs.Prelude.{ℕ, ◌==◌, ◌||◌, List, [], ◌∷◌, ◌++◌, drop, codes, bytes_eq, flat_map, count_by, Option, Some, None, Result, Ok, Err, is_some, if◌then◌else◌}
+use Rattle.std.specs.Prelude.{ℕ, ◌==◌, ◌||◌, List, [], ◌∷◌, ◌++◌, drop, codes, bytes_eq, flat_map, count_by, Option, Some, None, is_some, if◌then◌else◌}
 use Rattle.std.specs.List.{position_or_len, slice_split}
-use Rattle.tb_layout.specs.declared.account_code.AccountCode.{AccountCode}
-use Rattle.tb_layout.specs.declared.transfer_code.TransferCode.{TransferCode}
+use Rattle.std.specs.Result.{result_ok}
 use Rattle.tb_layout.specs.clauses.AccountCodes as accounts
 use Rattle.tb_layout.specs.clauses.TransferCodes as transfers
 use Rattle.tb_layout.specs.claim.Events.{create_accounts, create_transfers}
-use Rattle.tb_program_text.specs.declared.fault.Fault.{Fault}
 use Rattle.tb_program_text.specs.clauses.Text.{lines_of, words_of}
 use Rattle.tb_program_text.specs.clauses.Number.{number_within}
 
@@ -16,29 +14,21 @@ use Rattle.tb_program_text.specs.clauses.Number.{number_within}
 abbrev pub after_colon : List ℕ → List ℕ
 after_colon word = drop 1 (drop (position_or_len (λ byte. byte == 58) word) word)
 
-abbrev pub in_range : Result ℕ Fault → Option ℕ
-in_range (Ok code) = Some code
-in_range (Err fault) = None
-
 -- the code of a failure: a number follows the first colon, as in 1:22; no other word has one
 unfoldable pub code_in : List ℕ → Option ℕ
-code_in word = in_range (number_within 0 4294967295 (after_colon word))
+code_in word = result_ok (number_within 0 4294967295 (after_colon word))
 
 -- ---- names
 
-abbrev pub account_name : Option AccountCode → List ℕ
-account_name (Some code) = accounts.name_of code
-account_name None = codes "unknown"
-
-abbrev pub transfer_name : Option TransferCode → List ℕ
-transfer_name (Some code) = transfers.name_of code
-transfer_name None = codes "unknown"
+abbrev pub name_or_unknown : {Code : Type 0} → (Code → List ℕ) → Option Code → List ℕ
+name_or_unknown name (Some code) = name code
+name_or_unknown name None = codes "unknown"
 
 -- the name that an operation gives a code
 unfoldable pub name_of : ℕ → ℕ → List ℕ
 name_of operation code =
-    if operation == create_accounts then account_name (accounts.code_of code)
-    else if operation == create_transfers then transfer_name (transfers.code_of code)
+    if operation == create_accounts then name_or_unknown accounts.name_of (accounts.code_of code)
+    else if operation == create_transfers then name_or_unknown transfers.name_of (transfers.code_of code)
     else codes "unknown"
 
 abbrev pub name_text : ℕ → Option ℕ → List ℕ

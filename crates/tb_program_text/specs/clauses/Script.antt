@@ -175,8 +175,11 @@ abbrev pub with_words : ParsedScript → List (List ℕ) → Result ParsedScript
 with_words parsed [] = Ok parsed
 with_words parsed (word ∷ words) = if slice_index word 0 == 35 then Ok parsed else with_keyword parsed (keyword_of word) words
 
+abbrev pub is_text_byte : ℕ → Bool
+is_text_byte byte = nat_le 32 byte && nat_le byte 126
+
 abbrev pub is_text : List ℕ → Bool
-is_text line = list_all (λ byte. nat_le 32 byte && nat_le byte 126) line
+is_text line = list_all is_text_byte line
 
 -- the most bytes of a line
 abbrev pub line_max : ℕ

@@ -22,8 +22,7 @@ Tells view (Err e) result = result ≡ Err e
 
 -- what a call left is the expected result
 abbrev pub Makes : {X Y : Type 0} → Result X Fault → Y → Result Y Fault → Type 0
-Makes (Ok x) new result = result ≡ Ok new
-Makes (Err e) new result = result ≡ Err e
+Makes result new expected = Tells (λ x. new) result expected
 
 -- the fault that a function returned is the expected one, unless memory ran out
 abbrev pub Fails : {Y : Type 0} → LineError → Result Y Fault → Type 0
@@ -36,5 +35,4 @@ Gives view (Err e) result = Fails e result
 
 -- what a call left is the expected result, unless memory ran out
 abbrev pub Leaves : {X Y : Type 0} → Result X LineError → Y → Result Y Fault → Type 0
-Leaves (Ok x) new result = result ≡ Ok new
-Leaves (Err e) new result = Fails e result
+Leaves result new expected = Gives (λ x. new) result expected

@@ -1,8 +1,7 @@
 use Rattle.std.proofs.Common.{◌≡◌, ◌≤◌, ◌<◌, ◌⊎◌, length}
-use Rattle.tb_program_text.proofs.Words.{after_first_line, first_line}
+use Rattle.tb_program_text.proofs.Words.{after_first_line, first_line, word_end}
 use Rattle.tb_program_text.specs.clauses.Text.{words_of}
 use Rattle.tb_program_text.specs.clauses.Event.{after_words}
-use Rattle.tb_program_text.proofs.Texts.{word_end}
 use Rattle.tb_program_text.proofs.event.assign_words.Given as goal
 
 abbrev pub invariant-loop-layout : goal.invariant-loop-layout

@@ -1,5 +1,5 @@
-use Rattle.std.proofs.Common.{◌≡◌, ◌-◌, ◌∙◌, ap, sym, true, take, drop, length, length-take-le, arith, rules}
-use Rattle.tb_program_text.proofs.Words.{◌==◌, common_steps, after_first_line, first_line, first_word}
+use Rattle.std.proofs.Common.{◌≡◌, ◌-◌, ◌∙◌, ap, sym, subst, true, take, drop, length, length-take-le, arith, rules}
+use Rattle.tb_program_text.proofs.Words.{◌==◌, common_steps, first_line, first_word, IsAfterFirstWord}
 use Rattle.tb_program_text.proofs.FirstLines.{digits_first}
 use Rattle.tb_program_text.proofs.Numbers.{one_more, all_digits}
 use Rattle.tb_program_text.proofs.number.leading_number.Goals as goal
@@ -36,6 +36,5 @@ returns c =
     let long = length-take-le count text (search rules) in
     record {
       number = rw (first.word, c.loop-digits.invariant.value) (all_digits (take count text) (search rules) (search rules) c.loop-digits.invariant.digits);
-      rest = ap first_line whole ∙ first.rest;
-      others = ap after_first_line whole ∙ first.others;
+      rest = subst (IsAfterFirstWord text) (sym whole) first.rest;
     }

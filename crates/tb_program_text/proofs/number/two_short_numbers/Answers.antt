@@ -18,15 +18,15 @@ returns-then-is_at_line_end c =
       numbers = rw (
         sym before.words,
         number_first (first_line start) c.in_ok-first.first c.in_ok-first.ensures.number,
-        sym c.in_ok-first.ensures.rest,
+        sym c.in_ok-first.ensures.rest.rest,
         sym between.words,
         number_first (first_line middle) c.in_ok-second.second c.in_ok-second.ensures.number,
-        sym c.in_ok-second.ensures.rest,
+        sym c.in_ok-second.ensures.rest.rest,
         sym after.words,
         empty_words (first_line end) none,
         c.in_ok-first.ensures.number,
         c.in_ok-second.ensures.number,
       ) refl;
-      rest = ends_at_once end none ∙ after.others ∙ c.in_ok-second.ensures.others ∙ between.others
-          ∙ c.in_ok-first.ensures.others ∙ before.others;
+      rest = ends_at_once end none ∙ after.others ∙ c.in_ok-second.ensures.rest.others ∙ between.others
+          ∙ c.in_ok-first.ensures.rest.others ∙ before.others;
     }

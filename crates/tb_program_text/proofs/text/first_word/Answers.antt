@@ -1,5 +1,6 @@
 use Rattle.std.proofs.Common.{◌∙◌, ◌<◌, rules, sym}
-use Rattle.tb_program_text.proofs.Texts.{empty_words, some_word, spaces, word_end, words_first}
+use Rattle.tb_program_text.proofs.Words.{spaces, word_end}
+use Rattle.tb_program_text.proofs.Texts.{empty_words, some_word, words_first}
 use Rattle.tb_program_text.proofs.UsualLines.{all_dropped}
 use Rattle.tb_program_text.proofs.text.first_word.Goals as goal
 
