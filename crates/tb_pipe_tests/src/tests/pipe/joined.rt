@@ -53,8 +53,8 @@ struct Senders {
     control: Control,
 }
 
-/// Queues six packets. The gate holds the first, so that the second waits for the committer, and the others join if that may be; else
-/// the batcher has sealed each before the next is queued.
+/// Queues six packets. The gate holds the first, so the second waits for the committer, and the others may join. If they don't, the
+/// batcher has sealed each before the next is queued.
 fn queue_six<R: Wait + Clock + Abort>(
     rt: &R,
     alloc: Global,
