@@ -57,7 +57,7 @@ impl Parts {
     }
 
     /// Returns no parts yet, of an operation, with room for packets of a size, as far as memory allows that. There is room for the jobs
-    /// and failures of a few small packets at least.
+    /// and failures of a few small packets at least, and for no more stubs than needed, since a journal keeps these.
     pub(crate) fn with_room(alloc: Global, operation: u8, size: Size) -> Parts
         ensures operation { result.operation ≡ operation }
         ensures jobs { (result.jobs.items ≡ []) × (result.stubs.items ≡ []) × (result.body.items ≡ []) }
