@@ -46,29 +46,19 @@ fault-below operation f clock facts after chunks fault is =
     lies_below (length chunks) after fault (subst (IsBelow (length chunks)) (sym is)
     (try_events-below operation 0 clock facts (map f chunks) (length chunks) (omega (arith, length-map chunks f))))
 
--- whatever its event becomes, a fault stays one
-pub some_as : {A B : Type 0} (become : A → B) (fault : Option (ChainFault A))
-    → is_some (fault_as become fault) ≡ is_some fault
-some_as become None = refl
-some_as become (Some fault) = refl
-
 -- ---- the results of a chain by its first fault
 
-pub closed_quiet : {Event : Type 0} (operation : Operation Event) (clock : ℕ) (facts after : Facts)
-    (chain : List Event) (fault : Option (ChainFault Event)) →
-    attempt_of after fault ≡ try_events operation 0 clock facts chain → is_some fault ≡ false →
-    closed_chain_results operation clock facts chain ≡ record { results = replicate (length chain) 0; facts = after }
-closed_quiet operation clock facts after chain None is quiet =
-    ap (closed_chain operation facts (length chain)) (sym is)
-closed_quiet operation clock facts after chain (Some fault) is quiet = cc
-
-pub closed_failed : {Event : Type 0} (operation : Operation Event) (clock : ℕ) (facts after : Facts)
-    (chain : List Event) (fault : Option (ChainFault Event)) →
-    attempt_of after fault ≡ try_events operation 0 clock facts chain → is_some fault ≡ true →
+-- which is found with the event's chunk of bytes
+pub closed_by : {Chunk Event : Type 0} (operation : Operation Event) (f : Chunk → Event) (clock : ℕ)
+    (facts after : Facts) (chain : List Event) (fault : Option (ChainFault Chunk)) →
+    attempt_of after (fault_as f fault) ≡ try_events operation 0 clock facts chain →
     closed_chain_results operation clock facts chain
-    ≡ record { results = results_of_failed (length chain) fault; facts = facts_after_failure operation facts fault }
-closed_failed operation clock facts after chain None is failed = cc
-closed_failed operation clock facts after chain (Some fault) is failed =
+    ≡ (if is_some fault then record {
+      results = results_of_failed (length chain) (fault_as f fault);
+      facts = facts_after_failure operation facts (fault_as f fault);
+    } else record { results = replicate (length chain) 0; facts = after })
+closed_by operation f clock facts after chain None is = ap (closed_chain operation facts (length chain)) (sym is)
+closed_by operation f clock facts after chain (Some fault) is =
     ap (closed_chain operation facts (length chain)) (sym is)
 
 pub open_failed : {Event : Type 0} (operation : Operation Event) (clock : ℕ) (facts after : Facts)

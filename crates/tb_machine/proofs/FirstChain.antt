@@ -20,15 +20,15 @@ map-front : {Chunk Event : Type 0} (f : Chunk → Event) (chunks : List Chunk)
     → take (length (map f chunks) - 1) (map f chunks) ≡ map f (take (length chunks - 1) chunks)
 map-front f chunks = ap (λ n. take (n - 1) (map f chunks)) (length-map chunks f) ∙ take-map f (length chunks - 1) chunks
 
--- the results of a chain whose events chunks of bytes hold
+-- the results of a chain whose events chunks of bytes hold, by whether the last one is linked
 pub chain_results-chunks : {Chunk Event : Type 0} (operation : Operation Event) (f : Chunk → Event) (clock : ℕ)
     (facts : Facts) (chunks : List Chunk) (d : Chunk) → 0 < length chunks →
+    {b : Bool} → operation.is_linked (f (get_or chunks (length chunks - 1) d)) ≡ b →
     chain_results operation clock facts (map f chunks)
-    ≡ (if operation.is_linked (f (get_or chunks (length chunks - 1) d))
-    then open_chain_results operation clock facts (map f (take (length chunks - 1) chunks))
+    ≡ (if b then open_chain_results operation clock facts (map f (take (length chunks - 1) chunks))
     else closed_chain_results operation clock facts (map f chunks))
-chain_results-chunks operation f clock facts chunks d some =
-    rw (last_linked operation.is_linked f chunks d some, map-front f chunks)
+chain_results-chunks operation f clock facts chunks d some is =
+    rw (last_linked operation.is_linked f chunks d some, map-front f chunks, is)
 
 -- ---- cutting off the first chain
 

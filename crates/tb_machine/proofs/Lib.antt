@@ -5,4 +5,3 @@ pub mod FirstChain
 mod StoredEvents
 pub mod Joined
 mod Examples
-mod FailedIds

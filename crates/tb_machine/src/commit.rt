@@ -27,14 +27,9 @@ const BLOCK: usize = 64;
 const CACHED_ACCOUNTS: usize = 1 << 13;
 
 /// Stores the event, at the timestamp after the clock, if its checks find nothing, and returns the number of its
-/// result. An event for which the clock can't be raised isn't checked.
+/// result. If the clock can't be raised, the event isn't checked.
 #[inline(always)]
-fn try_store_at<E: CreateEvent>(
-    clock: u64,
-    seems_stored: bool,
-    tables: &mut Tables,
-    event: E,
-) -> Result<u32, NoMemory>
+fn try_store_at<E: CreateEvent>(clock: u64, tables: &mut Tables, event: E) -> Result<u32, NoMemory>
     requires { clock ≤ clock_max }
     ensures extends { Extends tables.old tables.new }
     ensures code { IfOk result (λ code. code ≡ verdict_after E.operation clock tables.old.now event) }
@@ -43,7 +38,7 @@ fn try_store_at<E: CreateEvent>(
     ensures same { result ≢ Ok 0 → tables.new ≡ tables.old }
 {
     match next_timestamp(clock) {
-        Some(timestamp) => event.try_store(tables, timestamp, seems_stored),
+        Some(timestamp) => event.try_store(tables, timestamp),
         None => Ok(CLOCK_EXHAUSTED),
     }
 }
@@ -62,7 +57,7 @@ fn try_store_all<'a, E: CreateEvent>(
 {
     let mut clock = clock;
     for (index, chunk) in chunks.iter().enumerate() {
-        let code = try_store_at(clock, false, tables, E::read(chunk))?;
+        let code = try_store_at(clock, tables, E::read(chunk))?;
         if code != 0 {
             return Ok(Some(ChainFault {
                 index,
@@ -106,6 +101,30 @@ fn undo_chain<E: CreateEvent>(
     }
 }
 
+/// Stores the event, at the timestamp after the clock, if its checks find nothing, or else records its failure. Returns
+/// the number of its result. If the clock can't be raised, the event isn't checked.
+#[inline(always)]
+fn store_or_record_at<E: CreateEvent>(
+    start: ChainStart,
+    tables: &mut Tables,
+    event: E,
+) -> Result<u32, NoMemory>
+    requires { start.clock ≤ clock_max }
+    ensures extends { Extends tables.old tables.new }
+    ensures code { IfOk result (λ code. code ≡ verdict_after E.operation start.clock tables.old.now event) }
+    ensures stored { result ≡ Ok 0 → tables.new.now ≡ E.operation.stored tables.old.now (start.clock + 1) event }
+    ensures failed { IfOk result (λ code. code ≢ 0
+        → tables.new.now ≡ E.operation.after_failure tables.old.now code event) }
+{
+    match next_timestamp(start.clock) {
+        Some(timestamp) => event.store_or_record(tables, timestamp, start.seems_stored),
+        None => {
+            event.record_failed(tables, CLOCK_EXHAUSTED)?;
+            Ok(CLOCK_EXHAUSTED)
+        }
+    }
+}
+
 /// Takes an event that is a chain by itself: it succeeds, or it is reported with its own code and leaves what
 /// that does. There is nothing to take back.
 fn commit_event<E: CreateEvent>(
@@ -119,9 +138,8 @@ fn commit_event<E: CreateEvent>(
     ensures committed { OnOk result (HasCommitted start.index (closed_chain_results E.operation start.clock
         tables.old.now (E.event_of chunk.now ∷ [])) tables.new out.old out.new) }
 {
-    let code = try_store_at(start.clock, start.seems_stored, tables, E::read(chunk))?;
+    let code = store_or_record_at(start, tables, E::read(chunk))?;
     if code != 0 {
-        E::read(chunk).record_failed_checked(tables, code)?;
         out.push_reserved(Failure {
             index: start.index as u32,
             code,

@@ -1,8 +1,8 @@
 //! The checks of a plain or pending transfer, in their order.
 
-ghost use Rattle.std.specs.Prelude.{◌≡◌, ◌+◌, nat_lt};
+ghost use Rattle.std.specs.Prelude.{◌≡◌, ◌+◌, nat_lt, MatchOption};
+ghost use Rattle.tb_layout.specs.declared.transfer_code.TransferCode.{TransferCode as Code};
 ghost use Rattle.tb_layout.specs.declared.transfer_code.TransferCode.TheVariants.{Ok};
-ghost use Rattle.tb_tables.specs.claim.Balances.{balanced_account};
 ghost use Rattle.tb_machine.specs.claim.Checks.{first_row};
 ghost use Rattle.tb_machine.specs.inside.Prefetch.{AreSides};
 ghost use Rattle.tb_machine.specs.claim.TransferVerdict as spec;
@@ -102,26 +102,41 @@ fn check_accounts(
     TransferCode::Ok
 }
 
-/// Returns the first check that a plain or pending transfer fails, or Ok, if one of its accounts may not be there.
+/// Returns the first check that a plain or pending transfer fails before its accounts are looked at, if it fails one.
 #[inline(always)]
-fn check_accounts_found(
-    tables: &Tables,
-    sides: Sides,
-    timestamp: u64,
-    event: &Transfer,
-) -> TransferCode
-    requires { AreSides tables.now.now event.now sides }
-    ensures { result ≡ first_row (spec.against_accounts tables.now.now timestamp
-        (balanced_account tables.now.now event.now.debit_account_id)
-        (balanced_account tables.now.now event.now.credit_account_id) event.now) Ok }
+fn creating_fault(event: &Transfer) -> Option<TransferCode>
+    ensures { MatchOption result
+        ((rest : Code) → first_row (spec.creating_checks event.now) rest ≡ rest)
+        (λ code. (rest : Code) → first_row (spec.creating_checks event.now) rest ≡ code) }
 {
-    let Some(debit) = account_at(tables, sides.debit) else {
-        return TransferCode::DebitAccountNotFound;
-    };
-    let Some(credit) = account_at(tables, sides.credit) else {
-        return TransferCode::CreditAccountNotFound;
-    };
-    check_accounts(timestamp, &debit, &credit, event)
+    if event.debit_account_id == 0 {
+        return Some(TransferCode::DebitAccountIdMustNotBeZero);
+    }
+    if event.debit_account_id == u128::MAX {
+        return Some(TransferCode::DebitAccountIdMustNotBeIntMax);
+    }
+    if event.credit_account_id == 0 {
+        return Some(TransferCode::CreditAccountIdMustNotBeZero);
+    }
+    if event.credit_account_id == u128::MAX {
+        return Some(TransferCode::CreditAccountIdMustNotBeIntMax);
+    }
+    if event.debit_account_id == event.credit_account_id {
+        return Some(TransferCode::AccountsMustBeDifferent);
+    }
+    if event.pending_id != 0 {
+        return Some(TransferCode::PendingIdMustBeZero);
+    }
+    if !event.is_pending() && event.timeout != 0 {
+        return Some(TransferCode::TimeoutReservedForPendingTransfer);
+    }
+    if event.ledger == 0 {
+        return Some(TransferCode::LedgerMustNotBeZero);
+    }
+    if event.code == 0 {
+        return Some(TransferCode::CodeMustNotBeZero);
+    }
+    None
 }
 
 /// Returns the first check that a plain or pending transfer fails, or Ok.
@@ -135,32 +150,14 @@ pub(crate) fn creating_verdict(
     requires { AreSides tables.now.now event.now sides }
     ensures { result ≡ spec.creating_verdict tables.now.now timestamp event.now }
 {
-    if event.debit_account_id == 0 {
-        return TransferCode::DebitAccountIdMustNotBeZero;
+    if let Some(code) = creating_fault(event) {
+        return code;
     }
-    if event.debit_account_id == u128::MAX {
-        return TransferCode::DebitAccountIdMustNotBeIntMax;
-    }
-    if event.credit_account_id == 0 {
-        return TransferCode::CreditAccountIdMustNotBeZero;
-    }
-    if event.credit_account_id == u128::MAX {
-        return TransferCode::CreditAccountIdMustNotBeIntMax;
-    }
-    if event.debit_account_id == event.credit_account_id {
-        return TransferCode::AccountsMustBeDifferent;
-    }
-    if event.pending_id != 0 {
-        return TransferCode::PendingIdMustBeZero;
-    }
-    if !event.is_pending() && event.timeout != 0 {
-        return TransferCode::TimeoutReservedForPendingTransfer;
-    }
-    if event.ledger == 0 {
-        return TransferCode::LedgerMustNotBeZero;
-    }
-    if event.code == 0 {
-        return TransferCode::CodeMustNotBeZero;
-    }
-    check_accounts_found(tables, sides, timestamp, event)
+    let Some(debit) = account_at(tables, sides.debit) else {
+        return TransferCode::DebitAccountNotFound;
+    };
+    let Some(credit) = account_at(tables, sides.credit) else {
+        return TransferCode::CreditAccountNotFound;
+    };
+    check_accounts(timestamp, &debit, &credit, event)
 }

@@ -12,7 +12,7 @@ ghost use Rattle.tb_layout.specs.claim.Limits.{clock_max};
 ghost use Rattle.tb_machine.specs.claim.Chain.{Operation, verdict_after};
 ghost use Rattle.tb_machine.specs.claim.Checks.{differ};
 ghost use Rattle.tb_machine.specs.claim.TransferVerdict.{stored_transfer, new_id_verdict};
-ghost use Rattle.tb_machine.specs.inside.Examining.{transfer_id_verdict};
+ghost use Rattle.tb_machine.specs.inside.Examining.{transfer_id_verdict, unfailed_verdict};
 ghost use Rattle.tb_machine.specs.inside.Prefetch.{IsTarget};
 ghost use Rattle.tb_machine.specs.declared.prefetch.Target.TheVariants.{Between, Named};
 ghost use Rattle.tb_machine.specs.claim.Operations as spec;
@@ -22,6 +22,7 @@ use crate::prefetch::{Sides, Target};
 use crate::resolved::is_resolving;
 use crate::transfer_verdict::{
     new_creating_verdict, new_resolving, stored_transfer_verdict, transfer_fault,
+    unfailed_creating_verdict,
 };
 use tb_layout::{
     Account, NoMemory, Transfer, TransferCode, is_chunk_linked, read_account, read_transfer,
@@ -60,9 +61,23 @@ pub(crate) trait CreateEvent: Copy {
     fn has_accounts(&self, tables: &Tables) -> bool
         ensures { result ≡ has_accounts tables.now.now self.now };
 
-    /// Stores the event with this timestamp if its checks find nothing, and returns the number of its result. It is the
-    /// same whether the id seems stored or not: a transfer's id that does is looked up first, and costs less if it is.
-    fn try_store(
+    /// Stores the event with this timestamp if its checks find nothing, and returns the number of its result.
+    fn try_store(&self, tables: &mut Tables, timestamp: u64) -> Result<u32, NoMemory>
+        requires { timestamp ≤ clock_max }
+        ensures code { IfOk result (λ code. code ≡ operation.verdict tables.old.now timestamp self.now) }
+        ensures stored { result ≡ Ok 0 → tables.new ≡ with_change tables.old
+            (operation.stored tables.old.now timestamp self.now) }
+        ensures same { result ≢ Ok 0 → tables.new ≡ tables.old };
+
+    /// Records that the event failed with this code.
+    fn record_failed(&self, tables: &mut Tables, code: u32) -> Result<(), NoMemory>
+        ensures facts { IfOk result (λ _. tables.new.now ≡ operation.after_failure tables.old.now code self.now) }
+        ensures extends { Extends tables.old tables.new };
+
+    /// Stores the event with this timestamp if its checks find nothing, or else records its failure. Returns the number
+    /// of its result, which doesn't depend on `seems_stored`: a transfer's id that seems stored is looked up first, and
+    /// costs less if it is.
+    fn store_or_record(
         &self,
         tables: &mut Tables,
         timestamp: u64,
@@ -70,20 +85,9 @@ pub(crate) trait CreateEvent: Copy {
     ) -> Result<u32, NoMemory>
         requires { timestamp ≤ clock_max }
         ensures code { IfOk result (λ code. code ≡ operation.verdict tables.old.now timestamp self.now) }
-        ensures stored { result ≡ Ok 0 → tables.new ≡ with_change tables.old
-            (operation.stored tables.old.now timestamp self.now) }
-        ensures same { result ≢ Ok 0 → tables.new ≡ tables.old };
-
-    /// Notes what the event's failing with this code leaves.
-    fn record_failed(&self, tables: &mut Tables, code: u32) -> Result<(), NoMemory>
-        ensures facts { IfOk result (λ _. tables.new.now ≡ operation.after_failure tables.old.now code self.now) }
-        ensures extends { Extends tables.old tables.new };
-
-    /// Does the same if the event's checks found this code on the facts as they are. Nothing is looked up that they
-    /// looked up.
-    fn record_failed_checked(&self, tables: &mut Tables, code: u32) -> Result<(), NoMemory>
-        requires { (clock : ℕ) × (code ≡ verdict_after operation clock tables.old.now self.now) }
-        ensures facts { IfOk result (λ _. tables.new.now ≡ operation.after_failure tables.old.now code self.now) }
+        ensures stored { result ≡ Ok 0 → tables.new.now ≡ operation.stored tables.old.now timestamp self.now }
+        ensures failed { IfOk result (λ code. code ≢ 0
+            → tables.new.now ≡ operation.after_failure tables.old.now code self.now) }
         ensures extends { Extends tables.old tables.new };
 }
 
@@ -118,12 +122,7 @@ impl CreateEvent for Account {
         true
     }
 
-    fn try_store(
-        &self,
-        tables: &mut Tables,
-        timestamp: u64,
-        _seems_stored: bool,
-    ) -> Result<u32, NoMemory> {
+    fn try_store(&self, tables: &mut Tables, timestamp: u64) -> Result<u32, NoMemory> {
         let code = new_account_verdict(self).number();
         if code == 0 && tables.insert_account(self, timestamp)? {
             return Ok(0);
@@ -135,8 +134,13 @@ impl CreateEvent for Account {
         Ok(())
     }
 
-    fn record_failed_checked(&self, _tables: &mut Tables, _code: u32) -> Result<(), NoMemory> {
-        Ok(())
+    fn store_or_record(
+        &self,
+        tables: &mut Tables,
+        timestamp: u64,
+        _seems_stored: bool,
+    ) -> Result<u32, NoMemory> {
+        self.try_store(tables, timestamp)
     }
 }
 
@@ -175,7 +179,26 @@ impl CreateEvent for Transfer {
                 && tables.account_index(self.credit_account_id).is_some()
     }
 
-    fn try_store(
+    fn try_store(&self, tables: &mut Tables, timestamp: u64) -> Result<u32, NoMemory> {
+        if let Some(code) = transfer_fault(self) {
+            return Ok(code.number());
+        }
+        match Target::of(tables, self) {
+            Target::Between(sides) => try_store_between(tables, sides, timestamp, self),
+            Target::Named(pending) => try_store_resolving(tables, pending, timestamp, self),
+        }
+    }
+
+    #[inline(never)]
+    fn record_failed(&self, tables: &mut Tables, code: u32) -> Result<(), NoMemory> {
+        if is_transient(code) {
+            tables.insert_failed(self.id)?;
+        }
+        Ok(())
+    }
+
+    #[inline(never)]
+    fn store_or_record(
         &self,
         tables: &mut Tables,
         timestamp: u64,
@@ -190,35 +213,16 @@ impl CreateEvent for Transfer {
             }
         }
         match Target::of(tables, self) {
-            Target::Between(sides) => try_store_between(tables, sides, timestamp, self),
-            Target::Named(pending) => try_store_resolving(tables, pending, timestamp, self),
+            Target::Between(sides) => store_between_or_record(tables, sides, timestamp, self),
+            Target::Named(pending) => {
+                let code = try_store_resolving(tables, pending, timestamp, self)?;
+                if code != 0 {
+                    self.record_failed(tables, code)?;
+                }
+                Ok(code)
+            }
         }
     }
-
-    fn record_failed(&self, tables: &mut Tables, code: u32) -> Result<(), NoMemory> {
-        if is_transient(code) && !tables.failed(self.id) {
-            add_failed(tables, self.id)?;
-        }
-        Ok(())
-    }
-
-    #[inline(never)]
-    fn record_failed_checked(&self, tables: &mut Tables, code: u32) -> Result<(), NoMemory> {
-        if is_transient(code) {
-            add_failed(tables, self.id)?;
-        }
-        Ok(())
-    }
-}
-
-/// Adds an id to those that failed. Few events fail so, and what others cost is less if this isn't part of it.
-#[inline(never)]
-fn add_failed(tables: &mut Tables, id: u128) -> Result<(), NoMemory>
-    requires { is_failed tables.old.now id ≡ false }
-    ensures facts { OnOk result (tables.new.now ≡ spec.with_failed tables.old.now id) }
-    ensures extends { Extends tables.old tables.new }
-{
-    tables.add_failed(id)
 }
 
 /// Returns whether the same event could find no fault later: an account or a pending transfer wasn't there, or a limit
@@ -283,6 +287,67 @@ fn try_store_between(
     }
     let code = stored_transfer_verdict(tables, event).unwrap_or(code);
     Ok(code.number())
+}
+
+/// Returns the number of the result of an event that fails with this transient code if its id is new and didn't fail.
+/// Records its failure. The id is looked up once among those that failed. Few events fail so, and others cost less if
+/// this isn't inlined.
+#[inline(never)]
+fn record_transient(
+    tables: &mut Tables,
+    code: TransferCode,
+    event: &Transfer,
+) -> Result<u32, NoMemory>
+    requires { spec.is_transient (number_of code) ≡ true }
+    ensures code { IfOk result (λ number. (timestamp : ℕ)
+        → code ≡ unfailed_verdict tables.old.now timestamp event.now
+        → number ≡ number_of (transfer_id_verdict tables.old.now timestamp event.now)) }
+    ensures not_ok { IfOk result (λ number. number ≢ 0) }
+    ensures failed { IfOk result (λ number. tables.new.now
+        ≡ spec.transfers_operation.after_failure tables.old.now number event.now) }
+    ensures extends { Extends tables.old tables.new }
+{
+    if let Some(stored) = stored_transfer_verdict(tables, event) {
+        return Ok(stored.number());
+    }
+    if tables.insert_failed(event.id)? {
+        Ok(code.number())
+    } else {
+        Ok(TransferCode::IdAlreadyFailed.number())
+    }
+}
+
+/// Stores a plain or pending transfer if the checks after those of any event find nothing, or else records its failure.
+/// Returns the number of its result. If it fails because an account is missing, its id is looked up among the failed ids
+/// only when it is inserted there.
+#[inline(always)]
+fn store_between_or_record(
+    tables: &mut Tables,
+    sides: Sides,
+    timestamp: u64,
+    event: &Transfer,
+) -> Result<u32, NoMemory>
+    requires target { IsTarget tables.old.now event.now (Between sides) }
+    requires clock { timestamp ≤ clock_max }
+    ensures code { IfOk result (λ code. code
+        ≡ number_of (transfer_id_verdict tables.old.now timestamp event.now)) }
+    ensures stored { result ≡ Ok 0 → tables.new.now
+        ≡ add_transfer tables.old.now (stored_transfer tables.old.now timestamp event.now) }
+    ensures failed { IfOk result (λ code. code ≢ 0 → tables.new.now
+        ≡ spec.transfers_operation.after_failure tables.old.now code event.now) }
+    ensures extends { Extends tables.old tables.new }
+{
+    if sides.debit.is_none() || sides.credit.is_none() {
+        let unfailed = unfailed_creating_verdict(tables, sides, timestamp, event);
+        if is_transient(unfailed.number()) {
+            return record_transient(tables, unfailed, event);
+        }
+    }
+    let code = try_store_between(tables, sides, timestamp, event)?;
+    if code != 0 {
+        event.record_failed(tables, code)?;
+    }
+    Ok(code)
 }
 
 /// Stores a post or a void, with its fields resolved, if its id is new; whether it is. The id is looked up as it is

@@ -48,6 +48,7 @@ pub(crate) enum Target {
 
 impl Target {
     /// Looks up what an event acts on.
+    #[inline(always)]
     pub(crate) fn of(tables: &Tables, event: &Transfer) -> Target
         ensures { IsTarget tables.now.now event.now result }
     {

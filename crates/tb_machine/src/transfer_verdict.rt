@@ -1,6 +1,6 @@
 //! The checks of an event that asks for a transfer, in their order.
 
-ghost use Rattle.std.specs.Prelude.{◌≡◌, ◌≢◌, ℕ, Some, None, IfNone, IfSome, IfOk, OnOk, IfErr, MatchOption, true};
+ghost use Rattle.std.specs.Prelude.{◌≡◌, ◌≢◌, ℕ, Some, None, IfNone, IfSome, IfOk, OnOk, IfErr, MatchOption, true, false};
 ghost use Rattle.tb_layout.specs.claim.Transfer.{is_resolving as is_resolving_event};
 ghost use Rattle.tb_layout.specs.declared.transfer_code.TransferCode.{TransferCode as Code};
 ghost use Rattle.tb_layout.specs.declared.transfer_code.TransferCode.TheVariants.{Exists};
@@ -8,8 +8,9 @@ ghost use Rattle.tb_layout.specs.claim.TransferCode.{number_of};
 ghost use Rattle.tb_tables.specs.clauses.Indices.{IsIndexOfTransfer};
 ghost use Rattle.tb_tables.specs.claim.Facts.{transfer_with};
 ghost use Rattle.tb_machine.specs.claim.TransferVerdict as spec;
-ghost use Rattle.tb_machine.specs.inside.Examining.{transfer_id_verdict};
+ghost use Rattle.tb_machine.specs.inside.Examining.{transfer_id_verdict, unfailed_verdict};
 ghost use Rattle.tb_machine.specs.claim.Checks.{first_row};
+ghost use Rattle.tb_machine.specs.claim.Operations.{is_transient};
 ghost use Rattle.tb_machine.specs.inside.Prefetch.{IsTarget};
 ghost use Rattle.tb_machine.specs.declared.prefetch.Target.TheVariants.{Between, Named};
 
@@ -25,6 +26,7 @@ use tb_tables::Tables;
 fn compare_with_stored(stored: &Transfer, event: &Transfer) -> TransferCode
     ensures first { result ≡ first_row (spec.stored_checks stored.now event.now) Exists }
     ensures not_ok { number_of result ≢ 0 }
+    ensures lasting { is_transient (number_of result) ≡ false }
 {
     if event.flags != stored.flags {
         return TransferCode::ExistsWithDifferentFlags;
@@ -70,6 +72,7 @@ fn compare_resolved_at(tables: &Tables, index: usize, event: &Transfer) -> Trans
     requires resolves { is_resolving_event event.now ≡ true }
     ensures code { (timestamp : ℕ) → result ≡ transfer_id_verdict tables.now.now timestamp event.now }
     ensures not_ok { number_of result ≢ 0 }
+    ensures lasting { is_transient (number_of result) ≡ false }
 {
     let Some(stored) = tables.transfer_at(index) else {
         unreachable!()
@@ -85,6 +88,7 @@ fn compare_with_stored_at(tables: &Tables, index: usize, event: &Transfer) -> Tr
     requires { IsIndexOfTransfer tables.now.now event.now.id (Some index) }
     ensures code { (timestamp : ℕ) → result ≡ transfer_id_verdict tables.now.now timestamp event.now }
     ensures not_ok { number_of result ≢ 0 }
+    ensures lasting { is_transient (number_of result) ≡ false }
 {
     if is_resolving(event) {
         return compare_resolved_at(tables, index, event);
@@ -103,6 +107,7 @@ pub(crate) fn stored_transfer_verdict(tables: &Tables, event: &Transfer) -> Opti
     ensures stored { IfSome result (λ code. (timestamp : ℕ)
         → code ≡ transfer_id_verdict tables.now.now timestamp event.now) }
     ensures not_ok { IfSome result (λ code. number_of code ≢ 0) }
+    ensures lasting { IfSome result (λ code. is_transient (number_of code) ≡ false) }
 {
     let index = tables.transfer_index(event.id)?;
     Some(compare_with_stored_at(tables, index, event))
@@ -124,6 +129,7 @@ pub(crate) fn transfer_fault(event: &Transfer) -> Option<TransferCode>
         ((rest : Code) → first_row (spec.event_checks event.now) rest ≡ rest)
         (λ code. (rest : Code) → first_row (spec.event_checks event.now) rest ≡ code) }
     ensures not_ok { MatchOption result Unit (λ code. number_of code ≢ 0) }
+    ensures lasting { MatchOption result Unit (λ code. is_transient (number_of code) ≡ false) }
 {
     if event.timestamp != 0 {
         return Some(TransferCode::TimestampMustBeZero);
@@ -155,6 +161,24 @@ fn new_id_fault(tables: &Tables, event: &Transfer) -> Option<TransferCode>
         return Some(TransferCode::FlagsAreMutuallyExclusive);
     }
     None
+}
+
+/// Returns the first check that a plain or pending transfer fails, or Ok, if it passes the checks of any event. Its id
+/// is taken for one that is new and didn't fail. Its accounts were looked up before.
+#[inline(always)]
+pub(crate) fn unfailed_creating_verdict(
+    tables: &Tables,
+    sides: Sides,
+    timestamp: u64,
+    event: &Transfer,
+) -> TransferCode
+    requires { IsTarget tables.now.now event.now (Between sides) }
+    ensures { result ≡ unfailed_verdict tables.now.now timestamp event.now }
+{
+    if has_exclusive_flags(event) {
+        return TransferCode::FlagsAreMutuallyExclusive;
+    }
+    creating_verdict(tables, sides, timestamp, event)
 }
 
 /// Returns the first check that a plain or pending transfer fails, or Ok, if its id is that of no transfer and it passes

@@ -40,14 +40,13 @@ pub(crate) fn push_account(
     }
 }
 
-/// Puts a new failed id after the others.
-pub(crate) fn push_failed(failed: &mut Ids, id: u128) -> Result<(), NoMemory>
-    requires { list_any (λ other. other == id) failed.old.keys ≡ false }
-    ensures ok { OnOk result (failed.new.keys ≡ failed.old.keys ++ id ∷ []) }
-    ensures err { OnErr result (failed.new.keys ≡ failed.old.keys) }
+/// Puts a failed id after the others, unless it is among them; whether it was added.
+pub(crate) fn push_failed(failed: &mut Ids, id: u128) -> Result<bool, NoMemory>
+    ensures new { IfOk result (λ added. added ≡ not (list_any (λ other. other == id) failed.old.keys)) }
+    ensures added { result ≡ Ok true → failed.new.keys ≡ failed.old.keys ++ id ∷ [] }
+    ensures same { result ≢ Ok true → failed.new.keys ≡ failed.old.keys }
 {
-    failed.insert(id)?;
-    Ok(())
+    Ok(failed.insert(id)?)
 }
 
 /// Takes the last account off.

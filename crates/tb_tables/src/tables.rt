@@ -137,10 +137,23 @@ impl Tables {
         ensures ok { OnOk result (self.new ≡ with_change self.old (with_failed self.old.now id)) }
         ensures err { OnErr result (self.new ≡ self.old) }
     {
-        self.changes.reserve(1)?;
-        push_failed(&mut self.failed, id)?;
-        self.changes.push_reserved(Change::Failed);
+        self.insert_failed(id)?;
         Ok(())
+    }
+
+    /// Adds an id to those that failed, unless it is among them; whether it was added. The id is looked up once. If
+    /// memory runs out nothing has changed.
+    pub fn insert_failed(&mut self, id: u128) -> Result<bool, NoMemory>
+        ensures new { IfOk result (λ added. added ≡ not (is_failed self.old.now id)) }
+        ensures added { result ≡ Ok true → self.new ≡ with_change self.old (with_failed self.old.now id) }
+        ensures same { result ≢ Ok true → self.new ≡ self.old }
+    {
+        self.changes.reserve(1)?;
+        if !push_failed(&mut self.failed, id)? {
+            return Ok(false);
+        }
+        self.changes.push_reserved(Change::Failed);
+        Ok(true)
     }
 
     /// Adds a transfer with this timestamp, whose accounts, and whose pending transfer, have these indices, unless one

@@ -4,7 +4,9 @@ use Rattle.tb_tables.specs.claim.Facts.{Facts, transfer_with}
 use Rattle.tb_machine.specs.declared.fault.ChainFault.{ChainFault}
 use Rattle.tb_machine.specs.claim.Chain.{Results, clock_after}
 use Rattle.tb_layout.specs.declared.transfer.Transfer.{Transfer}
+use Rattle.tb_layout.specs.claim.Transfer.{is_resolving}
 use Rattle.tb_layout.specs.declared.transfer_code.TransferCode.{TransferCode}
+use Rattle.tb_layout.specs.declared.transfer_code.TransferCode.TheVariants.{FlagsAreMutuallyExclusive}
 use Rattle.tb_layout.specs.declared.account.Account.{Account}
 use Rattle.tb_layout.specs.declared.account_code.AccountCode.{AccountCode}
 use Rattle.tb_machine.specs.claim.AccountVerdict as account
@@ -43,3 +45,10 @@ new_account_verdict event = first_row (account.event_checks event) (account.agai
 abbrev pub transfer_id_verdict : Facts → ℕ → Transfer → TransferCode
 transfer_id_verdict facts timestamp event =
     transfer.against_id facts timestamp (transfer_with facts event.id) event
+
+-- the verdict on a transfer whose id is that of no transfer and didn't fail
+abbrev pub unfailed_verdict : Facts → ℕ → Transfer → TransferCode
+unfailed_verdict facts timestamp event =
+    if transfer.has_exclusive_flags event then FlagsAreMutuallyExclusive
+    else if is_resolving event then transfer.resolving_verdict facts timestamp event
+    else transfer.creating_verdict facts timestamp event
