@@ -1,7 +1,9 @@
 -- Which row keeps a ledger from being opened.
-use Rattle.std.proofs.Common.{◌≡◌, ◌≢◌, pos, true, List, ◌∷◌, ◌++◌, sym, ap, subst, ◌∙◌}
+use Rattle.std.proofs.Common.{◌≡◌, ◌≢◌, ℕ, pos, true, Option, List, ◌∷◌, ◌++◌, sym, ap, subst, ◌∙◌}
 use Rattle.tb_durable.proofs.Words.{Int, Row, rowid, View, Advances, BareLedgerState, OpenFault, IsJournal, IsReading, IsCause, IsRowFault}
+use Rattle.sqlite_trees.specs.declared.error.StoreError.{StoreError}
 use Rattle.tb_durable.specs.declared.fault.OpenFault.TheVariants as fault
+use Rattle.tb_durable.specs.clauses.Faults.{TellsStore}
 use Rattle.tb_durable.proofs.StoreLemmas.{left_is}
 
 -- a row after those of a journal
@@ -23,6 +25,18 @@ next_fault {read} {bare} row left j all (fault.BadEntry place) is = (
   record { read = read; left = left; bare = bare; all = all; journal = j; next = sym is.0 },
   subst (λ p. rowid row ≡ Int (pos p)) (sym is.0) is.1,
 )
+
+-- what keeps a row from being read is no error of the store
+pub row_tells : (place : ℕ) (row : Row) (blamed : Option StoreError) (error : OpenFault) → IsRowFault place row error
+    → TellsStore blamed error
+row_tells place row blamed fault.NoMemory is = tt
+row_tells place row blamed (fault.Store error) is = absurd is
+row_tells place row blamed (fault.File error) is = tt
+row_tells place row blamed fault.NotALedger is = tt
+row_tells place row blamed fault.BadSettings is = tt
+row_tells place row blamed (fault.OtherVersion version) is = tt
+row_tells place row blamed (fault.OutOfPlace other) is = tt
+row_tells place row blamed (fault.BadEntry other) is = tt
 
 -- the row that a cursor gave after those of a journal
 pub row_fault : {old new : View} {read : List Row} {row : Row} {bare : BareLedgerState} → IsReading old read

@@ -1,32 +1,43 @@
 -- What a parcel does to a ledger in a file: its row is put, and then it is applied, or the ledger stops.
-use Rattle.std.proofs.Common.{◌≡◌, ◌<◌, ◌∙◌, true, false, List, [], ◌∷◌, ◌++◌, sym, ap, subst, arith, length, map}
-use Rattle.tb_durable.proofs.Words.{OnOk, Result, Ok, Err, Row, Trees, View, IsClean, Input, Outcomes, BareLedgerState, PacketCounts, LeavesWith, groups_of_parcel, rows_of, IsEntryRow, group_in}
+use Rattle.std.proofs.Common.{◌≡◌, ◌<◌, ◌∙◌, true, false, List, [], ◌∷◌, ◌++◌, Option, Some, refl, sym, ap, subst, arith, length, map}
+use Rattle.tb_durable.proofs.Words.{OnOk, Result, Ok, Err, Row, Trees, View, IsClean, Input, Outcomes, BareLedgerState, PacketCounts, LeavesWith, groups_of_parcel, rows_of, IsEntryRow, Numbered, stub_of, group_in}
 use Rattle.tb_core.specs.declared.parcel.Parcel.{Parcel}
-use Rattle.tb_core.specs.claim.BareLedger.{after_refusal}
+use Rattle.tb_core.specs.declared.parcel.Parcel.TheVariants as parcel
+use Rattle.tb_core.specs.claim.BareLedger.{after_refusal, halts}
+use Rattle.tb_durable.specs.clauses.Counts.{counted_all}
+use Rattle.sqlite_trees.specs.declared.error.StoreError.{StoreError}
+use Rattle.sqlite_trees.specs.declared.error.StoreError.TheVariants.{OutOfMemory}
 use Rattle.tb_durable.specs.declared.ledger.DurableLedger.{DurableLedger}
+use Rattle.tb_durable.specs.declared.table.Table.{Table}
 use Rattle.tb_durable.specs.declared.table.NotStored.{NotStored}
-use Rattle.tb_durable.specs.clauses.Parcels.{AppliesInFile}
+use Rattle.tb_durable.specs.clauses.Parcels.{AppliesInFile, is_unstored}
 use Rattle.tb_durable.specs.inside.Storing.{Finishes, StoresRow}
 use Rattle.tb_durable.proofs.Applied.{adds_group, gives_refusal}
 use Rattle.tb_durable.proofs.EntryLemmas.{entry_place}
 use Rattle.tb_durable.proofs.FileLemmas.{crash_opens, stored_file}
 use Rattle.tb_durable.proofs.Journals.{added_last, leaves_with_row, stored_more}
 
+-- a batch is stored if it has places, and its packets follow
+pub stored_batch : (bare : BareLedgerState) (before after : PacketCounts) (jobs : List Numbered) → halts bare (length jobs) ≡ false
+    → counted_all before (map stub_of jobs) ≡ Some after → is_unstored bare before (parcel.Batch jobs) ≡ false
+stored_batch bare before after jobs fits follow = rw (fits, follow) refl
+
 -- The row of a parcel with a group, of a ledger that hasn't stopped: an entry's at the next place, with the counts after it.
 pub record IsNextRow {S : Type 0} (old : DurableLedger S) (handed : Parcel) (row : Row) (group : List Input) (after : PacketCounts)
     : Type 0 where
   pub goes_on : old.bare.stopped ≡ false
+  pub is_stored : is_unstored old.bare old.counts handed ≡ false
   pub rows : rows_of old.bare.places handed ≡ row ∷ []
   pub entry : IsEntryRow old.bare.places old.counts row after
   pub groups : groups_of_parcel handed ≡ group ∷ []
   pub some : 0 < length group
   pub stops : (after_refusal old.bare handed).stopped ≡ true
 
-module _ {S : Type 0} {view : S → View} {recovers : S → Trees → Type 0} {old new : DurableLedger S} {handed : Parcel} {row : Row}
-    {group : List Input} {after : PacketCounts} {outcomes : Outcomes} (next : IsNextRow old handed row group after) where
-  pub in_file : (stored : Result (Unit {0}) NotStored) → StoresRow view recovers old.table.store row stored new.table.store
-      → OnOk stored (group_in row ≡ group) → Finishes stored after old.bare handed outcomes new
-      → AppliesInFile view recovers old handed outcomes new
+module _ {S : Type 0} {view : S → View} {recovers : S → Trees → Type 0} {blamed : S → Option StoreError} {old new : DurableLedger S}
+    {handed : Parcel} {row : Row} {group : List Input} {after : PacketCounts} {outcomes : Outcomes} (next : IsNextRow old handed row group after) where
+  pub in_file : (stored : Result (Unit {0}) NotStored) → StoresRow view recovers blamed old.table.store row stored new.table.store
+      → OnOk stored (group_in row ≡ group) → {table : Table S} → Finishes stored after (record old { table = table }) handed outcomes new
+      → AppliesInFile view recovers blamed old handed outcomes new
   in_file (Ok done) stores reads finishes =
       let at = entry_place old.bare.places old.counts after row next.entry in
       let was : IsClean (view new.table.store) → IsClean (view old.table.store) = λ clean. omega (arith, stores.clean) in
@@ -49,9 +60,15 @@ module _ {S : Type 0} {view : S → View} {recovers : S → Trees → Type 0} {o
         certain = λ stop certain. absurd (let doubt = finishes.doubt in cc);
         entries = λ has entries clean on.
             let rest = has (was clean) next.goes_on in
-            rw finishes.counted (stored_file rest.0 rest.1 (entries (was clean) next.goes_on) next.entry (stores.ok clean));
+            rw (finishes.counted on) (stored_file rest.0 rest.1 (entries (was clean) next.goes_on) next.entry (stores.ok clean));
         openable = λ has entries. crash_opens has entries next.goes_on next.entry stores.crash;
         stays = λ stopped. absurd (let on = next.goes_on in cc);
+        unstored = λ is. absurd (let no = next.is_stored in cc);
+        cause = λ no stop. (OutOfMemory, finishes.no_memory stop, λ kind is fault. absurd cc);
+        no_fault = finishes.no_fault;
+        no_doubt = λ on sure. finishes.doubt ∙ on;
+        uncounted = finishes.uncounted;
+        settings = finishes.settings;
         applying = finishes.applying;
         says = λ on. ap (map group_in) next.rows ∙ ap (λ one. one ∷ []) reads ∙ sym next.groups;
         clean = stores.clean;
@@ -70,6 +87,12 @@ module _ {S : Type 0} {view : S → View} {recovers : S → Trees → Type 0} {o
         entries = λ has entries clean on. absurd cc;
         openable = λ has entries. crash_opens has entries next.goes_on next.entry stores.crash;
         stays = λ stopped. absurd (let on = next.goes_on in cc);
+        unstored = λ is. absurd (let no = next.is_stored in cc);
+        cause = λ no stop. (error.error, finishes.fault, stores.told);
+        no_fault = λ on. absurd cc;
+        no_doubt = λ on sure. absurd cc;
+        uncounted = finishes.uncounted;
+        settings = finishes.settings;
         applying = finishes.applying;
         says = λ on. absurd cc;
         clean = stores.clean;

@@ -1,7 +1,11 @@
 -- One row put and committed.
 use Rattle.std.proofs.Common.{◌≡◌, ◌⊎◌, ◌≤◌, inl, inr, Bool, true, false, List, [], ◌∷◌, ◌++◌, refl, sym, ap, subst, ◌∙◌, arith, append-nil, append_assoc, Option, Some, IsTrue}
-use Rattle.tb_durable.proofs.Words.{unwrap_or, Row, Table, Trees, put_row, from_key, order_of, sought, View, IsClean, doubt, SetsTree, Commits, Advances, IsRolledBack, with_cursor, IsSettled, IsReading, Adds, IsAdded, LeavesNothingNew}
+use Rattle.tb_durable.proofs.Words.{unwrap_or, Err, Row, Table, Trees, put_row, from_key, order_of, sought, View, IsClean, doubt, SetsTree, Commits, Advances, IsRolledBack, with_cursor, IsSettled, IsReading, Adds, IsAdded, LeavesNothingNew}
 use Rattle.sqlite_value.specs.declared.keys.Order.{Order}
+use Rattle.sqlite_trees.specs.View.{Tells}
+use Rattle.sqlite_trees.specs.declared.error.StoreError.{StoreError}
+use Rattle.tb_durable.specs.declared.table.NotStored.{NotStored}
+use Rattle.tb_durable.specs.inside.Storing.{StoresRow}
 use Rattle.sqlite_trees.specs.declared.store.Direction.TheVariants.{Forward}
 use Rattle.sqlite_trees.proofs.Doubt.{no_doubt}
 
@@ -32,6 +36,18 @@ adds old mid new row shut set commit shape =
         shape = ap (λ (v : View). v.shape 0) commit.is ∙ ap (λ (v : View). v.shape 0) set.is ∙ shape;
       };
     }
+
+-- if memory ran out first, nothing is stored, and no disk failed
+pub without_memory : {S : Type 0} {view : S → View} {recovers : S → Trees → Type 0} {blamed : S → Option StoreError} {store : S} {row : Row}
+    {error : NotStored} → ((blamed : Option StoreError) → Tells blamed error.error)
+    → StoresRow view recovers blamed store row (Err error) store
+without_memory {blamed} {store} told = record {
+  ok = tt;
+  crash = λ db left. inl left;
+  refused = λ certain db left. left;
+  clean = omega arith;
+  told = told (blamed store);
+}
 
 -- a crash after the commit leaves the row in its place, or what it could leave before
 pub added : {old : View} {row : Row} {was put now : Trees → Type 0} (mid : View) → (mid.is_open ≡ false → IsTrue mid.is_broken)

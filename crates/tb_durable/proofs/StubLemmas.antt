@@ -1,6 +1,7 @@
 -- Stubs that are counted are read back as they were written.
 use Rattle.std.proofs.Common.{◌≡◌, suc, ◌<◌, ◌+◌, ◌*◌, ◌^◌, ◌/◌, ◌%◌, ℕ, Bool, true, false, List, [], ◌∷◌, Option, Some, None, refl, sym, ap, ◌∙◌, arith, length, length-append, map, drop}
 use Rattle.tb_durable.proofs.Words.{◌==◌, ◌&&◌, ◌||◌, IsSome, get_or, nat_lt, slice_index_or, if◌then◌else◌, flat_map, AllByRecursion, and_parts, ltb-true, drop_at, drop_more, take_at, Stub, event_size, Numbered, stub_of, admitted_are_whole, AreAdmitted, PacketCounts, counted, follows, stub_at, stub_bytes, stub_in, stubs_bytes, stubs_in, word_of}
+use Rattle.std.specs.List.{slice_get}
 use Rattle.std.specs.Simd.{first_chunks}
 use Rattle.tb_layout.specs.claim.Bounds.{submitters_max}
 use Rattle.tb_layout.proofs.Numbers.{length-bytes_of, little_endian-bytes_of}
@@ -127,3 +128,11 @@ pub stubs_left : (chunks : List (List ℕ)) (index : ℕ) (other : List ℕ) (st
 stubs_left chunks index other stub more is =
     ap (map stub_at) (drop_more chunks index other more)
     ∙ ap (λ (first : Stub). first ∷ map stub_at (drop (index + 1) chunks)) (sym is)
+
+-- the stub of the first chunk
+pub first_stub : (chunks : List (List ℕ)) (chunk : List ℕ) (stub : Stub) → Some chunk ≡ slice_get chunks 0 → stub ≡ stub_at chunk
+    → map stub_at chunks ≡ stub ∷ map stub_at (drop 1 chunks)
+first_stub [] chunk stub some is = absurd cc
+first_stub (first ∷ chunks) chunk stub some is =
+    let same : chunk ≡ first = cc in
+    rw (is, same) refl

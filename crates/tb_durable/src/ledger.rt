@@ -1,6 +1,6 @@
 //! The ledger.
 
-ghost use Rattle.std.specs.Prelude.{◌≡◌, ◌<◌, ◌≤◌, false, IfOk, OnOk, IfErr, map};
+ghost use Rattle.std.specs.Prelude.{◌≡◌, ◌<◌, ◌≤◌, ◌+◌, false, IfOk, OnOk, IfErr, map};
 ghost use Rattle.tb_layout.specs.claim.Limits.{clock_max};
 ghost use Rattle.tb_layout.specs.claim.Bounds.{places_max};
 ghost use Rattle.tb_work.specs.claim.Packet.{input_of};
@@ -74,8 +74,8 @@ fn store_batch<S: Store>(
     requires place { bare.old.places < places_max }
     requires parts { AreParts parts.now }
     ensures bare { bare.new ≡ bare.old }
-    ensures stores { StoresRow S.Store.view S.Store.recovers table.old.store (jobs_row bare.old.places parts.now.jobs.items)
-        result table.new.store }
+    ensures stores { StoresRow S.Store.view S.Store.recovers S.Store.blamed table.old.store
+        (jobs_row bare.old.places parts.now.jobs.items) result table.new.store }
     ensures read_back { OnOk result (group_in (jobs_row bare.old.places parts.now.jobs.items)
         ≡ map input_of parts.now.jobs.items) }
 {
@@ -86,15 +86,15 @@ fn store_batch<S: Store>(
 }
 
 impl<S: Store + Drop> DurableLedger<S> {
-    ghost use Rattle.std.specs.Prelude.{List};
+    ghost use Rattle.std.specs.Prelude.{List, None};
     ghost use Rattle.tb_core.specs.declared.parcel.Parcel.TheVariants as parcel;
-    ghost use Rattle.tb_core.specs.claim.BareLedger.{with_journal};
+    ghost use Rattle.tb_core.specs.claim.BareLedger.{halts, with_journal};
     ghost use Rattle.tb_core.specs.claim.Journal.{LedgerState};
     ghost use Rattle.tb_durable.specs.claim.Durable.{IsJournal, IsStored, groups_of, opened_rows};
     ghost use Rattle.tb_durable.specs.clauses.Parcels.{AppliesInFile};
     ghost use Rattle.tb_durable.specs.clauses.Runs.{ShowsJournal};
-    ghost use Rattle.tb_durable.specs.clauses.Entries.{CanBeOpened, HasEntries, IsFailure, IsInFile, IsLedgerFile, LeavesSettings};
-    ghost use Rattle.tb_durable.specs.clauses.Faults.{IsCause};
+    ghost use Rattle.tb_durable.specs.clauses.Entries.{BeginsWithSettings, CanBeOpened, HasEntries, IsFailure, IsInFile, IsLedgerFile, LeavesSettings};
+    ghost use Rattle.tb_durable.specs.clauses.Faults.{IsCause, TellsStore};
     ghost use Rattle.tb_durable.specs.inside.Storing.{Finishes};
     ghost use Rattle.tb_durable.specs.declared.counts.PacketCounts.{PacketCounts as Counts};
     ghost use Rattle.tb_durable.specs.claim.Recovery.{RecoversFromCrashes};
@@ -118,9 +118,12 @@ impl<S: Store + Drop> DurableLedger<S> {
             → (S.Store.view ledger.table.store).committed 0 ≡ opened_rows settings ((S.Store.view store).committed 0)) }
         ensures kept { IfOk result (λ ledger. (now : LedgerState) × IsInFile (S.Store.recovers ledger.table.store)
             (S.Store.view ledger.table.store) ledger.bare ledger.counts now) }
-        ensures goes_on { IfOk result (λ ledger. (ledger.bare.stopped ≡ false) × (ledger.in_doubt ≡ false)) }
+        ensures goes_on { IfOk result (λ ledger. (ledger.bare.stopped ≡ false) × (ledger.in_doubt ≡ false) × (ledger.fault ≡ None)) }
+        ensures settings { IfOk result (λ ledger. IsClean (S.Store.view ledger.table.store)
+            → BeginsWithSettings ((S.Store.view ledger.table.store).committed 0) ledger.settings) }
         ensures fault { IfErr result (λ refused. IsClean (S.Store.view refused.1)
             → IsCause (opened_rows settings ((S.Store.view store).committed 0)) refused.0) }
+        ensures told { IfErr result (λ refused. TellsStore (S.Store.blamed refused.1) refused.0) }
         ensures opens { (counts : Counts) → IsLedgerFile ((S.Store.view store).committed 0) counts
             → IfErr result (λ refused. IsClean (S.Store.view refused.1) → IsFailure refused.0)
             × IfOk result (λ ledger. IsClean (S.Store.view ledger.table.store) → ledger.counts ≡ counts) }
@@ -247,29 +250,40 @@ impl<S: Store + Drop> DurableLedger<S> {
         parcel: Parcel,
     ) -> Outcomes
         ensures table { self.new.table ≡ self.old.table }
-        ensures finishes { Finishes stored counts self.old.bare parcel result self.new }
+        ensures finishes { Finishes stored counts self.old parcel result self.new }
     {
         if let Err(refused) = stored {
             self.in_doubt = refused.in_doubt;
             self.fault = Some(refused.error);
             return self.bare.apply_as_refused(parcel);
         }
-        self.counts = counts;
         let outcomes = self.bare.apply(parcel);
         self.in_doubt = self.bare.stopped();
         if self.in_doubt {
             self.fault = Some(StoreError::OutOfMemory);
+        } else {
+            self.counts = counts;
         }
         outcomes
     }
 
+    /// Returns whether this number of packets or pulses isn't committed, however well memory and the disk do.
+    fn halts_at(&self, count: usize) -> bool
+        ensures halts { result ≡ halts self.now.bare count }
+        ensures goes_on { result ≡ false → self.now.bare.stopped ≡ false }
+        ensures fits { result ≡ false → self.now.bare.places + count ≤ places_max }
+    {
+        match self.bare.places().checked_add(count as u64) {
+            Some(places) => self.bare.stopped() || places > PLACES_MAX,
+            None => true,
+        }
+    }
+
     /// Stores a batch and applies it.
     fn apply_batch(&mut self, batch: Batch) -> Outcomes
-        ensures { AppliesInFile S.Store.view S.Store.recovers self.old (parcel.Batch batch) result self.new }
+        ensures { AppliesInFile S.Store.view S.Store.recovers S.Store.blamed self.old (parcel.Batch batch) result self.new }
     {
-        if self.bare.stopped()
-            || batch.jobs().len() as u64 > PLACES_MAX.saturating_sub(self.bare.places())
-        {
+        if self.halts_at(batch.jobs().len()) {
             return self.bare.apply_as_refused(Parcel::Batch(batch));
         }
         let parts = batch.into_parts();
@@ -285,14 +299,13 @@ impl<S: Store + Drop> DurableLedger<S> {
 
     /// Stores a pulse and applies it.
     fn apply_pulse(&mut self, moment: Moment) -> Outcomes
-        ensures { AppliesInFile S.Store.view S.Store.recovers self.old (parcel.Pulse moment) result self.new }
+        ensures { AppliesInFile S.Store.view S.Store.recovers S.Store.blamed self.old (parcel.Pulse moment) result self.new }
     {
-        let place = self.bare.places();
-        if self.bare.stopped() || place >= PLACES_MAX {
+        if self.halts_at(1) {
             return self.bare.apply_as_refused(Parcel::Pulse(moment));
         }
         let counts = self.counts;
-        let stored = self.table.put_pulse(place, moment);
+        let stored = self.table.put_pulse(self.bare.places(), moment);
         self.finish(stored, counts, Parcel::Pulse(moment))
     }
 
@@ -304,12 +317,13 @@ impl<S: Store + Drop> DurableLedger<S> {
     /// can be opened again. A batch with another number stops the ledger, as does one past the last place: nothing is written,
     /// and `fault` has nothing to say.
     pub fn apply(&mut self, parcel: Parcel) -> Outcomes
-        ensures { AppliesInFile S.Store.view S.Store.recovers self.old parcel result self.new }
+        ensures { AppliesInFile S.Store.view S.Store.recovers S.Store.blamed self.old parcel result self.new }
     {
         match parcel {
             Parcel::Batch(batch) => self.apply_batch(batch),
             Parcel::Pulse(moment) => self.apply_pulse(moment),
-            other => self.bare.apply_as_refused(other),
+            Parcel::Return(job, cause) => self.bare.apply_as_refused(Parcel::Return(job, cause)),
+            Parcel::Last => self.bare.apply_as_refused(Parcel::Last),
         }
     }
 

@@ -1,15 +1,16 @@
 //! A ledger read from its table.
 
-ghost use Rattle.std.specs.Prelude.{◌≡◌, ◌⊎◌, ◌≤◌, ◌∷◌, [], true, false, Ok, List, IsSome, IsOk, IfOk, OnOk, IfErr};
+ghost use Rattle.std.specs.Prelude.{◌≡◌, ◌⊎◌, ◌≤◌, ◌∷◌, [], true, false, Ok, List, Option, IsSome, IsOk, IfOk, OnOk, IfErr};
 ghost use Rattle.tb_layout.specs.claim.Limits.{clock_max};
 ghost use Rattle.sqlite_trees.specs.Tree.{Trees};
 ghost use Rattle.sqlite_trees.specs.View.{IsClean, doubt};
 ghost use Rattle.tb_durable.specs.claim.Rows.{settings_row};
 ghost use Rattle.tb_durable.specs.claim.Durable.{HasJournal, IsAdded, IsReading, IsReplaying, IsSettled, IsStored, IsJournal, IsFirst, LeavesNothingNew, opened_rows};
-ghost use Rattle.tb_durable.specs.clauses.Entries.{CanBeOpened, HasReadFile, IsFailure, IsFirstRow, IsHalfway, IsLedgerFile, LeavesSettings};
-ghost use Rattle.tb_durable.specs.clauses.Faults.{IsCause, IsFirstFault};
+ghost use Rattle.tb_durable.specs.clauses.Entries.{BeginsWithSettings, CanBeOpened, HasReadFile, HasSettings, IsFailure, IsFirstRow, IsHalfway, IsLedgerFile, LeavesSettings};
+ghost use Rattle.tb_durable.specs.clauses.Faults.{IsCause, IsFirstFault, TellsStore};
 ghost use Rattle.tb_durable.specs.declared.counts.PacketCounts.{PacketCounts as Counts};
 ghost use Rattle.sqlite_value.specs.Order.{Row};
+ghost use Rattle.sqlite_trees.specs.declared.error.StoreError.{StoreError as Failure};
 
 use crate::counts::PacketCounts;
 use crate::fault::OpenFault;
@@ -27,9 +28,11 @@ use tb_layout::CLOCK_MAX;
 fn settings_of(row: &Row) -> Result<Settings, OpenFault>
     ensures clock { IfOk result (λ settings. settings.clock ≤ clock_max) }
     ensures first { IfOk result (λ settings. IsFirst row.now settings.clock) }
+    ensures has { IfOk result (HasSettings row.now) }
     ensures fault { IfErr result (IsFirstFault row.now) }
     ensures settings { OnOk result (IsFirstRow row.now) }
     ensures opens { IsFirstRow row.now → IsOk result }
+    ensures told { IfErr result (λ fault. (blamed : Option Failure) → TellsStore blamed fault) }
 {
     let ValueRef::Int(-1) = row.get(0) else {
         return Err(OpenFault::BadSettings);
@@ -58,6 +61,7 @@ fn read_first<S: Store>(table: &mut Table<S>) -> Result<bool, OpenFault>
     ensures cursor { OnOk result (IsSome ((S.Store.view table.new.store).cursors 0)) }
     ensures crash { LeavesNothingNew (S.Store.recovers table.old.store) (S.Store.recovers table.new.store) }
     ensures clean { doubt (S.Store.view table.old.store).is_clean ≤ doubt (S.Store.view table.new.store).is_clean }
+    ensures told { IfErr result (TellsStore (S.Store.blamed table.new.store)) }
 {
     table.rewind()?;
     Ok(table.next()?)
@@ -77,6 +81,7 @@ fn write_settings<S: Store>(table: &mut Table<S>, settings: Settings) -> Result<
     ensures crash { (db : Trees) → S.Store.recovers table.new.store db
         → S.Store.recovers table.old.store db ⊎ IsAdded (S.Store.view table.old.store) (settings_row settings) db }
     ensures clean { doubt (S.Store.view table.old.store).is_clean ≤ doubt (S.Store.view table.new.store).is_clean }
+    ensures told { IfErr result (TellsStore (S.Store.blamed table.new.store)) }
 {
     if let Err(refused) = table.put_settings(settings) {
         return Err(OpenFault::Store(refused.error));
@@ -99,6 +104,7 @@ fn read_settings<S: Store>(table: &mut Table<S>, settings: Settings) -> Result<S
     ensures row { OnOk result (IsClean (S.Store.view table.new.store)
         → IsReading (S.Store.view table.new.store) (table.new.row ∷ [])) }
     ensures first { IfOk result (λ read. IsFirst table.new.row read.clock) }
+    ensures has { IfOk result (HasSettings table.new.row) }
     ensures settings { OnOk result (IsFirstRow table.new.row) }
     ensures opens { (counts : Counts) → IsLedgerFile ((S.Store.view table.old.store).committed 0) counts
         → IsClean (S.Store.view table.new.store) → IfErr result IsFailure }
@@ -106,6 +112,7 @@ fn read_settings<S: Store>(table: &mut Table<S>, settings: Settings) -> Result<S
     ensures crash { LeavesSettings (S.Store.recovers table.old.store) (S.Store.recovers table.new.store)
         ((S.Store.view table.old.store).committed 0) settings }
     ensures clean { doubt (S.Store.view table.old.store).is_clean ≤ doubt (S.Store.view table.new.store).is_clean }
+    ensures told { IfErr result (TellsStore (S.Store.blamed table.new.store)) }
 {
     if read_first(table)? {
         let stored = settings_of(&table.row)?;
@@ -150,6 +157,7 @@ fn replay_row<S: Store>(table: &mut Table<S>, replaying: &mut Replaying) -> Resu
     ensures cursor { OnOk result (IsSome ((S.Store.view table.new.store).cursors 0)) }
     ensures crash { LeavesNothingNew (S.Store.recovers table.old.store) (S.Store.recovers table.new.store) }
     ensures clean { doubt (S.Store.view table.old.store).is_clean ≤ doubt (S.Store.view table.new.store).is_clean }
+    ensures told { IfErr result (TellsStore (S.Store.blamed table.new.store)) }
 {
     if !table.next()? {
         return Ok(false);
@@ -180,6 +188,7 @@ fn replay_rows<S: Store>(table: &mut Table<S>, replaying: &mut Replaying) -> Res
         → (S.Store.view table.new.store).committed ≡ (S.Store.view table.old.store).committed) }
     ensures crash { LeavesNothingNew (S.Store.recovers table.old.store) (S.Store.recovers table.new.store) }
     ensures clean { doubt (S.Store.view table.old.store).is_clean ≤ doubt (S.Store.view table.new.store).is_clean }
+    ensures told { IfErr result (TellsStore (S.Store.blamed table.new.store)) }
 {
     for _ in 0..u64::MAX {
         if !replay_row(table, replaying)? {
@@ -207,6 +216,8 @@ pub(crate) fn read_ledger<S: Store>(
     ensures fault { IfErr result (λ fault. IsClean (S.Store.view table.new.store)
         → IsCause (opened_rows settings ((S.Store.view table.old.store).committed 0)) fault) }
     ensures stored { IfOk result (λ read. IsStored (S.Store.view table.new.store) read.replaying.ledger) }
+    ensures settings { IfOk result (λ read. IsClean (S.Store.view table.new.store)
+        → BeginsWithSettings ((S.Store.view table.new.store).committed 0) read.settings) }
     ensures goes_on { IfOk result (λ read. read.replaying.ledger.stopped ≡ false) }
     ensures committed { IfOk result (λ read. HasJournal read.replaying.ledger) }
     ensures file { IfOk result (λ read. IsClean (S.Store.view table.new.store)
@@ -220,6 +231,7 @@ pub(crate) fn read_ledger<S: Store>(
         ((S.Store.view table.old.store).committed 0) settings }
     ensures openable { CanBeOpened (S.Store.recovers table.old.store) → CanBeOpened (S.Store.recovers table.new.store) }
     ensures clean { doubt (S.Store.view table.old.store).is_clean ≤ doubt (S.Store.view table.new.store).is_clean }
+    ensures told { IfErr result (TellsStore (S.Store.blamed table.new.store)) }
 {
     let alloc = table.alloc;
     let settings = read_settings(table, settings)?;

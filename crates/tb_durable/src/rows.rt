@@ -14,7 +14,7 @@ ghost use Rattle.tb_work.specs.claim.Packet.{input_of};
 ghost use Rattle.tb_batch.specs.claim.Batch.{AreParts};
 ghost use Rattle.sqlite_value.specs.declared.value.Value.TheVariants.{Int as IntValue, Blob as BlobValue};
 ghost use Rattle.sqlite_value.specs.Order.{column as column_of};
-ghost use Rattle.tb_durable.specs.clauses.Entries.{IsFirstRow};
+ghost use Rattle.tb_durable.specs.clauses.Entries.{HasSettings, IsFirstRow};
 ghost use Rattle.tb_durable.specs.claim.Rows.{HasColumns, word_of, stub_in, stub_at, stub_bytes, stubs_bytes, stubs_in, row_of, jobs_row, pulse_row, settings_row, clock_in, group_in};
 
 use crate::settings::Settings;
@@ -220,6 +220,7 @@ pub(crate) fn columns_in(row: &Row) -> Option<EntryColumns<'_>>
 /// Returns the settings in a row of this version of the format; None if the row has none.
 pub(crate) fn settings_in(row: &Row) -> Option<Settings>
     ensures some { IfSome result (λ settings. clock_in row.now ≡ settings.clock) }
+    ensures has { IfSome result (HasSettings row.now) }
     ensures starts { IfSome result (λ settings. column_of row.now 3 ≡ IntValue (pos settings.clock)) }
     ensures stubs { IfSome result (λ _. (bytes : List ℕ) × (column_of row.now 4 ≡ BlobValue bytes) × (16 ≤ length bytes)) }
     ensures none { IfNone result (IsFirstRow row.now → ⊥) }

@@ -1,13 +1,14 @@
 //! The table of entries.
 
-ghost use Rattle.std.specs.Prelude.{◌≡◌, ◌<◌, ◌≤◌, ◌∷◌, [], false, map, IsTrue, IsSome, IfOk, OnOk};
+ghost use Rattle.std.specs.Prelude.{◌≡◌, ◌<◌, ◌≤◌, ◌∷◌, [], false, map, Option, IsTrue, IsSome, IfOk, OnOk, IfErr};
 ghost use Rattle.tb_layout.specs.claim.Events.{Pulse};
 ghost use Rattle.tb_layout.specs.claim.Limits.{clock_max};
 ghost use Rattle.tb_layout.specs.claim.Bounds.{moment_max, places_max};
 ghost use Rattle.tb_work.specs.claim.Packet.{input_of};
 ghost use Rattle.tb_batch.specs.claim.Batch.{AreParts};
 ghost use Rattle.sqlite_trees.specs.Tree.{rowid};
-ghost use Rattle.sqlite_trees.specs.View.{IsClean, doubt, is_int, Advances};
+ghost use Rattle.sqlite_trees.specs.View.{IsClean, doubt, is_int, Advances, Tells};
+ghost use Rattle.sqlite_trees.specs.declared.error.StoreError.{StoreError as Failure};
 ghost use Rattle.tb_durable.specs.claim.Rows.{jobs_row, pulse_row, settings_row, group_in};
 ghost use Rattle.tb_durable.specs.claim.Durable.{IsReading, LeavesNothingNew};
 ghost use Rattle.tb_durable.specs.inside.Storing.{StoresRow};
@@ -33,7 +34,8 @@ pub(crate) struct NotStored {
 
 /// Returns that memory ran out before anything was written.
 pub(crate) fn no_memory() -> NotStored
-    ensures { result.in_doubt ≡ false }
+    ensures in_doubt { result.in_doubt ≡ false }
+    ensures told { (blamed : Option Failure) → Tells blamed result.error }
 {
     NotStored {
         error: StoreError::OutOfMemory,
@@ -78,7 +80,7 @@ impl<S: Store> Table<S> {
     /// Puts the row into the table, in a transaction of its own.
     fn commit_row(&mut self) -> Result<(), NotStored>
         requires { IsTrue (is_int (rowid self.old.row)) }
-        ensures { StoresRow S.Store.view S.Store.recovers self.old.store self.old.row result self.new.store }
+        ensures { StoresRow S.Store.view S.Store.recovers S.Store.blamed self.old.store self.old.row result self.new.store }
     {
         if self.store.shape(ENTRIES) != Shape::Table {
             return Err(NotStored {
@@ -106,7 +108,7 @@ impl<S: Store> Table<S> {
     pub(crate) fn put_batch(&mut self, place: u64, parts: &Parts) -> Result<(), NotStored>
         requires place { place < places_max }
         requires parts { AreParts parts.now }
-        ensures stores { StoresRow S.Store.view S.Store.recovers self.old.store (jobs_row place parts.now.jobs.items)
+        ensures stores { StoresRow S.Store.view S.Store.recovers S.Store.blamed self.old.store (jobs_row place parts.now.jobs.items)
             result self.new.store }
         ensures read_back { OnOk result (group_in (jobs_row place parts.now.jobs.items) ≡ map input_of parts.now.jobs.items) }
     {
@@ -119,7 +121,8 @@ impl<S: Store> Table<S> {
     /// Stores a pulse.
     pub(crate) fn put_pulse(&mut self, place: u64, moment: Moment) -> Result<(), NotStored>
         requires { place < places_max }
-        ensures stores { StoresRow S.Store.view S.Store.recovers self.old.store (pulse_row place moment) result self.new.store }
+        ensures stores { StoresRow S.Store.view S.Store.recovers S.Store.blamed self.old.store (pulse_row place moment)
+            result self.new.store }
         ensures read_back { OnOk result (group_in (pulse_row place moment) ≡ Pulse moment ∷ []) }
         ensures bound { moment ≤ moment_max }
     {
@@ -132,7 +135,7 @@ impl<S: Store> Table<S> {
     /// Stores the settings.
     pub(crate) fn put_settings(&mut self, settings: Settings) -> Result<(), NotStored>
         requires { settings.clock ≤ clock_max }
-        ensures { StoresRow S.Store.view S.Store.recovers self.old.store (settings_row settings) result self.new.store }
+        ensures { StoresRow S.Store.view S.Store.recovers S.Store.blamed self.old.store (settings_row settings) result self.new.store }
     {
         if fill_settings(&mut self.row, settings).is_err() {
             return Err(no_memory());
@@ -148,6 +151,7 @@ impl<S: Store> Table<S> {
         ensures cursor { OnOk result (IsSome ((S.Store.view self.new.store).cursors 0)) }
         ensures crash { LeavesNothingNew (S.Store.recovers self.old.store) (S.Store.recovers self.new.store) }
         ensures clean { doubt (S.Store.view self.old.store).is_clean ≤ doubt (S.Store.view self.new.store).is_clean }
+        ensures told { IfErr result (Tells (S.Store.blamed self.new.store)) }
     {
         self.store.rollback();
         if self.store.is_broken() || self.store.shape(ENTRIES) != Shape::Table {
@@ -166,6 +170,7 @@ impl<S: Store> Table<S> {
         ensures cursor { OnOk result (IsSome ((S.Store.view self.new.store).cursors 0)) }
         ensures crash { LeavesNothingNew (S.Store.recovers self.old.store) (S.Store.recovers self.new.store) }
         ensures clean { doubt (S.Store.view self.old.store).is_clean ≤ doubt (S.Store.view self.new.store).is_clean }
+        ensures told { IfErr result (Tells (S.Store.blamed self.new.store)) }
     {
         self.store.next(0, &mut self.row)
     }

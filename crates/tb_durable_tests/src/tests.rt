@@ -135,12 +135,17 @@ fn opened_again_after_a_largest_batch_and_a_pulse(rt: HostRuntime) {
 #[test]
 fn goes_on_at_the_next_place(rt: HostRuntime) {
     let mut ledger = opened(&rt, empty_store(&rt));
+    check!(&rt; ledger.reserve(2, 8190).is_ok() && ledger.reserve(usize::MAX, 0).is_err() && ledger.reserve(0, 1 << 60).is_err());
     check!(&rt; commit(&rt, &mut ledger, batch_of(&rt, 0, 0, two_accounts(&rt))) == 0);
+    for _ in 0..2_000u32 {
+        drop(ledger.apply(Parcel::Pulse(Moment::new(0))));
+    }
+    check!(&rt; !ledger.stopped() && ledger.places() == 2_001);
     let mut again = opened(&rt, ledger.into_store());
-    check!(&rt; commit(&rt, &mut again, batch_of(&rt, 0, 1, largest_packet(&rt))) == 1);
+    check!(&rt; commit(&rt, &mut again, batch_of(&rt, 0, 1, largest_packet(&rt))) == 2_001);
     let last = opened(&rt, again.into_store());
     // The clock starts at 5, and each event raises it by one.
-    check!(&rt; facts(&last) == Some([2, 5 + 2 + 8190, 8190, 8190]));
+    check!(&rt; facts(&last) == Some([2_002, 5 + 2 + 8190, 8190, 8190]));
     drop(last);
 }
 

@@ -10,7 +10,7 @@ use Rattle.tb_batch.specs.claim.Batch.{IsLawful, body_of}
 use Rattle.tb_core.specs.claim.BareLedger.{BareLedgerState}
 use Rattle.tb_core.specs.claim.Journal.{LedgerState}
 use Rattle.sqlite_value.specs.declared.value.Value.TheVariants.{Int, Blob}
-use Rattle.sqlite_value.specs.Order.{Row, column}
+use Rattle.sqlite_value.specs.Order.{Row, column, bytes}
 use Rattle.sqlite_trees.specs.Tree.{Trees, rowid}
 use Rattle.sqlite_trees.specs.View.{View, IsClean}
 use Rattle.tb_durable.specs.declared.counts.PacketCounts.{PacketCounts}
@@ -19,7 +19,7 @@ use Rattle.tb_durable.specs.declared.fault.OpenFault.TheVariants as fault
 use Rattle.tb_durable.specs.declared.settings.Settings.{Settings}
 use Rattle.tb_durable.specs.clauses.Counts.{counted_all, no_packets}
 use Rattle.tb_durable.specs.claim.Durable.{IsJournal, IsKept, IsReading}
-use Rattle.tb_durable.specs.claim.Rows.{HasColumns, format_version, group_in, settings_row, stubs_in}
+use Rattle.tb_durable.specs.claim.Rows.{HasColumns, clock_in, format_version, group_in, settings_row, stubs_in}
 
 -- ---- rows
 
@@ -71,6 +71,18 @@ pub record IsFirstRow (row : Row) : Type 0 where
   pub low : clock ≤ clock_max
   pub has_stubs : column row 4 ≡ Blob stubs
   pub long : 16 ≤ length stubs
+
+-- the settings that a first row has: where the clock starts, and in its first stub the limit and the submitters
+pub record HasSettings (row : Row) (settings : Settings) : Type 0 where
+  pub clock : clock_in row ≡ settings.clock
+  pub number : ℕ
+  pub more : List Stub
+  pub stubs : stubs_in (bytes (column row 4))
+      ≡ record { number = number; submitter = settings.submitters; count = settings.limit } ∷ more
+
+-- the first of these rows has the settings
+abbrev pub BeginsWithSettings : List Row → Settings → Type 0
+BeginsWithSettings rows settings = (first : Row) × (left : List Row) × (rows ≡ first ∷ left) × HasSettings first settings
 
 -- the rows of a ledger's file, with the counts of their packets: none, or the settings and then entries from the place 0 on
 abbrev pub IsLedgerFile : List Row → PacketCounts → Type 0

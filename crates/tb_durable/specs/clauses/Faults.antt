@@ -1,8 +1,10 @@
 -- Which rows keep a ledger from being opened.
-use Rattle.std.specs.Prelude.{◌≡◌, ◌≢◌, ℕ, pos, List, ◌∷◌, ◌++◌}
+use Rattle.std.specs.Prelude.{◌≡◌, ◌≢◌, ℕ, pos, Option, List, ◌∷◌, ◌++◌}
 use Rattle.sqlite_value.specs.declared.value.Value.TheVariants.{Int}
 use Rattle.sqlite_value.specs.Order.{Row, column}
 use Rattle.sqlite_trees.specs.Tree.{rowid}
+use Rattle.sqlite_trees.specs.View.{Tells}
+use Rattle.sqlite_trees.specs.declared.error.StoreError.{StoreError}
 use Rattle.tb_core.specs.claim.BareLedger.{BareLedgerState}
 use Rattle.tb_durable.specs.declared.fault.OpenFault.{OpenFault}
 use Rattle.tb_durable.specs.declared.fault.OpenFault.TheVariants as fault
@@ -29,6 +31,11 @@ abbrev pub IsFirstFault : Row → OpenFault → Type 0
 IsFirstFault row (fault.OtherVersion version) = (column row 2 ≡ Int (pos version)) × (version ≢ format_version)
 IsFirstFault row fault.BadSettings = Unit {0}
 IsFirstFault row other = ⊥
+
+-- an error of the store is the last that it returned, if it says which
+abbrev pub TellsStore : Option StoreError → OpenFault → Type 0
+TellsStore blamed (fault.Store error) = Tells blamed error
+TellsStore blamed other = Unit {0}
 
 -- ---- all rows
 

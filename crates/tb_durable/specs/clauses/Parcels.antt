@@ -1,19 +1,32 @@
 -- What a parcel does to a ledger in a file.
-use Rattle.std.specs.Prelude.{◌≡◌, ◌≤◌, ◌++◌, true, false, map}
+use Rattle.std.specs.Prelude.{◌≡◌, ◌≤◌, ◌++◌, ◌||◌, not, Bool, true, false, Option, Some, length, map}
+use Rattle.std.specs.Option.{is_some}
 use Rattle.tb_core.specs.declared.outcomes.Outcomes.{Outcomes}
 use Rattle.tb_core.specs.declared.parcel.Parcel.{Parcel}
 use Rattle.tb_core.specs.claim.AnyLedger.{Applying, IsWithJournal}
-use Rattle.tb_core.specs.claim.BareLedger.{Applies, refusal_of}
+use Rattle.tb_core.specs.declared.parcel.Parcel.TheVariants as parcel
+use Rattle.tb_core.specs.claim.BareLedger.{Applies, BareLedgerState, after_refusal, halts, refusal_of}
+use Rattle.tb_work.specs.claim.Job.{stub_of}
 use Rattle.sqlite_trees.specs.Tree.{Trees}
-use Rattle.sqlite_trees.specs.View.{View, IsClean, doubt}
+use Rattle.sqlite_trees.specs.View.{View, IsClean, doubt, Tells}
+use Rattle.sqlite_trees.specs.declared.error.StoreError.{StoreError}
+use Rattle.tb_durable.specs.declared.counts.PacketCounts.{PacketCounts}
 use Rattle.tb_durable.specs.declared.ledger.DurableLedger.{DurableLedger}
 use Rattle.tb_durable.specs.claim.Rows.{group_in}
 use Rattle.tb_durable.specs.claim.Durable.{IsStored, LeavesNothingNew, LeavesWith, groups_of_parcel, rows_of}
+use Rattle.tb_durable.specs.clauses.Counts.{counted_all}
 use Rattle.tb_durable.specs.clauses.Entries.{CanBeOpened, HasEntries}
 
+-- Whether nothing of a parcel is stored, however well memory and the disk do: the ledger has stopped, it has no places for the
+-- parcel, or a packet doesn't follow its submitter's last.
+abbrev pub is_unstored : BareLedgerState → PacketCounts → Parcel → Bool
+is_unstored bare counts (parcel.Batch jobs) = halts bare (length jobs) || not (is_some (counted_all counts (map stub_of jobs)))
+is_unstored bare counts (parcel.Pulse moment) = halts bare 1
+is_unstored bare counts other = true
+
 -- A parcel was applied to a ledger in a file, or the ledger stopped at it.
-pub record AppliesInFile {S : Type 0} (view : S → View) (recovers : S → Trees → Type 0) (old : DurableLedger S) (handed : Parcel)
-    (outcomes : Outcomes) (new : DurableLedger S) : Type 0 where
+pub record AppliesInFile {S : Type 0} (view : S → View) (recovers : S → Trees → Type 0) (blamed : S → Option StoreError)
+    (old : DurableLedger S) (handed : Parcel) (outcomes : Outcomes) (new : DurableLedger S) : Type 0 where
   -- the ledger's state is still the replay of its rows
   pub kept : IsStored (view old.table.store) old.bare → IsStored (view new.table.store) new.bare
   -- unless it stopped, the parcel's row comes after the others
@@ -39,6 +52,17 @@ pub record AppliesInFile {S : Type 0} (view : S → View) (recovers : S → Tree
       → CanBeOpened (recovers old.table.store) → CanBeOpened (recovers new.table.store)
   -- if it had stopped before, nothing changes
   pub stays : old.bare.stopped ≡ true → new ≡ old
+  -- of a parcel that isn't stored in any case nothing but the ledger's stop remains
+  pub unstored : is_unstored old.bare old.counts handed ≡ true → new ≡ record old { bare = after_refusal old.bare handed }
+  -- at any other it stops only with a fault, the last error that the store returned, if the store says which
+  pub cause : is_unstored old.bare old.counts handed ≡ false → new.bare.stopped ≡ true
+      → (error : StoreError) × (new.fault ≡ Some error) × Tells (blamed new.table.store) error
+  -- unless it stopped, it has no new fault and no doubt
+  pub no_fault : new.bare.stopped ≡ false → new.fault ≡ old.fault
+  pub no_doubt : new.bare.stopped ≡ false → old.in_doubt ≡ false → new.in_doubt ≡ false
+  -- what it stopped at isn't counted, and its settings stay
+  pub uncounted : new.bare.stopped ≡ true → new.counts ≡ old.counts
+  pub settings : new.settings ≡ old.settings
   -- whichever journal the ledger had, the parcel was applied to that one
   pub applying : Applying (IsWithJournal old.bare) handed outcomes (IsWithJournal new.bare)
   -- unless it stopped, the parcel's row has its group

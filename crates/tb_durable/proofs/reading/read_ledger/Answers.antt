@@ -1,5 +1,5 @@
-use Rattle.std.proofs.Common.{arith, refl, rules, subst, sym, [], ◌∷◌}
-use Rattle.tb_durable.proofs.Words.{IsClean, HasJournal, opened_rows, IsCause, HasReadFile, IsFailure, IsHalfway, IsLedgerFile}
+use Rattle.std.proofs.Common.{◌≡◌, arith, refl, rules, subst, sym, [], ◌∷◌}
+use Rattle.tb_durable.proofs.Words.{IsClean, Trees, HasJournal, opened_rows, IsCause, HasReadFile, IsFailure, IsHalfway, IsLedgerFile}
 use Rattle.tb_durable.proofs.FileLemmas.{begins_halfway, first_file, opened_file, settings_open}
 use Rattle.tb_durable.proofs.Journals.{new_journal}
 use Rattle.tb_durable.proofs.reading.read_ledger.Goals as goal
@@ -76,3 +76,14 @@ returns-in_err-replay_rows-clause-openable g c =
 pub returns-clause-openable : goal.returns-clause-openable
 returns-clause-openable g c =
     settings_open c.args.settings c.requires (λ db left. c.read_settings.ensures.crash db (c.replay_rows.ensures.crash db left))
+
+pub returns-clause-settings : goal.returns-clause-settings
+returns-clause-settings g c = λ clean.
+    let was : IsClean (g.S.Store.view c.read_settings.new.table.store) = omega (arith, c.replay_rows.ensures.clean) in
+    let reading = c.in_ok-settings.ensures.row was in
+    let row = c.read_settings.new.table.row in (
+      row,
+      reading.left,
+      subst (λ (trees : Trees). trees 0 ≡ row ∷ reading.left) (sym (c.in_ok-replay_rows.ensures.same clean)) reading.all,
+      c.in_ok-settings.ensures.has,
+    )

@@ -1,6 +1,7 @@
 use Rattle.std.proofs.Common.{◌≡◌, rules, subst, ◌++◌, true, false, [], ◌∷◌}
+use Rattle.tb_durable.specs.clauses.Faults.{TellsStore}
 use Rattle.tb_durable.proofs.Words.{Advances, group_in, IsCause, IsFailure, NoMemory}
-use Rattle.tb_durable.proofs.FaultLemmas.{row_fault}
+use Rattle.tb_durable.proofs.FaultLemmas.{row_fault, row_tells}
 use Rattle.tb_durable.proofs.FileLemmas.{halfway_on, next_entry, no_memory_fails, read_file_on, whole_file}
 use Rattle.tb_durable.proofs.Journals.{one_more}
 use Rattle.tb_durable.proofs.StoreLemmas.{reads_one}
@@ -26,6 +27,12 @@ returns-in_err-row-clause-fault g c = λ clean replaying.
     = row_fault replaying.1
     (subst (Advances (g.S.Store.view c.args.table.now.store) (g.S.Store.view c.next.new.self.store) 0 row) found
     (c.in_ok-next.ensures.ok clean)) replaying.2 c.in_err-row.field-0.0 c.in_err-row.ensures.fault in
+    search rules
+
+pub returns-in_err-row-clause-told : goal.returns-in_err-row-clause-told
+returns-in_err-row-clause-told g c =
+    let tells : TellsStore (g.S.Store.blamed c.next.new.self.store) c.in_err-row.field-0.0
+    = row_tells c.args.replaying.now.ledger.places c.next.new.self.row _ c.in_err-row.field-0.0 c.in_err-row.ensures.fault in
     search rules
 
 pub returns-clause-committed : goal.returns-clause-committed

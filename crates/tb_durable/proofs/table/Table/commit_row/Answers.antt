@@ -10,6 +10,7 @@ returns-in-Ok g c = record {
       c.put.ensures.quiet.outcomes c.commit.ensures.crash;
   refused = tt;
   clean = search rules;
+  told = tt;
 }
 
 pub returns-in-Err-commit : goal.returns-in-Err-commit
@@ -20,4 +21,5 @@ returns-in-Err-commit g c = record {
       c.put.ensures.quiet.outcomes c.commit.ensures.crash;
   refused = search rules;
   clean = search rules;
+  told = search rules;
 }
