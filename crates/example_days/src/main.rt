@@ -1,5 +1,5 @@
 //! A service that runs a pipeline a day over one ledger. Each day begins with the ledger that the day before left, so places,
-//! accounts and transfers go on.
+//! accounts and transfers are kept.
 //!
 //! Each morning the first teller's submitter queues the same packet of two accounts. Teller 0 posts three transfers of 30
 //! from account 1 to account 2, under new ids. Teller 1 posts three of 10 back, the first of them under the id of its last

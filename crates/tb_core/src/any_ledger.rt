@@ -31,8 +31,8 @@ pub trait AnyLedger: Drop {
     fn apply(&mut self, parcel: Parcel) -> Outcomes
         ensures applied { Applying (is self.old) parcel result (is self.new) };
 
-    /// Returns whether a commit waits for more than memory, as for a disk. Then packets that come meanwhile join in a pipeline, so that
-    /// the next commit has them all. It is asked once a run.
+    /// Returns whether a commit waits for more than memory, as for a disk. Then a pipeline hands one more batch over during a commit, and
+    /// packets that come later join the batch after that one. It is asked once a run.
     fn waits(&self) -> bool {
         false
     }

@@ -195,7 +195,8 @@ impl<S: Store + Drop> DurableLedger<S> {
         self.in_doubt
     }
 
-    /// Returns which failure of the store stopped it, if one did.
+    /// Returns which error of the store stopped it, or `OutOfMemory` if memory ran out. None if it hasn't stopped, or stopped at a packet
+    /// out of turn, or as its places were used up.
     pub fn fault(&self) -> Option<StoreError>
         ensures { result ≡ self.now.fault }
     {
