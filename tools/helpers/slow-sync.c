@@ -1,4 +1,4 @@
-// Has each sync of a file take two milliseconds, as on a slow disk, for tools/gate/check-journal. Nothing is synced.
+// Has each sync of a file take two milliseconds, as on a slow disk, for tools/gate/check-journal and check-durable. Nothing is synced.
 #include <time.h>
 
 static int wait(void) {
