@@ -62,7 +62,6 @@ pub held-failed : (old : Contents) (failed : List ℕ) → AreConsistent old
 held-failed old failed held = record {
   consistent = record {
     hold = record { accounts_are = held.hold.accounts_are; transfers_are = held.hold.transfers_are };
-    timed = held.timed;
     sound = sound-with (facts_of old) (facts_of old).accounts failed held.sound held.sound.grounded held.sound.made;
   };
   seen = refl;
@@ -99,7 +98,6 @@ module _ (old : Contents) (kept : AreConsistent old) where
     pub kept-account : AreSeenAs facts_with with_account
     kept-account = keeps facts_with (record {
       hold = record { accounts_are = rows-are; transfers_are = kept.hold.transfers_are };
-      timed = kept.timed;
       sound = sound-with (facts_of old) facts_with.accounts old.failed kept.sound
           (grounded_account (facts_of old) account kept.sound.grounded)
           (all_push HasNoBalances (facts_of old).accounts account kept.sound.made none);
@@ -120,6 +118,5 @@ module _ (old : Contents) (kept : AreConsistent old) where
       keeps (before Account (facts_of old))
       (record {
         hold = record { accounts_are = accounts; transfers_are = kept.hold.transfers_are };
-        timed = kept.timed;
         sound = undoable.0;
       })

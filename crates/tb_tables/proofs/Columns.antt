@@ -71,15 +71,6 @@ status-at (row ∷ rows) (status ∷ statuses) (suc index) same within is =
     status-at rows statuses index (omega (arith, same)) (omega (arith, within)) is
 
 -- what an entry was made of
-pub row-is : (rows : List (ℕ × StoredTransfer)) (statuses : List StoredStatus) (index : ℕ)
-    {row : ℕ × StoredTransfer} {status : StoredStatus} {id : ℕ} {is : Row} → length statuses ≡ length rows
-    → slice_get rows index ≡ Some row → status ≡ get_or statuses index status
-    → slice_get (entries_of rows statuses) index ≡ Some (id, is)
-    → record { transfer = transfer_under row.0 row.1; status = status_of_stored status } ≡ is
-row-is rows statuses index {row} {status} {id} {is} same at found there =
-    let entry : entry_of row status ≡ (id, is) = cc (entry-at rows statuses index same at found, there) in
-    ap (λ (entry : ℕ × Row). entry.1) entry
-
 pub transfer-is : (rows : List (ℕ × StoredTransfer)) (statuses : List StoredStatus) (index : ℕ)
     {row : ℕ × StoredTransfer} {id : ℕ} {is : Row} → length statuses ≡ length rows
     → slice_get rows index ≡ Some row → slice_get (entries_of rows statuses) index ≡ Some (id, is)

@@ -1,6 +1,6 @@
 -- Transfers expire: one, and all that are due.
-use Rattle.std.proofs.Common.{refl, sym, ap, subst, ◌∙◌, arith, ◌≡◌, ℕ, ◌<◌, ◌≤◌, Bool, true, false, not, List, nat_eq, slice_get, true≢false, ◌&&◌, Option, Some, None, ◌+◌, [], ◌∷◌, map, filter, suc, if◌then◌else◌, ◌==◌, ◌||◌, append-nil}
-use Rattle.tb_tables.proofs.Words.{IsDistinct, keys_of, nat_tests, set_value_at, Account, Transfer, Facts, expire_due, is_reserving, is_due, expires_at, same_pair, sums_of, with_amount, account_rows, AreAt, CanTake, row_in, transfer_rows, is_timed, is_pair_of, is_open_pair, IsGrounded, Contain, IsSound, AreContained, is_open_status, CanExpire, expire_one, Indices, Row, Expired, is_expired, IsLawful, reserves_at, filter_agree}
+use Rattle.std.proofs.Common.{refl, sym, ap, subst, ◌∙◌, arith, ◌≡◌, ℕ, ◌^◌, option_map, ◌<◌, ◌≤◌, Bool, true, false, not, List, nat_eq, slice_get, true≢false, ◌&&◌, Option, Some, None, ◌+◌, [], ◌∷◌, map, filter, suc, if◌then◌else◌, ◌==◌, ◌||◌, append-nil}
+use Rattle.tb_tables.proofs.Words.{IsDistinct, keys_of, nat_tests, set_value_at, Account, Transfer, Facts, expire_due, is_reserving, is_due, expires_at, same_pair, sums_of, with_amount, account_rows, AreAt, CanTake, row_in, transfer_rows, is_pair_of, is_open_pair, IsGrounded, Contain, IsSound, AreContained, ExpiriesFit, is_open_at, is_due_in, CanExpire, expire_one, Indices, Row, Expired, is_expired, IsLawful, reserves_at, filter_agree, slice_get-map}
 use Rattle.tb_tables.specs.declared.amounts.Phase.TheVariants as phase
 use Rattle.tb_tables.proofs.Laws.{resolved_either, ==_swap, reserves}
 use Rattle.tb_tables.proofs.MapRows.{row-indexed_at, rows-set}
@@ -93,7 +93,7 @@ module _ (facts : Facts) (x : Transfer) (index : ℕ) (at : slice_get facts.tran
       (row_in after) [] facts.transfers index at row-expired row-other
       (is ∙ sym (append-nil _)) apart ∙ append-nil _
 
-  -- ---- what it does to sound facts and to the set
+  -- ---- what it does to sound facts and to the expiries
 
   same : (p : ℕ) (y : Transfer) → slice_get facts.transfers p ≡ Some y → (x.id == y.id) ≡ true → x ≡ y
   same p y at' is = one-transfer facts.transfers index p lawful.distinct at at' is
@@ -109,9 +109,9 @@ module _ (facts : Facts) (x : Transfer) (index : ℕ) (at : slice_get facts.tran
           at' in (grind (arith, reserving-after y, h), grind (arith, reserving-after y, one, h))
 
   pub sound-after : (indexed next : ℕ → ℕ → Bool)
-      → ((m p : ℕ) → next m p ≡ (not (same_pair (expires_at x) index m p) && indexed m p))
+      → ((m p : ℕ) → (index == p) ≡ false → indexed m p ≡ true → next m p ≡ true)
       → IsSound indexed facts → IsSound next after
-  sound-after indexed next is sound = record {
+  sound-after indexed next others sound = record {
     lawful = lawful-after;
     grounded = sound.grounded;
     made = sound.made;
@@ -126,7 +126,7 @@ module _ (facts : Facts) (x : Transfer) (index : ℕ) (at : slice_get facts.tran
             grind (arith, more y.id, expired, reserving, one, was, resolved_either y.id facts.transfers),
           );
     };
-    paired = λ m p has. grind (arith, is m p, is_open_pair-after m p has, sound.paired m p);
+    paired = λ m p has. let was = is_open_pair-after m p has in others m p was.1 (sound.paired m p was.0);
   }
 
   -- ---- and to what is due
@@ -192,74 +192,96 @@ pub record StillDue (clock : ℕ) (facts : Facts) (accounts : List (ℕ × Accou
   pub held : AreContained accounts transfers indexed now
   pub same : expire_due clock now ≡ expire_due clock facts
 
--- the transfer of a pair that is in the set
-pub record IsPairOf (facts : Facts) (moment index : ℕ) : Type 0 where
+-- the transfer at an index reserves its amount and is due
+pub record IsDueIn (clock : ℕ) (facts : Facts) (index : ℕ) : Type 0 where
   pub transfer : Transfer
   pub at : slice_get facts.transfers index ≡ Some transfer
-  pub is : expires_at transfer ≡ moment
-  pub timed : is_timed transfer ≡ true
+  pub reserves : is_reserving facts transfer ≡ true
+  pub due : is_due clock transfer ≡ true
 
 module _ {accounts : List (ℕ × Account)} {transfers : List (ℕ × Row)} {indexed : ℕ → ℕ → Bool} {facts : Facts}
-    (held : AreContained accounts transfers indexed facts) {moment index : ℕ} (has : indexed moment index ≡ true) where
-  pub pair : IsPairOf facts moment index
-  pair = by (slice_get facts.transfers index) refl (held.timed moment index has)
+    (held : AreContained accounts transfers indexed facts) where
+  entry-at : (index : ℕ) → slice_get transfers index
+      ≡ option_map (λ (t : Transfer). (t.id, row_in facts t)) (slice_get facts.transfers index)
+  entry-at index = ap (λ entries. slice_get entries index) held.hold.transfers_are ∙ slice_get-map _ facts.transfers index
+
+  pub expiries-fit : ExpiriesFit transfers
+  expiries-fit index entry at pending = by (slice_get facts.transfers index) refl
     where
-      by : (o : Option Transfer) → slice_get facts.transfers index ≡ o → is_pair_of moment o ≡ true
-          → IsPairOf facts moment index
-      by None at h = absurd (true≢false (sym h))
-      by (Some t) at h = record { transfer = t; at = at; is = grind (arith, nat_tests, h); timed = grind (arith, h) }
+      by : (o : Option Transfer) → slice_get facts.transfers index ≡ o → expires_at entry.1.transfer < 2 ^ 64
+      by None none = grind (arith, entry-at index, none, at)
+      by (Some t) some =
+          let ground = all-there (IsGrounded facts.accounts facts.transfers) facts.transfers index t held.sound.grounded some in
+          grind (arith, entry-at index, some, at, pending, ground.expiry_fits)
 
-  pub pair-row : slice_get transfers index ≡ Some (pair.transfer.id, row_in facts pair.transfer)
-  pair-row = row-at held.hold index pair.at
+  -- the transfer of a pair that may expire
+  pub open-there : (m p : ℕ) → is_open_pair facts m p ≡ true → is_open_at transfers p ≡ true
+  open-there m p open_one = by (slice_get facts.transfers p) refl
+    where
+      by : (o : Option Transfer) → slice_get facts.transfers p ≡ o → is_open_at transfers p ≡ true
+      by None none = absurd (true≢false (cc (open_one, none)))
+      by (Some t) some = grind (arith, row-at held.hold p some, some, open_one, resolved_either t.id facts.transfers)
 
-  pub can-expire : is_open_status (row_in facts pair.transfer).status ≡ true → CanExpire facts accounts transfers index
-  can-expire open_one = record {
-    lawful = held.sound.lawful;
-    grounded = held.sound.grounded;
-    ordered = held.sound.expiries.ordered;
-    hold = held.hold;
-    transfer = pair.transfer;
-    at = pair.at;
-    reserves = grind (arith, open_one, resolved_either pair.transfer.id facts.transfers);
-  }
-
-  module _ {clock : ℕ} (within : moment ≤ clock) {next : ℕ → ℕ → Bool}
-      (took : (m p : ℕ) → next m p ≡ (not (same_pair moment index m p) && indexed m p)) where
-    -- it expires
-    pub still-due : {old : Facts} (can : CanExpire facts accounts transfers index)
-        → expire_due clock facts ≡ expire_due clock old
-        → {accounts' : List (ℕ × Account)} {transfers' : List (ℕ × Row)}
-        → Contain (expire_one can.transfer.id facts) accounts' transfers' →
-        StillDue clock old accounts' transfers' next
-    still-due can same hold =
-        let one : can.transfer ≡ pair.transfer = cc (can.at, pair.at) in
-        let moment-is : expires_at can.transfer ≡ moment = ap expires_at one ∙ pair.is in
-        let due : is_due clock can.transfer ≡ true = due-now can.transfer (ap is_timed one ∙ pair.timed) moment-is in
-        record {
-          now = expire_one can.transfer.id facts;
-          held = record {
-            hold = hold;
-            timed = λ m p h. held.timed m p (grind (arith, took m p, h));
-            sound = sound-after facts can.transfer index can.at can.lawful can.reserves can.ordered indexed next
-                (λ m p. took m p ∙ ap (λ n. not (same_pair n index m p) && indexed m p) (sym moment-is)) held.sound;
-          };
-          same = due-after facts can.transfer index can.at can.lawful can.reserves can.ordered clock due ∙ same;
-        }
+  module _ (clock index : ℕ) where
+    pub due-there : is_due_in transfers index clock ≡ true → IsDueIn clock facts index
+    due-there is = by (slice_get facts.transfers index) refl
       where
-        due-now : (t : Transfer) → is_timed t ≡ true → expires_at t ≡ moment → is_due clock t ≡ true
-        due-now t timed is = grind (arith, nat_tests, within)
+        by : (o : Option Transfer) → slice_get facts.transfers index ≡ o → IsDueIn clock facts index
+        by None none = absurd (true≢false (sym is ∙ grind (arith, entry-at index, none)))
+        by (Some t) some =
+            let row = entry-at index in
+            record {
+              transfer = t;
+              at = some;
+              reserves = grind (arith, row, some, is, resolved_either t.id facts.transfers);
+              due = grind (arith, row, some, is);
+            }
 
-    -- it reserves nothing any more
-    pub passed-over : {old : Facts} → is_open_status (row_in facts pair.transfer).status ≡ false
-        → expire_due clock facts ≡ expire_due clock old → StillDue clock old accounts transfers next
-    passed-over closed same = record {
-      now = facts;
-      held = held-by held (λ m p h. grind (arith, took m p, h))
-          (λ m p h was.
-          let either = resolved_either pair.transfer.id facts.transfers in
-          grind (arith, nat_tests, took m p, pair.at, closed, h, was, either));
-      same = same;
+    pub can-expire : IsDueIn clock facts index → CanExpire facts accounts transfers index
+    can-expire due = record {
+      lawful = held.sound.lawful;
+      grounded = held.sound.grounded;
+      ordered = held.sound.expiries.ordered;
+      hold = held.hold;
+      transfer = due.transfer;
+      at = due.at;
+      reserves = due.reserves;
     }
+
+    module _ {moment : ℕ} (within : moment ≤ clock) {next : ℕ → ℕ → Bool}
+        (others : (m p : ℕ) → same_pair moment index m p ≡ false → indexed m p ≡ true → next m p ≡ true) where
+      -- it expires
+      pub still-due : {old : Facts} (can : CanExpire facts accounts transfers index) → IsDueIn clock facts index
+          → expire_due clock facts ≡ expire_due clock old
+          → {accounts' : List (ℕ × Account)} {transfers' : List (ℕ × Row)}
+          → Contain (expire_one can.transfer.id facts) accounts' transfers' →
+          StillDue clock old accounts' transfers' next
+      still-due can due still hold =
+          let one : can.transfer ≡ due.transfer = cc (can.at, due.at) in
+          let is : is_due clock can.transfer ≡ true = ap (is_due clock) one ∙ due.due in
+          record {
+            now = expire_one can.transfer.id facts;
+            held = record {
+              hold = hold;
+              sound = sound-after facts can.transfer index can.at can.lawful can.reserves can.ordered indexed next
+                  (λ m p apart. others m p (grind (arith, apart))) held.sound;
+            };
+            same = due-after facts can.transfer index can.at can.lawful can.reserves can.ordered clock is ∙ still;
+          }
+
+      -- it doesn't: it reserves nothing any more, or isn't that of the pair
+      pub passed-over : {old : Facts} → is_due_in transfers index clock ≡ false
+          → expire_due clock facts ≡ expire_due clock old → StillDue clock old accounts transfers next
+      passed-over not_due still = record { now = facts; held = held-by held by_pair; same = still }
+        where
+          by_pair : (m p : ℕ) → is_open_pair facts m p ≡ true → indexed m p ≡ true → next m p ≡ true
+          by_pair m p open_one was = by (slice_get facts.transfers p) refl
+            where
+              by : (o : Option Transfer) → slice_get facts.transfers p ≡ o → next m p ≡ true
+              by None none = absurd (true≢false (cc (open_one, none)))
+              by (Some t) some =
+                  let either = resolved_either t.id facts.transfers in
+                  grind (arith, nat_tests, others m p, was, entry-at p, some, open_one, not_due, either, within)
 
 -- if no pair is due, nothing that reserves its amount is
 none-due : (clock : ℕ) (indexed : ℕ → ℕ → Bool) (facts : Facts) → IsSound indexed facts

@@ -16,5 +16,4 @@ pub mod UndoList
 pub mod AddedAccounts
 pub mod LookUps
 pub mod StoredTransfers
-pub mod RemovedPairs
 pub mod Due

@@ -1,23 +1,57 @@
--- Pairs of the set of expiries: which are those of a transfer, and which it has to have.
-use Rattle.std.proofs.Common.{find, refl, sym, ap, ◌∙◌, arith, ◌≡◌, ℕ, Bool, true, false, List, [], ◌∷◌, ◌++◌, length, slice_get, zero, suc, if◌then◌else◌, ◌==◌, ◌&&◌, ◌||◌, Option, Some, None, ◌≤◌, not, cond, is_eq, is_lt}
-use Rattle.tb_tables.proofs.Words.{eqb-true, slice_get_past, its_pair, nat_tests, Transfer, Facts, add_transfer, is_reserving, has_id, ids_distinct, is_pair, is_open_pair, list_any, pair_cmp, is_in_expiries, same_pair}
-use Rattle.std.specs.BTreeSet.{BTreeSet}
-use Rattle.std.specs.declared.cmp.Reverse.{Reverse}
+-- Pairs of the expiries: which are in a heap, which are those of a transfer, and which there have to be.
+use Rattle.std.proofs.Common.{find, refl, sym, ap, ◌∙◌, arith, ◌≡◌, ℕ, ◌+◌, ◌<◌, true, false, true≢false, take, get_or, slice_index_or, List, [], ◌∷◌, ◌++◌, length, slice_get, zero, suc, if◌then◌else◌, ◌==◌, ◌||◌, Option, Some, None, ◌≤◌}
+use Rattle.tb_tables.proofs.Words.{eqb-true, slice_get_past, take-suc, its_pair, nat_tests, Transfer, Facts, add_transfer, is_reserving, has_id, ids_distinct, is_pair, is_open_pair, list_any-append, Expiry, by_moment, pair_of, has_pair, is_in_expiries, ExpiriesState, same_pair, expires_at, with_its_pair}
+use Rattle.std.proofs.lemmas.List.Sorted.{list_any-IsPermutation, length_permutation}
+use Rattle.std.specs.BinaryHeap.{IsUpperBound}
+use Rattle.std.specs.List.Sorted.{IsPermutation}
 
-pair-eq : (moment index m p : ℕ) → is_eq (pair_cmp (moment, index) (m, p)) ≡ same_pair moment index m p
-pair-eq moment index m p = grind (arith, nat_tests)
+-- ---- in a heap
 
--- a set with a pair more, and with a pair less
-pub with_pair : (moment index m p : ℕ) (had : Bool)
-    → cond (is_eq (pair_cmp (m, p) (moment, index))) true had ≡ (same_pair moment index m p || had)
-with_pair moment index m p had = grind (arith, nat_tests, pair-eq m p moment index)
+module _ (pairs : List Expiry) (moment index : ℕ) (m p : ℕ) where
+  pub has_pair-push : has_pair (pairs ++ pair_of moment index ∷ []) m p ≡ (same_pair moment index m p || has_pair pairs m p)
+  has_pair-push =
+      grind (arith, list_any-append (λ (pair : Expiry). same_pair pair.0.0 pair.0.1 m p) pairs (pair_of moment index ∷ []))
 
-pub without_pair : (moment index m p : ℕ) (had : Bool)
-    → cond (is_eq (pair_cmp (m, p) (moment, index))) false had ≡ (not (same_pair moment index m p) && had)
-without_pair moment index m p had = grind (arith, nat_tests, pair-eq m p moment index)
+-- if all are kept
+pub in-kept : (expiries : ExpiriesState) → expiries.fresh ≡ [] → (m p : ℕ) → is_in_expiries expiries m p ≡ true
+    → has_pair expiries.kept m p ≡ true
+in-kept expiries none m p has = grind (arith, none, has)
 
-pub same-keys : (old new : BTreeSet (Reverse (ℕ × ℕ))) → new.keys ≡ old.keys → (m p : ℕ) → is_in_expiries new m p ≡ is_in_expiries old m p
-same-keys old new same m p = ap (list_any (λ (k : Reverse (ℕ × ℕ)). is_eq (pair_cmp k.0 (m, p)))) same
+-- pairs in another order
+pub has_pair-permuted : {old new : List Expiry} → IsPermutation old new → (m p : ℕ) → has_pair old m p ≡ has_pair new m p
+has_pair-permuted {old} {new} moved m p =
+    list_any-IsPermutation (λ (pair : Expiry). same_pair pair.0.0 pair.0.1 m p) old new moved
+
+-- the first of a heap is the one that is popped
+pub popped-first : (pairs rest : List Expiry) {first popped : Expiry} → IsPermutation pairs (popped ∷ rest)
+    → first ≡ slice_index_or pairs 0 first → popped ≡ slice_index_or pairs 0 popped → popped ≡ first
+popped-first [] rest {popped = popped} moved is is' =
+    let none : ⊥ = omega (arith, length_permutation [] (popped ∷ rest) moved) in absurd none
+popped-first (pair ∷ pairs) rest moved is is' = is' ∙ sym is
+
+-- and no other one goes
+pub others-stay : {pairs rest : List Expiry} {popped : Expiry} → IsPermutation pairs (popped ∷ rest) → (m p : ℕ)
+    → same_pair popped.0.0 popped.0.1 m p ≡ false → has_pair pairs m p ≡ true → has_pair rest m p ≡ true
+others-stay moved m p apart has = grind (arith, has_pair-permuted moved m p, apart, has)
+
+-- one more of the pairs that are gone through
+pub taken-more : (pairs : List Expiry) (i : ℕ) (none : Expiry) → i < length pairs → (m p : ℕ)
+    → has_pair (take (i + 1) pairs) m p
+    ≡ (same_pair (get_or pairs i none).0.0 (get_or pairs i none).0.1 m p || has_pair (take i pairs) m p)
+taken-more pairs i none within m p =
+    let pair = get_or pairs i none in
+    let one : i + 1 ≡ suc i = omega arith in
+    ap (λ n. has_pair (take n pairs) m p) one ∙ ap (λ taken. has_pair taken m p) (take-suc pairs i none within)
+    ∙ has_pair-push (take i pairs) pair.0.0 pair.0.1 m p
+
+-- none is earlier than one that isn't less than any
+pub none-earlier : (first : Expiry) (pairs : List Expiry) → IsUpperBound by_moment first pairs → (m p : ℕ)
+    → has_pair pairs m p ≡ true → first.0.0 ≤ m
+none-earlier first [] bound m p has = absurd (true≢false (sym has))
+none-earlier first (pair ∷ pairs) bound m p has =
+    grind (arith, nat_tests, bound.0, has, none-earlier first pairs bound.1 m p)
+
+-- ---- at an index
 
 pub slice_get-push : {X : Type 0} (xs : List X) (x : X) (index : ℕ)
     → slice_get (xs ++ x ∷ []) index ≡ (if index == length xs then Some x else slice_get xs index)
@@ -60,6 +94,12 @@ module _ (facts : Facts) (t : Transfer) where
   pairs-push moment index =
       grind (arith, nat_tests, slice_get-push facts.transfers t index, slice_get_past facts.transfers index)
 
+  pub put-pair : (expiries : ExpiriesState) {next : ExpiriesState} {index : ℕ} → next ≡ with_its_pair expiries t index
+      → index ≡ length facts.transfers → (m p : ℕ)
+      → is_in_expiries next m p ≡ (its_pair facts t m p || is_in_expiries expiries m p)
+  put-pair expiries is at m p =
+      grind (arith, is, at, has_pair-push expiries.fresh (expires_at t) (length facts.transfers) m p)
+
   -- if none reserves its amount that didn't before
   pub is_open_pair-push : ((y : Transfer) → is_reserving (add_transfer facts t) y ≡ true → is_reserving facts y ≡ true)
       → (moment index : ℕ) → is_open_pair (add_transfer facts t) moment index ≡ true
@@ -70,7 +110,3 @@ module _ (facts : Facts) (t : Transfer) where
           → (its_pair facts t moment index || is_open_pair facts moment index) ≡ true
       by None at = grind (arith, nat_tests, slice_get-push facts.transfers t index, at, has)
       by (Some y) at = grind (arith, nat_tests, slice_get-push facts.transfers t index, at, has, less y)
-
--- a pair that isn't below another has no earlier moment
-pub moment-ge : (a b x y : ℕ) → is_lt (pair_cmp (b, y) (a, x)) ≡ false → a ≤ b
-moment-ge a b x y h = grind (arith, nat_tests)

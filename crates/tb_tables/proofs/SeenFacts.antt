@@ -85,15 +85,10 @@ sound-by enough sound = record {
 }
 
 pub held-by : {accounts : List (ℕ × AccountRecord)} {transfers : List (ℕ × Row)} {indexed next : ℕ → ℕ → Bool}
-    {facts : Facts} → AreContained accounts transfers indexed facts → ((m p : ℕ) → next m p ≡ true → indexed m p ≡ true)
+    {facts : Facts} → AreContained accounts transfers indexed facts
     → ((m p : ℕ) → is_open_pair facts m p ≡ true → indexed m p ≡ true → next m p ≡ true)
     → AreContained accounts transfers next facts
-held-by held fewer enough =
-    record {
-      hold = held.hold;
-      timed = λ m p has. held.timed m p (fewer m p has);
-      sound = sound-by enough held.sound;
-    }
+held-by held enough = record { hold = held.hold; sound = sound-by enough held.sound }
 
 -- which has the same pairs of the indices that there are
 pub sound-indexed : (indexed other : ℕ → ℕ → Bool) (count : ℕ) → KeepsPairs count indexed other → (facts : Facts)

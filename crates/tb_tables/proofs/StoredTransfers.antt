@@ -1,13 +1,13 @@
 -- A transfer stored in the maps, and taken back.
 use Rattle.std.proofs.Common.{sym, ap, subst, arith, ◌∙◌, ◌≡◌, ℕ, Bool, true, false, not, List, [], ◌∷◌, ◌++◌, map, filter, length, append-nil, ◌==◌, ◌&&◌, ◌||◌, Option, Some, None, Result, Ok, IfOk, is_some, nat_eq}
-use Rattle.tb_tables.proofs.Words.{filter-append, slice_get_past, list_any, lookup, nat_tests, Account, Transfer as TransferRecord, Facts, transfer_with, is_expired, add_transfer, is_resolved, is_reserving, IsLawful, has_id, before, Contents, AreGrounded, facts_of, is_pair, AreExpiries, IsSound, AreContained, Allow, MayStore, AreConsistent, Contain, new_row, Step, IsBefore, IsAfter, HaveIndices, IsStored, row_in, transfer_rows, Indices, Row, IsUndoable, KeepsPairs, its_pair, map_push}
+use Rattle.tb_tables.proofs.Words.{filter-append, list_any, lookup, nat_tests, Account, Transfer as TransferRecord, Facts, transfer_with, is_expired, add_transfer, is_resolved, is_reserving, IsLawful, has_id, before, Contents, AreGrounded, facts_of, AreExpiries, IsSound, AreContained, Allow, MayStore, AreConsistent, Contain, new_row, Step, IsBefore, IsAfter, HaveIndices, IsStored, row_in, transfer_rows, Indices, Row, IsUndoable, KeepsPairs, its_pair, map_push}
 use Rattle.tb_tables.specs.declared.change.Change.TheVariants.{Transfer}
 use Rattle.tb_tables.proofs.FoundById.{find-none}
 use Rattle.tb_tables.proofs.Laws.{any-push, reserving-same, reserving-other, resolves_nothing, add_transfer_lawful}
 use Rattle.tb_tables.proofs.Added.{resolve_lawful}
 use Rattle.tb_tables.proofs.GroundedFacts.{grounded_added, grounded_resolved}
-use Rattle.tb_tables.proofs.Pairs.{slice_get-push, pairs-push, is_open_pair-push}
-use Rattle.tb_tables.proofs.SeenFacts.{AreSeenAs, keeps, sound-indexed, held-by}
+use Rattle.tb_tables.proofs.Pairs.{slice_get-push, is_open_pair-push}
+use Rattle.tb_tables.proofs.SeenFacts.{AreSeenAs, keeps, sound-indexed}
 use Rattle.tb_tables.proofs.Histories.{without_last-push}
 use Rattle.tb_tables.proofs.ChangedBalances.{row-new}
 use Rattle.tb_tables.proofs.LookUps.{none-there, new-by-id}
@@ -107,19 +107,12 @@ module _ (facts : Facts) (t : TransferRecord) where
       → AreContained accounts' transfers' next (add_transfer facts t)
   held-push {indexed = indexed} {next = next} {indices = indices} held allow hold put = record {
     hold = hold;
-    timed = λ m p has. grind (arith, pairs-push facts t m p, put m p, held.timed m p);
     sound = sound-push indexed next indices allow held.sound put;
   }
 
 pub back : (facts : Facts) (t : TransferRecord) (indices : Indices)
     → before (Transfer indices) (add_transfer facts t) ≡ facts
 back facts t indices = ap (λ ts. record facts { transfers = ts }) (without_last-push facts.transfers t)
-
--- if the set has the same pairs
-pub same-held : {accounts : List (ℕ × Account)} {transfers : List (ℕ × Row)} {indexed other : ℕ → ℕ → Bool}
-    {facts : Facts} → ((m p : ℕ) → other m p ≡ indexed m p) → AreContained accounts transfers indexed facts
-    → AreContained accounts transfers other facts
-same-held same held = held-by held (λ m p has. sym (same m p) ∙ has) (λ m p needed was. same m p ∙ was)
 
 -- its row is there, and with the rest of it the maps are kept
 pub record IsPushed (old : Contents) (t : TransferRecord) (indices : Indices) (entries : List (ℕ × Row)) : Type 0 where
@@ -163,11 +156,6 @@ module _ (old : Contents) (kept : AreConsistent old) (t : TransferRecord) where
         }) put);
       }
 
-  -- its pair put into the set and taken out again: it wasn't there
-  pub refused : (m p : ℕ) → (not (its_pair (facts_of old) t m p)
-      && (its_pair (facts_of old) t m p || old.is_in_expiries m p)) ≡ old.is_in_expiries m p
-  refused m p = grind (arith, nat_tests, kept.timed m p, slice_get_past (facts_of old).transfers p)
-
 -- ---- the last taken back
 
 -- it can be taken back, to the facts before it, and without it the maps are kept
@@ -175,10 +163,8 @@ pub record CanPop (old : Contents) (indices : Indices) (facts : Facts) : Type 0 
   pub transfer : TransferRecord
   pub stored : IsStored facts transfer indices old.accounts old.transfers
   pub popped : {accounts : List (ℕ × Account)} {transfers : List (ℕ × Row)} {next : ℕ → ℕ → Bool}
-      → Contain facts accounts transfers → ((m p : ℕ) → next m p
-      ≡ (not (its_pair facts transfer m p) && old.is_in_expiries m p))
+      → Contain facts accounts transfers → KeepsPairs (length facts.transfers) old.is_in_expiries next
       → AreSeenAs facts (record old { accounts = accounts; transfers = transfers; is_in_expiries = next })
-      × KeepsPairs (length facts.transfers) old.is_in_expiries next
 
 pub can-pop : (old : Contents) → AreConsistent old → (indices : Indices)
     → IsUndoable old.is_in_expiries (Transfer indices) (facts_of old)
@@ -193,13 +179,9 @@ can-pop old kept indices undoable =
         hold = subst
             (λ now. Contain now old.accounts old.transfers) undoable.1.stored kept.hold;
       };
-      popped = λ {accounts} {transfers} {next} hold took.
-          let others : KeepsPairs (length facts.transfers) old.is_in_expiries next = λ m p within has.
-          grind (arith, nat_tests, took m p, has) in
-          let timed : (m p : ℕ) → next m p ≡ true → is_pair facts m p ≡ true = λ m p has.
-          let same = ap (λ now. is_pair now m p) undoable.1.stored in
-          grind (arith, took m p, has, kept.timed m p, pairs-push facts t m p, same) in
-          let sound = sound-indexed old.is_in_expiries next (length facts.transfers) others facts (omega arith)
-          undoable.0 in
-          (keeps facts (record { hold = hold; timed = timed; sound = sound }), others);
+      popped = λ {accounts} {transfers} {next} hold others.
+          keeps facts (record {
+            hold = hold;
+            sound = sound-indexed old.is_in_expiries next (length facts.transfers) others facts (omega arith) undoable.0;
+          });
     }

@@ -1,13 +1,12 @@
 -- The undo list: what can be undone stays so.
-use Rattle.std.proofs.Common.{sym, ap, subst, refl, arith, ◌∙◌, ◌≡◌, ℕ, ◌≤◌, ◌-◌, ◌||◌, ◌&&◌, not, Bool, true, List, [], ◌∷◌, ◌++◌, take, length, slice_get, zero, suc, true≢false, is_some, nat_eq, Option, Some, None}
-use Rattle.tb_tables.proofs.Words.{eqb-true, length-take, AllByRecursion, lookup, Account as AccountRecord, Transfer as TransferRecord, Facts, account_with, add_account, add_failed, add_transfer, with_change, HasNoBalances, without_last, before, oldest, history_of, Contents, facts_of, Contain, MayStore, KeepsPairs, names_index, resolves_at, IsSound, WasMade, IsUndoable, AreUndoable, AreKept, IsAfter, CanRemove, IsGrounded, its_pair, Indices, Row, Change, Failed}
+use Rattle.std.proofs.Common.{sym, ap, subst, refl, arith, ◌∙◌, ◌≡◌, ℕ, ◌≤◌, ◌-◌, ◌||◌, not, Bool, true, List, [], ◌∷◌, ◌++◌, length, is_some, nat_eq}
+use Rattle.tb_tables.proofs.Words.{length-take, lookup, Account as AccountRecord, Transfer as TransferRecord, Facts, account_with, add_account, add_failed, add_transfer, with_change, HasNoBalances, without_last, before, oldest, history_of, Contents, facts_of, Contain, KeepsPairs, IsSound, WasMade, IsUndoable, AreUndoable, AreKept, IsAfter, its_pair, Indices, Row, Change, Failed}
 use Rattle.tb_tables.specs.declared.change.Change.TheVariants.{Account, Transfer}
 use Rattle.tb_tables.proofs.AddedAccounts.{held-failed, kept-account, kept-unaccount, stamped-new}
-use Rattle.tb_tables.proofs.GroundedFacts.{all-there}
 use Rattle.tb_tables.proofs.Histories.{oldest-push, history_of-push, without_last-push}
 use Rattle.tb_tables.proofs.LookUps.{none-there, new-account-by-id}
 use Rattle.tb_tables.proofs.SeenFacts.{AreSeenAs, sound-indexed}
-use Rattle.tb_tables.proofs.StoredTransfers.{IsPushed, CanPop, can-pop, back, same-held}
+use Rattle.tb_tables.proofs.StoredTransfers.{IsPushed, CanPop, can-pop, back}
 
 -- ---- one change more, or one taken back, in the list of those that can be undone
 
@@ -109,15 +108,6 @@ module _ (changes : List Change) (old : Contents) (kept : AreKept changes old) w
       takes-change (Transfer indices) (pushed.stored after put) (back (facts_of old) t indices)
       (record { transfer = t; stored = refl; allow = pushed.allow }) (λ m p within has. grind (arith, put m p, has))
 
-  -- if the set has the same pairs
-  pub same-kept : {next : ℕ → ℕ → Bool} → ((m p : ℕ) → next m p ≡ old.is_in_expiries m p)
-      → AreKept changes (record old { is_in_expiries = next })
-  same-kept {next} same = record {
-    consistent = same-held same kept.consistent;
-    undoable = undoable-indexed old.is_in_expiries next (length (facts_of old).transfers)
-        (λ m p within has. same m p ∙ has) changes (facts_of old) (omega arith) kept.undoable;
-  }
-
 -- ---- and with the last one taken back
 
 module _ (changes : List Change) (old : Contents) where
@@ -163,60 +153,6 @@ module _ (changes : List Change) (old : Contents) where
 
     pub transfer-back : {accounts : List (ℕ × AccountRecord)} {transfers : List (ℕ × Row)} {next : ℕ → ℕ → Bool}
         → Contain (before (Transfer indices) (facts_of old)) accounts transfers
-        → ((m p : ℕ) → next m p ≡ (not (its_pair (before (Transfer indices) (facts_of old)) can-give.transfer m p)
-        && old.is_in_expiries m p))
+        → KeepsPairs (length (before (Transfer indices) (facts_of old)).transfers) old.is_in_expiries next
         → GivesBack (Transfer indices) (record old { accounts = accounts; transfers = transfers; is_in_expiries = next })
-    transfer-back hold took = let popped = can-give.popped hold took in gives-back (Transfer indices) kept popped.0 popped.1
-
--- ---- what a change resolved is there still
-
-prefix-at : {X : Type 0} (n : ℕ) (xs : List X) (index : ℕ) (x : X) → slice_get (take n xs) index ≡ Some x
-    → slice_get xs index ≡ Some x
-prefix-at zero xs index x at = cc
-prefix-at (suc n) [] index x at = at
-prefix-at (suc n) (y ∷ xs) zero x at = at
-prefix-at (suc n) (y ∷ xs) (suc index) x at = prefix-at n xs index x at
-
-there-after : (change : Change) (facts : Facts) (index : ℕ) (t : TransferRecord)
-    → slice_get (before change facts).transfers index ≡ Some t → slice_get facts.transfers index ≡ Some t
-there-after Account facts index t at = at
-there-after (Transfer indices) facts index t at = prefix-at (length facts.transfers - 1) facts.transfers index t at
-there-after Failed facts index t at = at
-
-there-now : (changes : List Change) (facts : Facts) (index : ℕ) (t : TransferRecord)
-    → slice_get (oldest changes facts).transfers index ≡ Some t → slice_get facts.transfers index ≡ Some t
-there-now [] facts index t at = at
-there-now (change ∷ changes) facts index t at =
-    there-now changes facts index t (there-after change (oldest changes facts) index t at)
-
-named-there : (change : Change) (old new : Facts) → WasMade change old new → (index : ℕ)
-    → resolves_at index change ≡ true → (t : TransferRecord) × (slice_get old.transfers index ≡ Some t)
-named-there Account old new made index is = absurd (true≢false (sym is))
-named-there Failed old new made index is = absurd (true≢false (sym is))
-named-there (Transfer indices) old new made index is = by indices.pending made.allow.may is
-  where
-    by : (o : Option ℕ) → MayStore old made.transfer o → names_index index o ≡ true
-        → (t : TransferRecord) × (slice_get old.transfers index ≡ Some t)
-    by None may h = absurd (true≢false (sym h))
-    by (Some pending) posted h =
-        (posted.may.pending, ap (slice_get old.transfers) (sym (eqb-true pending index h)) ∙ posted.pending_at)
-
-module _ (old : Contents) where
-  pub can-remove_all : (changes : List Change) → AreKept changes old
-      → AllByRecursion (λ change. CanRemove (facts_of old) change old.transfers) changes
-  can-remove_all changes kept = by changes kept.undoable
-    where
-      by : (changes : List Change) → AreUndoable old.is_in_expiries changes (facts_of old)
-          → AllByRecursion (λ change. CanRemove (facts_of old) change old.transfers) changes
-      by [] all = tt
-      by (change ∷ changes) all = (can, by changes all.1)
-        where
-          can : CanRemove (facts_of old) change old.transfers
-          can index is =
-              let named = named-there change (oldest (change ∷ changes) (facts_of old)) (oldest changes (facts_of old))
-              all.0.1 index is in
-              let at = there-now (change ∷ changes) (facts_of old) index named.0 named.1 in
-              let ground = all-there (IsGrounded (facts_of old).accounts (facts_of old).transfers)
-              (facts_of old).transfers index named.0 kept.consistent.sound.grounded at in
-              let rows = kept.consistent.hold.transfers_are in
-              (named.0, record { transfers_are = rows; at = at; expiry_fits = ground.expiry_fits })
+    transfer-back hold others = gives-back (Transfer indices) kept (can-give.popped hold others) others

@@ -21,8 +21,8 @@ pub use Rattle.tb_tables.specs.claim.Facts.{Facts, transfer_with, is_expired, ad
 pub use Rattle.tb_tables.specs.claim.Status.{is_reserving, is_unresolved, status_of, expires_at, expire_due, is_due}
 pub use Rattle.tb_tables.specs.clauses.Changes.{without_last, before, oldest, past_of, history_of}
 pub use Rattle.tb_tables.specs.clauses.Conditions.{MayAdd, MayResolve, HasNoBalances, stamped}
-pub use Rattle.tb_tables.specs.clauses.Contents.{IsGrounded, AreGrounded, Contents, facts_of, has_account, AreContained, AreConsistent, IsSound, IsUndoable, row_in, transfer_rows, MayPost, MayStore, Contain, is_timed, is_pair_of, is_open_pair, reserves_at, its_pair, is_pair, is_spent, resolves_at, is_resolved_at, account_made, has_expired, KeepsPairs, AreExpiries, Allow, HaveIndices, AreKept, names_index, WasMade, AreUndoable}
-pub use Rattle.tb_tables.specs.clauses.Expiries.{same_pair, pair_cmp, is_in_expiries}
+pub use Rattle.tb_tables.specs.clauses.Contents.{IsGrounded, AreGrounded, Contents, facts_of, has_account, AreContained, AreConsistent, IsSound, IsUndoable, row_in, transfer_rows, MayPost, MayStore, Contain, is_timed, is_pair_of, is_open_pair, reserves_at, its_pair, is_pair, account_made, has_expired, KeepsPairs, AreExpiries, Allow, HaveIndices, AreKept, WasMade, AreUndoable}
+pub use Rattle.tb_tables.specs.clauses.Expiries.{same_pair, has_pair, is_in_expiries, ExpiriesState}
 pub use Rattle.tb_tables.specs.clauses.Fields.{contents_in}
 pub use Rattle.tb_tables.specs.clauses.History.{with_change, mark_of, back_to}
 pub use Rattle.tb_tables.specs.clauses.Indices.{IsIndexAmong, IsIndexOf, IsIndexOfTransfer}
@@ -39,6 +39,7 @@ pub use Rattle.tb_tables.specs.declared.status.Status.{Status}
 pub use Rattle.tb_tables.specs.declared.status.Status.TheVariants.{Pending, Expired}
 pub use Rattle.tb_tables.specs.declared.stored_status.StoredStatus.{StoredStatus}
 pub use Rattle.tb_tables.specs.declared.stored_transfer.StoredTransfer.{StoredTransfer}
-pub use Rattle.tb_tables.specs.inside.Changing.{status_after, new_row, Step, AreOf, IsBefore, IsAfter, IsStored, is_open_status, CanExpire, expire_one, IsRemovable, CanRemove}
+pub use Rattle.tb_tables.specs.inside.Changing.{status_after, new_row, Step, AreOf, IsBefore, IsAfter, IsStored, is_open_status, CanExpire, expire_one}
+pub use Rattle.tb_tables.specs.inside.Expiring.{Expiry, by_moment, pair_of, with_fresh, with_its_pair, IsReady, LosesOnly, ExpiriesFit, is_open_at, is_due_in}
 pub use Rattle.tb_tables.specs.inside.Columns.{entries_of, entry_of, status_found, status_of_stored, transfer_under}
 pub use Rattle.tb_tables.specs.inside.Hashing.{with_id}

@@ -2,3 +2,4 @@
 pub mod Columns
 pub mod Changing
 pub mod Hashing
+pub mod Expiring

@@ -11,9 +11,9 @@
 //! - `hashing`, `by_id`: how ids are hashed, and maps by id;
 //! - `stored_transfer`, `stored_status`, `transfers`: the map of transfers as it is in memory, seen as rows: a transfer and its status;
 //! - `balance`, `amounts`: one balance of an account, an amount between two;
-//! - `entries`, `expiries`: one entry of a map, one pair of the set of expiries;
+//! - `entries`, `expiries`: one entry of a map, the pairs of a moment and a transfer;
 //! - `storing`, `timeouts`: all that one transfer changes, over facts that the maps contain (`AreContained`);
-//! - `tables`: the maps, the set and the undo list together, seen as a history, whose invariant is `AreKept`.
+//! - `tables`: the maps, the expiries and the undo list together, seen as a history, whose invariant is `AreKept`.
 //!
 //! `each_other_call` in tb_core_tests is an example that the gate compiles.
 #![tactic(auto)]

@@ -12,7 +12,7 @@ use crate::hashing::{IdHasher, Seed};
 use crate::indices::Indices;
 use crate::mark::Mark;
 use crate::status::Status;
-use crate::storing::{apply, insert_expiry, remove_expiry, remove_resolved, undo_transfer};
+use crate::storing::{apply, push_transfer, undo_transfer};
 use crate::timeouts::expire_all;
 use crate::transfers::Transfers;
 use std::alloc::Global;
@@ -157,8 +157,7 @@ impl Tables {
     }
 
     /// Adds a transfer with this timestamp, whose accounts, and whose pending transfer, have these indices, unless one
-    /// with its id is there; whether it was added. Its expiry is put into the set first, and is taken out again if the
-    /// transfer isn't added.
+    /// with its id is there; whether it was added.
     fn store(
         &mut self,
         event: &Transfer,
@@ -175,14 +174,10 @@ impl Tables {
         ensures same { result ≢ Ok true → self.new ≡ self.old }
     {
         self.changes.reserve(1)?;
-        let index = self.transfers.len();
-        insert_expiry(&mut self.expiries, event, timestamp, index)?;
-        let added = self.transfers.push(event, timestamp);
+        let added = push_transfer(&mut self.transfers, &mut self.expiries, event, timestamp);
         if added == Ok(true) {
             apply(&mut self.accounts, &mut self.transfers, indices, event);
             self.changes.push_reserved(Change::Transfer(indices));
-        } else {
-            remove_expiry(&mut self.expiries, event, timestamp, index);
         }
         added
     }
@@ -388,12 +383,12 @@ impl Tables {
     pub fn keep(&mut self)
         ensures { self.new ≡ without_past self.old }
     {
-        remove_resolved(&mut self.expiries, &self.transfers, self.changes.as_slice());
+        self.expiries.keep(&self.transfers, self.changes.len());
         self.changes.clear();
     }
 
     /// Lets each pending transfer expire that nothing resolved and whose timeout is over at a clock, in
-    /// nanoseconds. Costs as much as what expires, and takes no memory.
+    /// nanoseconds. Costs as much as what is due, resolved or not, and takes no memory.
     pub fn expire_due(&mut self, clock: u64)
         requires { self.old.past ≡ [] }
         ensures { self.new ≡ record { now = with_due_expired clock self.old.now; past = [] } }

@@ -8,6 +8,7 @@ ghost use Rattle.indexmap.specs.IndexMap.{get, set_value_at};
 ghost use Rattle.tb_tables.specs.declared.row.Row.{Row as RowRecord};
 ghost use Rattle.tb_tables.specs.declared.stored_transfer.StoredTransfer.{StoredTransfer as StoredRecord};
 ghost use Rattle.tb_tables.specs.inside.Changing.{new_row};
+ghost use Rattle.tb_tables.specs.inside.Expiring.{is_open_at};
 ghost use Rattle.tb_tables.specs.inside.Columns.{transfer_under, status_found};
 ghost use Rattle.tb_tables.specs.clauses.Conditions.{stamped};
 
@@ -135,15 +136,21 @@ impl Transfers {
     }
 
     /// Returns the transfer at an index, with its status.
-    pub(crate) fn row_at(&self, index: usize) -> Row
-        requires { IsSome (slice_get self.now index) }
-        ensures { (id : ℕ) (row : RowRecord) → slice_get self.now index ≡ Some (id, row) → result ≡ row }
+    pub(crate) fn row_at(&self, index: usize) -> Option<Row>
+        ensures { result ≡ option_map (λ (entry : ℕ × RowRecord). entry.1) (slice_get self.now index) }
     {
-        let (id, stored) = self.rows.get_index(index).unwrap();
-        Row {
-            transfer: stored.transfer(*id),
-            status: self.statuses[index].status(),
-        }
+        let transfer = self.transfer_at(index)?;
+        Some(Row {
+            transfer,
+            status: self.status_at(index),
+        })
+    }
+
+    /// Returns whether the transfer at an index still reserves its amount.
+    pub(crate) fn is_open_at(&self, index: usize) -> bool
+        ensures { result ≡ is_open_at self.now index }
+    {
+        matches!(self.status_at(index), Some(Status::Pending))
     }
 
     /// Returns the transfer with this id.

@@ -16,6 +16,7 @@ mod memory;
 mod plain;
 mod rule;
 mod running;
+mod timeouts;
 
 const MOST: u128 = u128::MAX;
 

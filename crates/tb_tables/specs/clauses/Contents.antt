@@ -19,7 +19,7 @@ use Rattle.tb_tables.specs.declared.status.Status.TheVariants.{Expired}
 use Rattle.tb_tables.specs.declared.change.Change.{Change}
 use Rattle.tb_tables.specs.declared.change.Change.TheVariants.{Transfer}
 
--- the maps' entries, the failed ids, and which pairs of moment and index the set has
+-- the maps' entries, the failed ids, and which pairs of moment and index the expiries have
 pub record Contents : Type 0 where
   pub accounts : List (ℕ × AccountRecord)
   pub transfers : List (ℕ × Row)
@@ -59,7 +59,7 @@ pub record Contain (facts : Facts) (account_entries : List (ℕ × AccountRecord
   pub accounts_are : account_entries ≡ account_rows (sums_of facts) facts.accounts
   pub transfers_are : transfer_entries ≡ transfer_rows facts facts.transfers
 
--- ---- the set
+-- ---- the expiries
 
 -- whether a transfer has a moment at which it expires
 abbrev pub is_timed : TransferRecord → Bool
@@ -73,16 +73,13 @@ is_pair_of moment (Some transfer) = is_timed transfer && (expires_at transfer ==
 abbrev pub is_pair : Facts → ℕ → ℕ → Bool
 is_pair facts moment index = is_pair_of moment (slice_get facts.transfers index)
 
--- whether a pair is that of a transfer that reserves its amount, or of one that reserves nothing
+-- whether a pair is that of a transfer that reserves its amount
 abbrev pub reserves_at : Facts → Option TransferRecord → Bool
 reserves_at facts None = false
 reserves_at facts (Some transfer) = is_reserving facts transfer
 
 abbrev pub is_open_pair : Facts → ℕ → ℕ → Bool
 is_open_pair facts moment index = is_pair facts moment index && reserves_at facts (slice_get facts.transfers index)
-
-abbrev pub is_spent : Facts → ℕ → ℕ → Bool
-is_spent facts moment index = is_pair facts moment index && not (reserves_at facts (slice_get facts.transfers index))
 
 -- ---- what is true of the facts now, and at each mark
 
@@ -115,11 +112,10 @@ pub record IsSound (is_in_expiries : ℕ → ℕ → Bool) (facts : Facts) : Typ
   pub expiries : AreExpiries facts
   pub paired : (moment index : ℕ) → is_open_pair facts moment index ≡ true → is_in_expiries moment index ≡ true
 
--- the maps hold the facts, and each pair is that of a transfer
+-- the maps hold the facts, and there is a pair of each transfer that may expire
 pub record AreContained (account_entries : List (ℕ × AccountRecord)) (transfer_entries : List (ℕ × Row))
     (is_in_expiries : ℕ → ℕ → Bool) (facts : Facts) : Type 0 where
   pub hold : Contain facts account_entries transfer_entries
-  pub timed : (moment index : ℕ) → is_in_expiries moment index ≡ true → is_pair facts moment index ≡ true
   pub sound : IsSound is_in_expiries facts
 
 abbrev pub AreConsistent : Contents → Type 0
@@ -156,21 +152,6 @@ pub record Allow (facts : Facts) (transfer : TransferRecord) (indices : Indices)
 
 -- ---- the undo list
 
--- the index of the transfer that a change resolved
-abbrev pub named_by : Change → Option ℕ
-named_by (Transfer indices) = indices.pending
-named_by other = None
-
-abbrev pub names_index : ℕ → Option ℕ → Bool
-names_index index None = false
-names_index index (Some pending) = pending == index
-
-abbrev pub resolves_at : ℕ → Change → Bool
-resolves_at index change = names_index index (named_by change)
-
-abbrev pub is_resolved_at : ℕ → List Change → Bool
-is_resolved_at index changes = list_any (resolves_at index) changes
-
 pub record WasStored (indices : Indices) (old new : Facts) : Type 0 where
   pub transfer : TransferRecord
   pub stored : new ≡ add_transfer old transfer
@@ -197,9 +178,3 @@ pub record AreKept (changes : List Change) (stored : Contents) : Type 0 where
 -- each pair of the indices below a count that is in the one set is in the other
 abbrev pub KeepsPairs : ℕ → (ℕ → ℕ → Bool) → (ℕ → ℕ → Bool) → Type 0
 KeepsPairs count old new = (moment index : ℕ) → index < count → old moment index ≡ true → new moment index ≡ true
-
--- what a change resolved is there
-abbrev pub NamesOne : Facts → Change → Type 0
-NamesOne facts change =
-    (index : ℕ) → resolves_at index change ≡ true
-    → (transfer : TransferRecord) × (slice_get facts.transfers index ≡ Some transfer)

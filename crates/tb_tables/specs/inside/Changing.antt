@@ -1,14 +1,13 @@
 -- What holds of a transfer while it is stored, undone, removed from the expiries, or expires.
-use Rattle.std.specs.Prelude.{◌≡◌, ℕ, Bool, true, false, ◌<◌, ◌^◌, ◌||◌, ◌==◌, List, ◌++◌, map, filter, slice_get, Option, Some, None, if◌then◌else◌}
+use Rattle.std.specs.Prelude.{◌≡◌, ℕ, Bool, true, false, ◌||◌, ◌==◌, List, ◌++◌, map, filter, slice_get, Option, Some, None, if◌then◌else◌}
 use Rattle.tb_layout.specs.declared.account.Account.{Account}
 use Rattle.tb_layout.specs.declared.transfer.Transfer.{Transfer}
 use Rattle.tb_layout.specs.claim.Transfer.{is_pending}
 use Rattle.tb_tables.specs.claim.Facts.{Facts, is_expired, add_transfer}
-use Rattle.tb_tables.specs.claim.Status.{is_reserving, expires_at}
+use Rattle.tb_tables.specs.claim.Status.{is_reserving}
 use Rattle.tb_tables.specs.clauses.Lawful.{IsLawful}
 use Rattle.tb_tables.specs.clauses.Sums.{sums_of, account_rows}
-use Rattle.tb_tables.specs.clauses.Contents.{Allow, AreGrounded, Contain, transfer_rows, resolves_at}
-use Rattle.tb_tables.specs.declared.change.Change.{Change}
+use Rattle.tb_tables.specs.clauses.Contents.{Allow, AreGrounded, Contain, transfer_rows}
 use Rattle.tb_tables.specs.declared.indices.Indices.{Indices}
 use Rattle.tb_tables.specs.declared.row.Row.{Row}
 use Rattle.tb_tables.specs.declared.status.Status.{Status}
@@ -57,19 +56,6 @@ status_after false = Voided
 abbrev pub is_open_status : Option Status → Bool
 is_open_status (Some Pending) = true
 is_open_status other = false
-
--- a transfer is at an index, and the moment at which it expires can be written down
-pub record IsRemovable (facts : Facts) (transfer : Transfer) (transfer_entries : List (ℕ × Row))
-    (index : ℕ) : Type 0 where
-  pub transfers_are : transfer_entries ≡ transfer_rows facts facts.transfers
-  pub at : slice_get facts.transfers index ≡ Some transfer
-  pub expiry_fits : is_pending transfer ≡ true → expires_at transfer < 2 ^ 64
-
--- what a change names can be forgotten
-abbrev pub CanRemove : Facts → Change → List (ℕ × Row) → Type 0
-CanRemove facts change transfer_entries =
-    (index : ℕ) → resolves_at index change ≡ true
-    → (transfer : Transfer) × IsRemovable facts transfer transfer_entries index
 
 -- the transfer at an index reserves its amount
 pub record CanExpire (facts : Facts) (account_entries : List (ℕ × Account)) (transfer_entries : List (ℕ × Row))

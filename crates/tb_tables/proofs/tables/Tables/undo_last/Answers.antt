@@ -25,7 +25,7 @@ invariant_of-self-in-Transfer c =
     let kept = rw (c.in-Some.ensures.items, c.in-Transfer.is) at c.self.invariant in
     let can = can-give c.pop.new.self.items old c.in-Transfer.indices kept in
     (transfer-back c.pop.new.self.items old c.in-Transfer.indices kept (c.undo_transfer.ensures.maps _ can.transfer can.stored)
-    (c.undo_transfer.ensures.index _ can.transfer can.stored)).0
+    (c.undo_transfer.ensures.pairs _ can.transfer can.stored)).0
 
 pub returns-in-Transfer : goal.returns-in-Transfer
 returns-in-Transfer c =
@@ -34,7 +34,7 @@ returns-in-Transfer c =
     let can = can-give c.pop.new.self.items old c.in-Transfer.indices kept in
     rw (← c.self.view_is, c.in-Some.ensures.items, c.in-Transfer.is)
     (transfer-back c.pop.new.self.items old c.in-Transfer.indices kept (c.undo_transfer.ensures.maps _ can.transfer can.stored)
-    (c.undo_transfer.ensures.index _ can.transfer can.stored)).1
+    (c.undo_transfer.ensures.pairs _ can.transfer can.stored)).1
 
 pub invariant_of-self-in-Failed : goal.invariant_of-self-in-Failed
 invariant_of-self-in-Failed c =
