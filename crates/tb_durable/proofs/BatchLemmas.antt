@@ -1,8 +1,10 @@
 -- A batch's packets that are read one by one.
-use Rattle.std.proofs.Common.{◌≡◌, ◌%◌, ◌<◌, ◌≤◌, ◌+◌, ◌*◌, ℕ, true, List, [], ◌∷◌, ◌++◌, refl, sym, ap, subst, ◌∙◌, arith, length, length-append, map, take, drop, ◌/◌, Some, append_assoc, append-nil}
-use Rattle.tb_durable.proofs.Words.{◌==◌, IsOk, IsSome, get_or, and_from, and_parts, eq-eqb, le-leb, drop_all, drop_at, drop_more, get_or-map, length-map, map_more, take_all, take_at, take-append-drop, map-append, flat_map-append, chunks, Stub, admission_of, count_of, count_of_size, event_size, Numbered, events_in, input_of, count_of_all, numbered_packet, stub_of, admitted_are_whole, AreAdmitted, IsLawful, all_share, are_of, body_of, can_share, is_taken, joins, first_is, joins_by, size_of, AreColumnsOf, BeginsWith, without_user, stub_at}
+use Rattle.std.proofs.Common.{◌≡◌, ◌%◌, ◌<◌, ◌≤◌, ◌+◌, ◌*◌, ℕ, Bool, true, false, List, [], ◌∷◌, ◌++◌, refl, sym, ap, subst, ◌∙◌, arith, length, length-append, map, take, drop, ◌/◌, Some, None, append_assoc, append-nil}
+use Rattle.tb_durable.proofs.Words.{◌==◌, if◌then◌else◌, IsOk, IsSome, get_or, unwrap_or, and_from, and_parts, eq-eqb, le-leb, drop_all, drop_at, drop_more, get_or-map, length-map, map_more, take_all, take_at, take-append-drop, map-append, flat_map-append, chunks, Stub, admission_of, count_of, count_of_size, event_size, Numbered, events_in, input_of, count_of_all, numbered_packet, stub_of, admitted_are_whole, AreAdmitted, IsLawful, all_share, are_of, body_of, can_share, is_taken, joins, first_is, joins_by, size_of, AreColumnsOf, BeginsWith, without_user, stub_at}
 use Rattle.std.proofs.lemmas.List.Folds.{list_all-append}
 use Rattle.std.proofs.Math.Nat.{mul-div_cancel}
+use Rattle.tb_layout.specs.claim.Events.{create_accounts, create_transfers}
+use Rattle.tb_work.specs.claim.Admission.{looks_up}
 use Rattle.tb_batch.proofs.Groups.{lawful_more}
 
 -- ---- packets without their user words are of the same group
@@ -56,6 +58,24 @@ module _ (job : Numbered) (more : List ℕ) (operation : ℕ) (stub : Stub) (bod
       ∙ ap (λ o. numbered_packet job.submitter job.number (record { operation = o; bytes = bytes; user = 0 })) (sym begins.same_operation)
       ∙ ap (λ bs. numbered_packet job.submitter job.number (record { operation = job.packet.operation; bytes = bs; user = 0 }))
       (is ∙ first_bytes)
+
+-- the bytes of one event of an operation
+pub record IsSizeOf (operation size : ℕ) : Type 0 where
+  pub some : 0 < size
+  pub bound : size ≤ 128
+  pub own : size ≡ size_of operation
+
+pub sized : (operation size : ℕ) → Some size ≡ event_size operation → IsSizeOf operation size
+sized operation size is =
+    let small = by (operation == create_accounts) (operation == create_transfers) (looks_up operation) is in
+    record { some = small.0; bound = small.1; own = ap (λ known. unwrap_or known 0) is }
+  where
+    by : (accounts transfers lookup : Bool) → Some size ≡ (if accounts then Some 128 else if transfers then Some 128
+        else if lookup then Some 16 else None) → (0 < size) × (size ≤ 128)
+    by true transfers lookup is = (omega (arith, ap (λ known. unwrap_or known 0) is), omega (arith, ap (λ known. unwrap_or known 0) is))
+    by false true lookup is = (omega (arith, ap (λ known. unwrap_or known 0) is), omega (arith, ap (λ known. unwrap_or known 0) is))
+    by false false true is = (omega (arith, ap (λ known. unwrap_or known 0) is), omega (arith, ap (λ known. unwrap_or known 0) is))
+    by false false false is = absurd cc
 
 -- a packet that was cut off the front of a batch's columns
 pub cut_off : {stub : Stub} {operation size : ℕ} {bytes more body : List ℕ} → Some size ≡ event_size operation → 0 < size

@@ -1,6 +1,8 @@
 -- A journal with one row more.
 use Rattle.std.proofs.Common.{◌≡◌, ◌<◌, ◌+◌, ◌⊎◌, inl, inr, ℕ, pos, false, List, [], ◌∷◌, ◌++◌, refl, sym, ap, subst, ◌∙◌, arith, length, length-append, append-nil, map}
 use Rattle.tb_durable.proofs.Words.{flat_map, flat_map-append, map-append, Int, Row, value_cmp, Trees, rowid, put_row, View, Input, BareLedgerState, HasCommitted, new_bare_ledger, group_in, IsBelow, IsFirst, IsJournal, IsSettled, IsStored, Adds, IsAdded, AddsGroup, LeavesWith, groups_of}
+use Rattle.sqlite_trees.specs.Tree.{with_tree}
+use Rattle.tb_durable.specs.clauses.Parcels.{FailsToCommit}
 use Rattle.tb_durable.proofs.RowLemmas.{all_below_later, all_below_push, first-Less, put_row-last, place-Less}
 
 abbrev all_in : List (List Input) → List Input
@@ -87,6 +89,25 @@ module _ {old : View} {before : BareLedgerState} (row : Row) (at_rest : IsSettle
 
   pub left_last : (db : Trees) → IsAdded old row db → db 0 ≡ old.committed 0 ++ row ∷ []
   left_last db added = added.rows ∙ last
+
+-- the row was put after the others, and the commit of that failed
+pub fails_after : {S : Type 0} {view : S → View} {old new : S} {before : BareLedgerState} (row : Row) → IsStored (view old) before
+    → before.stopped ≡ false → rowid row ≡ Int (pos before.places) → FailsToCommit view old (put_row row) new
+    → FailsToCommit view old (λ rows. rows ++ row ∷ []) new
+fails_after {view} {old} row has goes_on at fails =
+    record {
+      put = fails.put;
+      clean = fails.clean;
+      set = λ clean.
+          let at_rest = has (omega (arith, fails.clean)) goes_on in
+          let set = fails.set clean in
+          record {
+            sound = set.sound;
+            is = set.is ∙ ap (λ rows. record (view old) { trees = with_tree (view old).trees 0 rows; cursors = (view fails.put).cursors })
+                (last row at_rest.0 at_rest.1 at ∙ ap (λ (t : Trees). t 0 ++ row ∷ []) (sym at_rest.0.same));
+          };
+      back = fails.back;
+    }
 
 -- a crash leaves the row after the others, or what it could leave before
 pub leaves_with_row : {old : View} {before : BareLedgerState} {was now : Trees → Type 0} (row : Row) → IsStored old before

@@ -13,3 +13,4 @@ mod EntryLemmas
 mod FileLemmas
 mod Parcels
 mod Example
+mod OpenedFiles

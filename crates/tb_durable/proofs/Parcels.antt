@@ -1,5 +1,5 @@
 -- What a parcel does to a ledger in a file: its row is put, and then it is applied, or the ledger stops.
-use Rattle.std.proofs.Common.{◌≡◌, ◌<◌, ◌∙◌, true, false, List, [], ◌∷◌, ◌++◌, Option, Some, refl, sym, ap, subst, arith, length, map}
+use Rattle.std.proofs.Common.{◌≡◌, ◌<◌, ◌∙◌, inl, inr, true, false, List, [], ◌∷◌, ◌++◌, Option, Some, refl, sym, ap, subst, arith, length, map}
 use Rattle.tb_durable.proofs.Words.{OnOk, Result, Ok, Err, Row, Trees, View, IsClean, Input, Outcomes, BareLedgerState, PacketCounts, LeavesWith, groups_of_parcel, rows_of, IsEntryRow, Numbered, stub_of, group_in}
 use Rattle.tb_core.specs.declared.parcel.Parcel.{Parcel}
 use Rattle.tb_core.specs.declared.parcel.Parcel.TheVariants as parcel
@@ -10,12 +10,12 @@ use Rattle.sqlite_trees.specs.declared.error.StoreError.TheVariants.{OutOfMemory
 use Rattle.tb_durable.specs.declared.ledger.DurableLedger.{DurableLedger}
 use Rattle.tb_durable.specs.declared.table.Table.{Table}
 use Rattle.tb_durable.specs.declared.table.NotStored.{NotStored}
-use Rattle.tb_durable.specs.clauses.Parcels.{AppliesInFile, is_unstored}
+use Rattle.tb_durable.specs.clauses.Parcels.{AppliesInFile, FailsToCommit, is_unstored}
 use Rattle.tb_durable.specs.inside.Storing.{Finishes, StoresRow}
 use Rattle.tb_durable.proofs.Applied.{adds_group, gives_refusal}
 use Rattle.tb_durable.proofs.EntryLemmas.{entry_place}
 use Rattle.tb_durable.proofs.FileLemmas.{crash_opens, stored_file}
-use Rattle.tb_durable.proofs.Journals.{added_last, leaves_with_row, stored_more}
+use Rattle.tb_durable.proofs.Journals.{added_last, fails_after, leaves_with_row, stored_more}
 
 -- a batch is stored if it has places, and its packets follow
 pub stored_batch : (bare : BareLedgerState) (before after : PacketCounts) (jobs : List Numbered) → halts bare (length jobs) ≡ false
@@ -58,6 +58,13 @@ module _ {S : Type 0} {view : S → View} {recovers : S → Trees → Type 0} {b
         crash = λ has. subst (LeavesWith (recovers old.table.store) (recovers new.table.store) ((view old.table.store).committed 0))
             (sym next.rows) (leaves_with_row row has next.goes_on at stores.crash);
         certain = λ stop certain. absurd (let doubt = finishes.doubt in cc);
+        uncertain = λ has stored doubt. inr (record {
+          added = λ clean.
+              let rest = has (was clean) next.goes_on in
+              added_last row rest.0 rest.1 at (view new.table.store) (stores.ok clean)
+              ∙ ap (λ more. (view old.table.store).committed 0 ++ more) (sym next.rows);
+          no_memory = finishes.no_memory (sym finishes.doubt ∙ doubt);
+        });
         entries = λ has entries clean on.
             let rest = has (was clean) next.goes_on in
             rw (finishes.counted on) (stored_file rest.0 rest.1 (entries (was clean) next.goes_on) next.entry (stores.ok clean));
@@ -84,6 +91,8 @@ module _ {S : Type 0} {view : S → View} {recovers : S → Trees → Type 0} {b
         crash = λ has. subst (LeavesWith (recovers old.table.store) (recovers new.table.store) ((view old.table.store).committed 0))
             (sym next.rows) (leaves_with_row row has next.goes_on at stores.crash);
         certain = λ stop certain. stores.refused (sym finishes.in_doubt ∙ certain);
+        uncertain = λ has stored doubt. inl (subst (λ rows. FailsToCommit view old.table.store (λ before. before ++ rows) new.table.store)
+            (sym next.rows) (fails_after row has next.goes_on at (stores.uncertain (sym finishes.in_doubt ∙ doubt))));
         entries = λ has entries clean on. absurd cc;
         openable = λ has entries. crash_opens has entries next.goes_on next.entry stores.crash;
         stays = λ stopped. absurd (let on = next.goes_on in cc);

@@ -39,12 +39,13 @@ adds old mid new row shut set commit shape =
 
 -- if memory ran out first, nothing is stored, and no disk failed
 pub without_memory : {S : Type 0} {view : S → View} {recovers : S → Trees → Type 0} {blamed : S → Option StoreError} {store : S} {row : Row}
-    {error : NotStored} → ((blamed : Option StoreError) → Tells blamed error.error)
+    {error : NotStored} → error.in_doubt ≡ false → ((blamed : Option StoreError) → Tells blamed error.error)
     → StoresRow view recovers blamed store row (Err error) store
-without_memory {blamed} {store} told = record {
+without_memory {blamed} {store} certain told = record {
   ok = tt;
   crash = λ db left. inl left;
   refused = λ certain db left. left;
+  uncertain = λ doubt. absurd cc;
   clean = omega arith;
   told = told (blamed store);
 }

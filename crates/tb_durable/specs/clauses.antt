@@ -4,3 +4,4 @@ pub mod Runs
 pub mod Counts
 pub mod Entries
 pub mod Parcels
+pub mod Opened

@@ -1,9 +1,22 @@
 //! A store at a path.
 
+ghost use Rattle.std.specs.Prelude.{◌≡◌, ◌⊎◌, ◌≤◌, [], ℕ, List, codes, true, false, map, take, IsTrue, IfOk, OnOk, ◌∷◌};
+ghost use Rattle.sqlite_std_file.specs.File.{file_is_usable, IsFresh};
+ghost use Rattle.sqlite_store.specs.FileStore as file;
+ghost use Rattle.sqlite_trees.specs.View.{IsClean, doubt};
+ghost use Rattle.sqlite_trees.specs.Objects.{catalog_tree};
+ghost use Rattle.sqlite.specs.State.{HasCleanDisk};
+ghost use Rattle.sqlite.specs.Start.{FindsIn};
+ghost use Rattle.sqlite.specs.Files.{file_state, IsOpened};
+ghost use Rattle.tb_durable.specs.clauses.Opened.{IsLedger, IsOpenedOn, IsPrepared, MakesTable, objects_in};
+
 use crate::fault::OpenFault;
 use sqlite::{Connection, Error, ErrorCode, File, FileFrom, FileStore, Options, Start, Unknown};
 use sqlite_std_file::OpenError;
-use sqlite_trees::store::Alter;
+use sqlite_trees::error::StoreError;
+use sqlite_trees::schema::Object;
+use sqlite_trees::store::{Alter, Shape, Store};
+use sqlite_value::row::Row;
 use sqlite_value::value::ValueRef;
 use std::alloc::Global;
 use std::hash::{BuildHasher, RandomState};
@@ -21,31 +34,42 @@ const CANNOT_OPEN: OpenFault = OpenFault::File(Error::SqliteFailure(ErrorCode::C
 
 const IS_OPEN: OpenFault = OpenFault::File(Error::SqliteFailure(ErrorCode::DatabaseBusy));
 
-/// Returns whether the store has the table of a ledger, and no other.
-fn is_ledger<S: Alter>(alloc: Global, store: &S) -> Result<bool, OpenFault> {
-    let Ok(objects) = store.objects(alloc) else {
-        return Err(OpenFault::NoMemory);
+/// The tree of the table.
+const ENTRIES: u32 = 0;
+
+/// Returns whether the database has a ledger's table, and nothing else.
+fn is_ledger(objects: &[Row]) -> bool
+    ensures { result ≡ true → IsLedger objects.now }
+{
+    let [table] = objects else {
+        return false;
     };
-    let Some(first) = objects.first() else {
-        return Ok(false);
-    };
-    let is_table = match first.get(4) {
+    match table.get(4) {
         ValueRef::Text(text) => text == CREATE_TABLE.as_bytes(),
         _ => false,
-    };
-    Ok(is_table && objects.len() == 1)
+    }
 }
 
-/// Makes the table in an empty database, which has neither tables nor what the kit keeps without understanding it.
-fn make_table<S: Alter>(conn: &mut Connection<S>) -> Result<(), OpenFault> {
-    let schema = conn.schema();
-    if !schema.tables.is_empty() || !schema.views.is_empty() {
-        return Ok(());
+/// Makes the table in an empty database.
+fn make_table<S: Alter>(store: &mut S) -> Result<(), StoreError>
+    requires numbered { IsClean (S.Store.view store.old) → IsTrue (S.Store.view store.old).is_numbered }
+    requires empty { IsClean (S.Store.view store.old) → (S.Store.view store.old).trees catalog_tree ≡ [] }
+    ensures made { OnOk result (IsClean (S.Store.view store.new) → MakesTable (S.Store.view store.old) (S.Store.view store.new)) }
+    ensures clean { doubt (S.Store.view store.old).is_clean ≤ doubt (S.Store.view store.new).is_clean }
+{
+    if store.shape(ENTRIES) != Shape::Absent {
+        return Err(StoreError::Broken);
     }
-    match conn.execute(CREATE_TABLE, &[]) {
-        Ok(_) => Ok(()),
-        Err(error) => Err(OpenFault::File(error)),
-    }
+    let table = Object {
+        shape: Shape::Table,
+        kind: "table",
+        name: "entry",
+        table: "entry",
+        reals: 0,
+        sql: Some(CREATE_TABLE),
+    };
+    store.create(ENTRIES, &table)?;
+    store.commit()
 }
 
 /// Returns how the log is written.
@@ -64,7 +88,10 @@ fn connect<S: Start>(
     rt: &HostRuntime,
     path: &str,
     start: S,
-) -> Result<Connection<FileStore<FileFrom<S>>>, OpenFault> {
+) -> Result<Connection<FileStore<FileFrom<S>>>, OpenFault>
+    ensures opened { IfOk result (λ conn. HasCleanDisk (file_state conn) → IsOpened conn) }
+    ensures found { IfOk result (λ conn. HasCleanDisk (file_state conn) → FindsIn (record { log = S.Start.log; db = S.Start.db }) (file_state conn)) }
+{
     let options = log_options(rt)?;
     if path == ":memory:" || path.starts_with("file:") {
         return Err(CANNOT_OPEN);
@@ -87,27 +114,72 @@ fn connect<S: Start>(
 /// Opens the ledger's file at a path, or makes it. While it is open, it is locked. Each page of a new file ends in a sum of
 /// its bytes, as SQLite's extension cksumvfs has it, and opening tests the sums.
 ///
+/// The store has the trees of some file and its log. `open_file_from` says of which.
+///
 /// # Errors
 ///
 /// `File` if the path can't be opened, another process has the file open, or it is no sound database. `NotALedger` if the
-/// database has another table.
-pub fn open_file(rt: &HostRuntime, path: &str) -> Result<LedgerFile, OpenFault> {
-    let mut conn = connect(rt, path, Unknown)?;
-    let made = make_table(&mut conn);
-    let store = conn.into_store();
-    if let Err(fault) = made {
-        drop(store);
-        return Err(fault);
-    }
-    match is_ledger(rt.alloc(), &store) {
-        Ok(true) => Ok(store),
-        Ok(false) => {
-            drop(store);
-            Err(OpenFault::NotALedger)
-        }
+/// database has another table. `Store` if the table can't be made.
+pub fn open_file(rt: &HostRuntime, path: &str) -> Result<LedgerFile, OpenFault>
+    ensures { IfOk result (λ store. IsTrue (file.view store).is_open
+        → (log : List ℕ) × (db : List ℕ) × IsOpenedOn log db (file.view store)) }
+{
+    open_file_from(rt, path, Unknown)
+}
+
+/// Opens as `open_file` does. `S` stands for what the file and its log hold: the trees of the store are those that they
+/// hold, or they hold no table and the ledger's has no rows.
+pub fn open_file_from<S: Start>(
+    rt: &HostRuntime,
+    path: &str,
+    start: S,
+) -> Result<FileStore<FileFrom<S>>, OpenFault>
+    ensures { IfOk result (λ store. IsTrue (file.view store).is_open → IsOpenedOn S.Start.log S.Start.db (file.view store)) }
+{
+    let conn = connect(rt, path, start)?;
+    store_of(rt.alloc(), conn)
+}
+
+/// Returns the store, with the table of a ledger.
+fn store_of<S: Alter + Drop>(alloc: Global, conn: Connection<S>) -> Result<S, OpenFault>
+    ensures { IfOk result (λ store. IsTrue (S.Store.view store).is_open → IsPrepared (S.Store.view conn.store) (S.Store.view store)) }
+{
+    let mut store = conn.into_store();
+    match prepare(alloc, &mut store) {
+        Ok(()) => Ok(store),
         Err(fault) => {
             drop(store);
             Err(fault)
         }
+    }
+}
+
+/// Returns the rows of the catalog, one for each table, index or view.
+fn objects_of<S: Alter>(alloc: Global, store: &S) -> Result<Vec<Row>, OpenFault>
+    ensures { IfOk result (λ rows. IsClean (S.Store.view store.now) → rows.items ≡ map (take 5) ((S.Store.view store.now).trees catalog_tree)) }
+{
+    match store.objects(alloc) {
+        Ok(objects) => Ok(objects),
+        Err(_) => Err(OpenFault::NoMemory),
+    }
+}
+
+/// Makes the table if the database is empty. Otherwise it must be a ledger's.
+fn prepare<S: Alter>(alloc: Global, store: &mut S) -> Result<(), OpenFault>
+    requires { IsClean (S.Store.view store.old) → IsTrue (S.Store.view store.old).is_numbered }
+    ensures kept { OnOk result (IsClean (S.Store.view store.new)
+        → ((S.Store.view store.new ≡ S.Store.view store.old) × IsLedger (objects_in (S.Store.view store.old).trees))
+        ⊎ (((S.Store.view store.old).trees catalog_tree ≡ []) × MakesTable (S.Store.view store.old) (S.Store.view store.new))) }
+    ensures clean { doubt (S.Store.view store.old).is_clean ≤ doubt (S.Store.view store.new).is_clean }
+{
+    let objects = objects_of(alloc, store)?;
+    if objects.is_empty() {
+        make_table(store)?;
+        return Ok(());
+    }
+    if is_ledger(objects.as_slice()) {
+        Ok(())
+    } else {
+        Err(OpenFault::NotALedger)
     }
 }

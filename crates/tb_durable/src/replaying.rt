@@ -1,16 +1,15 @@
 //! The rows of the table, applied in order.
 
-ghost use Rattle.std.specs.Prelude.{◌≡◌, ◌≢◌, ◌⊎◌, ◌≤◌, ◌<◌, ◌++◌, ℕ, List, [], ◌∷◌, map, pos, length, true, false, Some, IsSome, IfSome, IsOk, OnOk, IfOk, IfErr};
+ghost use Rattle.std.specs.Prelude.{◌≡◌, ◌⊎◌, ◌≤◌, ◌<◌, ◌++◌, ℕ, List, [], ◌∷◌, map, pos, length, true, false, Some, IsSome, IsOk, OnOk, IfOk, IfErr};
 ghost use Rattle.std.specs.Result.{is_ok};
 ghost use Rattle.tb_layout.specs.claim.Events.{Pulse as PulseInput};
 ghost use Rattle.tb_layout.specs.claim.Bounds.{batch_max, moment_max};
-ghost use Rattle.tb_work.specs.claim.Admission as spec;
 ghost use Rattle.tb_work.specs.claim.Admission.{admission_of};
 ghost use Rattle.tb_work.specs.claim.Packet.{Numbered, input_of};
 ghost use Rattle.tb_work.specs.claim.Job.{numbered_packet, stub_of};
 ghost use Rattle.tb_work.specs.declared.stub.Stub.{Stub};
 ghost use Rattle.tb_batch.specs.claim.Grouping.{is_taken};
-ghost use Rattle.tb_core.specs.claim.Ledger.{batch_packets, size_of};
+ghost use Rattle.tb_core.specs.claim.Ledger.{batch_packets};
 ghost use Rattle.sqlite_value.specs.declared.value.Value.TheVariants.{Int as IntValue};
 ghost use Rattle.sqlite_trees.specs.Tree.{rowid};
 ghost use Rattle.tb_durable.specs.claim.Rows.{stubs_in, group_in};
@@ -28,10 +27,8 @@ use sqlite_value::row::Row;
 use std::alloc::Global;
 use tb_batch::{Batch, Batcher, Offered};
 use tb_core::{BareLedger, Parcel};
-use tb_layout::{
-    BATCH_MAX, CREATE_ACCOUNTS, CREATE_TRANSFERS, EVENT_SIZE, ID_SIZE, LOOKUP_ACCOUNTS, MOMENT_MAX,
-};
-use tb_work::{Bytes, Job, Moment, Packet, Refusal, Stub};
+use tb_layout::{BATCH_MAX, MOMENT_MAX};
+use tb_work::{Bytes, Job, Moment, Packet, Refusal, Stub, event_size};
 
 /// A ledger that has applied some rows, and how many packets of each submitter are in them.
 pub(crate) struct Replaying {
@@ -58,22 +55,6 @@ struct BatchColumns<'a> {
     operation: u8,
     stubs: &'a [u8],
     body: &'a [u8],
-}
-
-/// Returns how many bytes an event has; None if there is no such operation.
-fn event_size(operation: u8) -> Option<usize>
-    ensures size { IfSome result (λ size. size ≡ size_of operation) }
-    ensures bound { IfSome result (λ size. (0 < size) × (size ≤ 128)) }
-    ensures kind { IfSome result (λ size. operation ≢ 0) }
-    ensures exact { result ≡ spec.event_size operation }
-{
-    if operation == CREATE_ACCOUNTS || operation == CREATE_TRANSFERS {
-        Some(EVENT_SIZE)
-    } else if operation == LOOKUP_ACCOUNTS {
-        Some(ID_SIZE)
-    } else {
-        None
-    }
 }
 
 /// Puts a job into the batch that is held. A job that can't join it gives the fault.
@@ -151,6 +132,7 @@ impl Replaying {
     }
 
     /// Returns the job of the first packet in a body, and the bytes after it.
+    #[tactic(auto, using(crate::proofs::BatchLemmas::sized))]
     fn first_job<'a>(
         &self,
         operation: u8,

@@ -17,8 +17,10 @@ use tb_batch::{Batch, Batcher};
 use tb_core::{Outcomes, Parcel, Seed};
 use tb_durable::{DurableLedger, OpenFault, Settings};
 use tb_layout::{BATCH_MAX, MOMENT_MAX, Transfer};
-use tb_test_makers::{account, accounts_packet, check, job, transfer, transfers_packet};
-use tb_work::{Moment, Outcome, Packet};
+use tb_test_makers::{
+    OutcomeKind, account, accounts_packet, check, job, kind_of, transfer, transfers_packet,
+};
+use tb_work::{Moment, Packet};
 
 const SETTINGS: Settings = Settings {
     clock: 5,
@@ -68,8 +70,8 @@ fn first_place(outcomes: Outcomes) -> Option<u64> {
     match outcomes {
         Outcomes::Cut(mut cutter) => {
             let reply = cutter.next()?;
-            match &reply.outcome {
-                Outcome::Committed { place, .. } => Some(*place),
+            match kind_of(&reply) {
+                OutcomeKind::Committed(place) => Some(place),
                 _ => None,
             }
         }

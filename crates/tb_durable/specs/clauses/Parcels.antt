@@ -1,5 +1,5 @@
 -- What a parcel does to a ledger in a file.
-use Rattle.std.specs.Prelude.{◌≡◌, ◌≤◌, ◌++◌, ◌||◌, not, Bool, true, false, Option, Some, length, map}
+use Rattle.std.specs.Prelude.{◌≡◌, ◌⊎◌, ◌≤◌, ◌++◌, ◌||◌, not, Bool, true, false, Option, Some, List, length, map}
 use Rattle.std.specs.Option.{is_some}
 use Rattle.tb_core.specs.declared.outcomes.Outcomes.{Outcomes}
 use Rattle.tb_core.specs.declared.parcel.Parcel.{Parcel}
@@ -7,9 +7,11 @@ use Rattle.tb_core.specs.claim.AnyLedger.{Applying, IsWithJournal}
 use Rattle.tb_core.specs.declared.parcel.Parcel.TheVariants as parcel
 use Rattle.tb_core.specs.claim.BareLedger.{Applies, BareLedgerState, after_refusal, halts, refusal_of}
 use Rattle.tb_work.specs.claim.Job.{stub_of}
+use Rattle.sqlite_value.specs.Order.{Row}
 use Rattle.sqlite_trees.specs.Tree.{Trees}
-use Rattle.sqlite_trees.specs.View.{View, IsClean, doubt, Tells}
+use Rattle.sqlite_trees.specs.View.{View, IsClean, IsRolledBack, SetsTree, doubt, Tells}
 use Rattle.sqlite_trees.specs.declared.error.StoreError.{StoreError}
+use Rattle.sqlite_trees.specs.declared.error.StoreError.TheVariants.{OutOfMemory}
 use Rattle.tb_durable.specs.declared.counts.PacketCounts.{PacketCounts}
 use Rattle.tb_durable.specs.declared.ledger.DurableLedger.{DurableLedger}
 use Rattle.tb_durable.specs.claim.Rows.{group_in}
@@ -23,6 +25,18 @@ abbrev pub is_unstored : BareLedgerState → PacketCounts → Parcel → Bool
 is_unstored bare counts (parcel.Batch jobs) = halts bare (length jobs) || not (is_some (counted_all counts (map stub_of jobs)))
 is_unstored bare counts (parcel.Pulse moment) = halts bare 1
 is_unstored bare counts other = true
+
+-- The table was edited, and the commit of that failed. If the disk has returned what was written, nothing else was edited.
+pub record FailsToCommit {S : Type 0} (view : S → View) (old : S) (edit : List Row → List Row) (new : S) : Type 0 where
+  pub put : S
+  pub clean : doubt (view old).is_clean ≤ doubt (view put).is_clean
+  pub set : IsClean (view put) → SetsTree (view old) (view put) 0 edit
+  pub back : IsRolledBack (view put) (view new)
+
+-- Rows are committed after those that were there, and memory ran out.
+pub record RunsOutAfter (old new : View) (rows : List Row) (fault : Option StoreError) : Type 0 where
+  pub added : IsClean new → new.committed 0 ≡ old.committed 0 ++ rows
+  pub no_memory : fault ≡ Some OutOfMemory
 
 -- A parcel was applied to a ledger in a file, or the ledger stopped at it.
 pub record AppliesInFile {S : Type 0} (view : S → View) (recovers : S → Trees → Type 0) (blamed : S → Option StoreError)
@@ -44,6 +58,10 @@ pub record AppliesInFile {S : Type 0} (view : S → View) (recovers : S → Tree
   -- if it stopped and isn't in doubt, a crash leaves nothing that it couldn't leave before
   pub certain : new.bare.stopped ≡ true → new.in_doubt ≡ false
       → LeavesNothingNew (recovers old.table.store) (recovers new.table.store)
+  -- a parcel leaves it in doubt only if its row was put and the commit failed, or if the row is committed and memory ran out after that
+  pub uncertain : IsStored (view old.table.store) old.bare → is_unstored old.bare old.counts handed ≡ false → new.in_doubt ≡ true
+      → FailsToCommit view old.table.store (λ rows. rows ++ rows_of old.bare.places handed) new.table.store
+      ⊎ RunsOutAfter (view old.table.store) (view new.table.store) (rows_of old.bare.places handed) new.fault
   -- the table is still a ledger's file, with the counts of its packets
   pub entries : IsStored (view old.table.store) old.bare → HasEntries (view old.table.store) old.bare old.counts
       → HasEntries (view new.table.store) new.bare new.counts

@@ -5,7 +5,7 @@ use Rattle.tb_core.specs.declared.parcel.Parcel.{Parcel}
 use Rattle.tb_core.specs.claim.AnyLedger.{Applying, IsWithJournal}
 use Rattle.tb_core.specs.claim.BareLedger.{Applies, after_refusal, refusal_of}
 use Rattle.sqlite_value.specs.Order.{Row}
-use Rattle.sqlite_trees.specs.Tree.{Trees}
+use Rattle.sqlite_trees.specs.Tree.{Trees, put_row}
 use Rattle.sqlite_trees.specs.View.{View, IsClean, doubt, Tells}
 use Rattle.sqlite_trees.specs.declared.error.StoreError.{StoreError}
 use Rattle.sqlite_trees.specs.declared.error.StoreError.TheVariants.{OutOfMemory}
@@ -13,6 +13,7 @@ use Rattle.tb_durable.specs.declared.counts.PacketCounts.{PacketCounts}
 use Rattle.tb_durable.specs.declared.ledger.DurableLedger.{DurableLedger}
 use Rattle.tb_durable.specs.declared.table.NotStored.{NotStored}
 use Rattle.tb_durable.specs.claim.Durable.{Adds, IsAdded, LeavesNothingNew}
+use Rattle.tb_durable.specs.clauses.Parcels.{FailsToCommit}
 
 -- a row was put and committed, or wasn't stored
 pub record StoresRow {S : Type 0} (view : S → View) (recovers : S → Trees → Type 0) (blamed : S → Option StoreError) (old : S) (row : Row)
@@ -20,6 +21,7 @@ pub record StoresRow {S : Type 0} (view : S → View) (recovers : S → Trees �
   pub ok : OnOk result (IsClean (view new) → Adds (view old) (view new) row)
   pub crash : (db : Trees) → recovers new db → recovers old db ⊎ IsAdded (view old) row db
   pub refused : IfErr result (λ error. error.in_doubt ≡ false → LeavesNothingNew (recovers old) (recovers new))
+  pub uncertain : IfErr result (λ error. error.in_doubt ≡ true → FailsToCommit view old (put_row row) new)
   pub clean : doubt (view old).is_clean ≤ doubt (view new).is_clean
   pub told : IfErr result (λ error. Tells (blamed new) error.error)
 

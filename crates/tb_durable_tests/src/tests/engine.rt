@@ -8,20 +8,16 @@ use tb_core::{AnyLedger, BareLedger, Outcomes, Parcel, Seed};
 use tb_durable::DurableLedger;
 use tb_embed::AnyEngine;
 use tb_layout::MOMENT_MAX;
-use tb_test_makers::{account, accounts_packet, check, transfer, transfers_packet};
-use tb_work::{Outcome, Packet, Refusal};
+use tb_test_makers::{
+    OutcomeKind, account, accounts_packet, check, kind_of, transfer, transfers_packet,
+};
+use tb_work::{Packet, Refusal};
 
 /// A ledger whose store fails once it has taken some parcels.
+#[derive(Drop)]
 struct FailingLedger {
     bare: BareLedger,
     left: u32,
-}
-
-impl Drop for FailingLedger {
-    fn drop(self) {
-        let FailingLedger { bare, left: _ } = self;
-        drop(bare);
-    }
 }
 
 impl AnyLedger for FailingLedger {
@@ -40,14 +36,6 @@ impl AnyLedger for FailingLedger {
         self.left -= 1;
         self.bare.apply(parcel)
     }
-}
-
-/// What a reply says of its packet.
-#[derive(Clone, Copy, PartialEq, Eq)]
-enum Said {
-    Committed(u64),
-    Shutdown,
-    Stopped,
 }
 
 fn engine_over<L: AnyLedger>(rt: &(impl Abort + Alloc<A = Global>), ledger: L) -> AnyEngine<L> {
@@ -76,15 +64,10 @@ fn queue<L: AnyLedger>(
     }
 }
 
-/// Reads the next reply. Returns its submitter, and what it says.
-fn read<L: AnyLedger>(engine: &mut AnyEngine<L>) -> Option<(u32, Said)> {
+/// Reads the next reply. Returns its submitter, and its packet's outcome.
+fn read<L: AnyLedger>(engine: &mut AnyEngine<L>) -> Option<(u32, OutcomeKind)> {
     let reply = engine.reply()?;
-    let said = match &reply.outcome {
-        Outcome::Committed { place, .. } => Said::Committed(*place),
-        Outcome::Shutdown => Said::Shutdown,
-        Outcome::Stopped => Said::Stopped,
-    };
-    Some((reply.submitter, said))
+    Some((reply.submitter, kind_of(&reply)))
 }
 
 fn one_account(rt: &(impl Abort + Alloc<A = Global>), id: u128) -> Packet {
@@ -106,8 +89,8 @@ fn an_engine_over_rows_continues(rt: HostRuntime) {
     check!(&rt; queue(rt.alloc(), &mut engine, 15, two_accounts(&rt)) == Ok(0));
     check!(&rt; queue(rt.alloc(), &mut engine, 3, largest_packet(&rt)) == Ok(0));
     check!(&rt; engine.pulse(MOMENT_MAX).is_ok());
-    check!(&rt; read(&mut engine) == Some((15, Said::Committed(0))));
-    check!(&rt; read(&mut engine) == Some((3, Said::Committed(1))));
+    check!(&rt; read(&mut engine) == Some((15, OutcomeKind::Committed(0))));
+    check!(&rt; read(&mut engine) == Some((3, OutcomeKind::Committed(1))));
     check!(&rt; read(&mut engine).is_none() && !engine.stopped());
     check!(&rt; facts(engine.ledger()) == Some([3, u128::from(MOMENT_MAX), 8190, 8190]));
     let Ok(ledger) = engine.into_ledger() else {
@@ -117,8 +100,8 @@ fn an_engine_over_rows_continues(rt: HostRuntime) {
     check!(&rt; queue(rt.alloc(), &mut again, 15, one_account(&rt, u128::MAX - 1)) == Ok(0));
     check!(&rt; again.shut().is_ok());
     check!(&rt; queue(rt.alloc(), &mut again, 15, one_account(&rt, 3)) == Ok(1));
-    check!(&rt; read(&mut again) == Some((15, Said::Committed(3))));
-    check!(&rt; read(&mut again) == Some((15, Said::Shutdown)));
+    check!(&rt; read(&mut again) == Some((15, OutcomeKind::Committed(3))));
+    check!(&rt; read(&mut again) == Some((15, OutcomeKind::Shutdown)));
     check!(&rt; read(&mut again).is_none());
     check!(&rt; again.ledger().packets()[15] == 2 && again.ledger().places() == 4);
     drop(again);
@@ -140,10 +123,10 @@ fn sixteen_submitters_of_an_engine_over_rows(rt: HostRuntime) {
         let number = queue(rt.alloc(), &mut engine, (n % 16) as u32, packet);
         check!(&rt; number == Ok(n / 16 + u64::from(n % 16 == 0)));
     }
-    check!(&rt; read(&mut engine) == Some((0, Said::Committed(0))) && read(&mut engine).is_none());
+    check!(&rt; read(&mut engine) == Some((0, OutcomeKind::Committed(0))) && read(&mut engine).is_none());
     check!(&rt; engine.flush().is_ok());
     for n in 0..8190u64 {
-        check!(&rt; read(&mut engine) == Some(((n % 16) as u32, Said::Committed(n + 1))));
+        check!(&rt; read(&mut engine) == Some(((n % 16) as u32, OutcomeKind::Committed(n + 1))));
     }
     check!(&rt; read(&mut engine).is_none());
     check!(&rt; queue(rt.alloc(), &mut engine, 16, one_transfer(&rt, 1)) == Err(Refusal::BadSubmitters));
@@ -174,7 +157,7 @@ fn an_engine_keeps_its_ledger(rt: HostRuntime) {
     let Err(mut unread) = held.into_ledger() else {
         rt.abort()
     };
-    check!(&rt; read(&mut unread) == Some((0, Said::Committed(0))));
+    check!(&rt; read(&mut unread) == Some((0, OutcomeKind::Committed(0))));
     let Ok(bare) = unread.into_ledger() else {
         rt.abort()
     };
@@ -224,7 +207,7 @@ fn a_pulse_and_a_close_at_which_a_ledger_stops(rt: HostRuntime) {
     let mut engine = engine_over(&rt, FailingLedger { bare, left: 0 });
     check!(&rt; queue(rt.alloc(), &mut engine, 9, two_accounts(&rt)) == Ok(0));
     check!(&rt; engine.shut().is_ok() && engine.stopped());
-    check!(&rt; read(&mut engine) == Some((9, Said::Stopped)) && read(&mut engine).is_none());
+    check!(&rt; read(&mut engine) == Some((9, OutcomeKind::Stopped)) && read(&mut engine).is_none());
     check!(&rt; engine.shut() == Err(Refusal::Shutdown));
     drop(engine);
 }
@@ -238,9 +221,9 @@ fn an_engine_over_a_ledger_that_stops(rt: HostRuntime) {
     check!(&rt; queue(rt.alloc(), &mut engine, 1, one_transfer(&rt, 1)) == Ok(0));
     check!(&rt; queue(rt.alloc(), &mut engine, 2, one_transfer(&rt, 2)) == Ok(0));
     check!(&rt; !engine.stopped() && engine.flush().is_ok() && engine.stopped());
-    check!(&rt; read(&mut engine) == Some((0, Said::Committed(0))));
-    check!(&rt; read(&mut engine) == Some((1, Said::Stopped)));
-    check!(&rt; read(&mut engine) == Some((2, Said::Stopped)) && read(&mut engine).is_none());
+    check!(&rt; read(&mut engine) == Some((0, OutcomeKind::Committed(0))));
+    check!(&rt; read(&mut engine) == Some((1, OutcomeKind::Stopped)));
+    check!(&rt; read(&mut engine) == Some((2, OutcomeKind::Stopped)) && read(&mut engine).is_none());
     check!(&rt; queue(rt.alloc(), &mut engine, 1, one_transfer(&rt, 3)) == Err(Refusal::Stopped));
     check!(&rt; engine.pulse(7) == Err(Refusal::Stopped));
     check!(&rt; engine.shut().is_ok() && read(&mut engine).is_none());

@@ -9,6 +9,7 @@ returns-in-Ok g c = record {
       (g.met.S.Store.shut_if_dirty c.put.new.self) c.put.ensures.quiet.clean c.in_default.ensures.ok
       c.put.ensures.quiet.outcomes c.commit.ensures.crash;
   refused = tt;
+  uncertain = tt;
   clean = search rules;
   told = tt;
 }
@@ -20,6 +21,12 @@ returns-in-Err-commit g c = record {
       (g.met.S.Store.shut_if_dirty c.put.new.self) c.put.ensures.quiet.clean c.in_default.ensures.ok
       c.put.ensures.quiet.outcomes c.commit.ensures.crash;
   refused = search rules;
+  uncertain = λ doubt. record {
+    put = c.put.new.self;
+    clean = c.put.ensures.quiet.clean;
+    set = c.in_default.ensures.ok;
+    back = c.in-Err-commit.ensures.err;
+  };
   clean = search rules;
   told = search rules;
 }

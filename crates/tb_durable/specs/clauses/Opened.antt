@@ -1,0 +1,41 @@
+-- Which store is opened at a path.
+use Rattle.std.specs.Prelude.{◌≡◌, ◌⊎◌, ℕ, [], ◌∷◌, List, codes, map, take}
+use Rattle.sqlite_value.specs.Order.{Row, column}
+use Rattle.sqlite_value.specs.declared.value.Value.TheVariants.{Text}
+use Rattle.sqlite_trees.specs.Tree.{Trees}
+use Rattle.sqlite_trees.specs.View.{View, IsClean}
+use Rattle.sqlite_trees.specs.Objects.{catalog_tree}
+use Rattle.sqlite.specs.Files.{HoldsDatabase, AreFoundIn}
+
+-- the text of the ledger's table
+abbrev pub table_text : List ℕ
+table_text =
+    codes "CREATE TABLE entry (place INTEGER PRIMARY KEY, operation INTEGER NOT NULL, moment INTEGER NOT NULL, stubs BLOB NOT NULL, body BLOB NOT NULL) STRICT"
+
+-- There is one object, and its text is that of the ledger's table.
+pub record IsLedger (objects : List Row) : Type 0 where
+  pub row : Row
+  pub only : objects ≡ row ∷ []
+  pub text : column row 4 ≡ Text table_text
+
+-- of trees the tables, indexes and views, as they are listed
+abbrev pub objects_in : Trees → List Row
+objects_in trees = map (take 5) (trees catalog_tree)
+
+-- The trees are those that there were, with the ledger's table only. Or there was no table, and the first tree has no rows.
+pub record IsPrepared (before now : View) : Type 0 where
+  pub clean : IsClean before
+  pub kept : ((now.committed ≡ before.committed) × IsLedger (objects_in before.committed)) ⊎ ((before.committed catalog_tree ≡ []) × (now.committed 0 ≡ []))
+
+-- a table without rows was made and committed
+pub record MakesTable (old new : View) : Type 0 where
+  pub empty : new.committed 0 ≡ []
+  pub is_open : new.is_open ≡ old.is_open
+
+-- The store has the trees that the file and its log held, with the ledger's table only. Or these had no table, and the store's first
+-- tree has no rows.
+pub record IsOpenedOn (log db : List ℕ) (view : View) : Type 0 where
+  pub found : Trees
+  pub holds : (held : Trees) → HoldsDatabase (record { log = log; db = db }) held → found ≡ held
+  pub reads : AreFoundIn (record { log = log; db = db }) found
+  pub kept : ((view.committed ≡ found) × IsLedger (objects_in found)) ⊎ ((found catalog_tree ≡ []) × (view.committed 0 ≡ []))
