@@ -3,7 +3,7 @@ mod Answered
 mod HandedPackets
 mod Noting
 mod Packets
-mod Printing
+mod Planning
 mod Pulses
 mod RefusalReasons
 mod Sharing

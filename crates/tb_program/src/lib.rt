@@ -11,7 +11,7 @@ mod operations;
 mod run;
 mod state;
 
-pub use list::{list_output, run_script};
+pub use list::{Line, list_output, operations_of, put_lines, run_script};
 pub use run::{RunOver, run_output, run_over, run_threads};
 pub use state::put_state;
 pub use tb_program_text::{Output, ProgramFault};

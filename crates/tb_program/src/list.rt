@@ -1,23 +1,20 @@
 //! A script in one thread.
 
-ghost use Rattle.std.specs.Prelude.{◌≡◌, ◌≢◌, ◌≤◌, List, true, map, IfOk, IfErr, IfSome, IsErrOf, string_bytes};
+ghost use Rattle.std.specs.Prelude.{◌≡◌, ◌≢◌, ◌≤◌, true, map, IfOk, IfErr, IfSome, IsErrOf, string_bytes};
 ghost use Rattle.std.specs.Io.KnownBytes.{Appends, Keeps};
 ghost use Rattle.tb_layout.specs.claim.Bounds.{batch_max};
 ghost use Rattle.tb_layout.specs.claim.Limits.{clock_max};
 ghost use Rattle.tb_program.specs.clauses.Listing.{plan_text, listing, out, is_faultless};
 ghost use Rattle.tb_program_text.specs.clauses.Source.{source_in};
 ghost use Rattle.tb_program.specs.clauses.Operations.{operation_in, operations_listed, operations_if_faultless};
-ghost use Rattle.tb_program.specs.inside.SplitPlan.{line_of};
-ghost use Rattle.tb_program.specs.clauses.Plan.{Planned, queue_of};
 
 mod listing;
-mod plan;
 mod planning;
 
-use crate::list::listing::put_listing;
-use crate::list::plan::Line;
-use crate::list::planning::{PlanParts, plan_all};
+pub use crate::list::listing::{Line, put_lines};
+use crate::list::planning::plan_all;
 use crate::operations::operation_in;
+use crate::state::put_state;
 use std::alloc::Global;
 use std::io::{Read, Write};
 use tb_core::run_list;
@@ -31,7 +28,7 @@ use tb_work::Item;
 /// As many bytes as the line of a committed packet without failures mostly has.
 const USUAL_LINE: usize = 32;
 
-/// Returns the lines of a plan whose queue is listed.
+/// Returns the text of a plan: its lines, and then the clock and the accounts.
 fn text_of(
     alloc: Global,
     clock: u64,
@@ -42,19 +39,17 @@ fn text_of(
     requires clock { clock ≤ clock_max }
     requires least { 1 ≤ limit }
     requires most { limit ≤ batch_max }
-    ensures { (plan : List Planned) → items.items ≡ queue_of plan → lines.now ≡ map line_of plan
-        → IfOk result (λ text. string_bytes text ≡ plan_text clock plan) }
+    ensures { IfOk result (λ text. string_bytes text ≡ plan_text clock (record { queue = items.items; lines = lines.now })) }
 {
     let listed = run_list(alloc, clock, limit, items)?;
     let mut out = String::with_capacity(alloc, lines.len().saturating_mul(USUAL_LINE))?;
-    let put = put_listing(&mut out, lines, &listed);
-    drop(listed);
-    put?;
+    put_lines(&mut out, lines, &listed.replies)?;
+    put_state(&mut out, listed.ledger.machine())?;
     Ok(out)
 }
 
 /// Returns the operation of each item's line.
-fn operations_of(alloc: Global, items: &[ScriptItem]) -> Result<Vec<u8>, NoMemory>
+pub fn operations_of(alloc: Global, items: &[ScriptItem]) -> Result<Vec<u8>, NoMemory>
     ensures { IfOk result (λ operations. operations.items ≡ map operation_in items.now) }
 {
     let mut operations = Vec::with_capacity(alloc, items.len())?;
@@ -76,7 +71,7 @@ fn output_for(alloc: Global, script: Script) -> Result<Output, NoMemory>
     } = script.finish()?;
     let operations = operations_of(alloc, &items)?;
     let limit = settings.limit();
-    let PlanParts { queue, lines } = plan_all(alloc, limit, &mut items)?.into_parts();
+    let (queue, lines) = plan_all(alloc, limit, &mut items)?;
     Ok(Output {
         text: text_of(alloc, settings.clock(), limit, queue, &lines)?,
         faultless: true,

@@ -2,7 +2,7 @@
 pub use Rattle.std.proofs.Math.Seq.{drop-append-add, take-append_seam, take-append-add, drop-append_seam, get_or-append_seam, split_at}
 pub use Rattle.std.proofs.lemmas.Bool.{and_parts, cases_lt, false_from_ne_true, cond_below}
 pub use Rattle.std.proofs.lemmas.Bool.Decides.{nat_tests, Decides-eqb}
-pub use Rattle.std.proofs.lemmas.Fmt.{IsAscii-from_digits, decimal_is_IsNumeral_wide, length-decimal-le_wide}
+pub use Rattle.std.proofs.lemmas.Fmt.{IsAscii-from_digits, decimal_digit, decimal_is_IsNumeral_wide, length-decimal-le_wide}
 pub use Rattle.std.proofs.lemmas.Grind.{common_steps}
 pub use Rattle.std.proofs.lemmas.Iterator.Consumers.{YieldsList-at, YieldsList-from_filter, count_from_yields_List}
 pub use Rattle.std.proofs.lemmas.Iterator.Splits.{YieldsList-from_slice_split}

@@ -1,7 +1,7 @@
 //! The lines of the output.
 
 ghost use Rattle.std.specs.Io.KnownBytes.{Appends};
-ghost use Rattle.std.specs.Prelude.{◌≡◌, ◌++◌, [], false, IfOk, OnOk, IfErr, codes, string_bytes};
+ghost use Rattle.std.specs.Prelude.{◌≡◌, ◌++◌, [], false, IfOk, OnOk, IfErr, codes, decimal, string_bytes};
 ghost use Rattle.tb_program_text.specs.declared.program_fault.ProgramFault.TheVariants.{Write as WriteFault};
 ghost use Rattle.std.specs.List.{flat_map};
 ghost use Rattle.tb_program_text.specs.clauses.Naming.{named_text as text_with_names};
@@ -144,11 +144,23 @@ fn put_outcome(out: &mut String, outcome: &Outcome) -> Result<(), AllocError>
     }
 }
 
+/// Adds a submitter's number. It mostly has one digit, which takes some 60 instructions fewer than by `put_number`.
+#[inline(always)]
+fn put_submitter(out: &mut String, submitter: u32) -> Result<(), AllocError>
+    ensures { OnOk result (string_bytes out.new ≡ string_bytes out.old ++ decimal submitter) }
+{
+    if submitter < 10 {
+        return out.push(char::from(b'0' + submitter as u8));
+    }
+    put_number(out, submitter)
+}
+
 #[tactic(auto, unfolding(crate::specs::clauses::Output::packet_front))]
 fn put_packet_front(out: &mut String, submitter: u32, number: u64) -> Result<(), AllocError>
     ensures { OnOk result (string_bytes out.new ≡ string_bytes out.old ++ packet_front submitter number) }
 {
-    put_field(out, "packet ", submitter)?;
+    out.push_str("packet ")?;
+    put_submitter(out, submitter)?;
     put_field(out, " ", number)
 }
 

@@ -1,62 +1,58 @@
--- The plan of each item of a script: a packet that is admitted, a pulse and the Close are queued, and all else is
--- refused.
+-- The plan of a script: what its items queue, and the lines that are printed of them.
 use Rattle.std.specs.Prelude.{ℕ, ◌==◌, nat_lt, Bool, false, List, [], ◌∷◌, ◌++◌, count_by, Result, Ok, Err, if◌then◌else◌}
-use Rattle.std.specs.List.{flat_map}
+use Rattle.std.specs.List.{fold}
+use Rattle.tb_core.specs.claim.Decision.{place_after}
+use Rattle.tb_core.specs.claim.Due.{Place, Ahead, Behind}
 use Rattle.tb_layout.specs.claim.Bounds.{moment_max}
 use Rattle.tb_work.specs.claim.Admission.{admission_of}
-use Rattle.tb_work.specs.claim.Packet.{Numbered}
 use Rattle.tb_work.specs.claim.Job.{numbered_packet}
-use Rattle.tb_work.specs.declared.item.Item as work
+use Rattle.tb_work.specs.declared.item.Item.{Item}
 use Rattle.tb_work.specs.declared.item.Item.TheVariants as queue
 use Rattle.tb_work.specs.declared.packet.Packet as packets
 use Rattle.tb_work.specs.declared.refusal.Refusal.{Refusal}
+use Rattle.tb_program.specs.declared.list.listing.Line.{Line}
+use Rattle.tb_program.specs.declared.list.listing.Line.TheVariants as line
 use Rattle.tb_program_text.specs.declared.item.ScriptItem.{ScriptItem}
 use Rattle.tb_program_text.specs.declared.item.ScriptItem.TheVariants as script
 
-pub data Planned : Type 0 where
-  Packet : Numbered → Planned
-  Pulse : (moment : ℕ) → Planned
-  Close : Planned
-  RefusedPacket : (submitter : ℕ) → Refusal → Planned
-  RefusedPulse : Planned
+pub record PlanState : Type 0 where
+  pub queue : List Item
+  pub lines : List Line
 
--- what is queued of it
-abbrev pub queued_items : Planned → List work.Item
-queued_items (Packet job) = queue.Packet job ∷ []
-queued_items (Pulse moment) = queue.Pulse moment ∷ []
-queued_items Close = queue.Close ∷ []
-queued_items (RefusedPacket submitter refusal) = []
-queued_items RefusedPulse = []
-
-abbrev pub queue_of : List Planned → List work.Item
-queue_of plan = flat_map queued_items plan
+abbrev pub with_planned : PlanState → List Item → List Line → PlanState
+with_planned plan items lines = record { queue = plan.queue ++ items; lines = plan.lines ++ lines }
 
 -- a submitter's queued packets are numbered from 0
-abbrev pub is_of : ℕ → work.Item → Bool
+abbrev pub is_of : ℕ → Item → Bool
 is_of submitter (queue.Packet job) = job.submitter == submitter
 is_of submitter other = false
 
-abbrev pub number_in : ℕ → List work.Item → ℕ
+abbrev pub number_in : ℕ → List Item → ℕ
 number_in submitter items = count_by (is_of submitter) items
 
--- a packet after what is queued
-abbrev pub packet_as : List work.Item → ℕ → packets.Packet → Result ℕ Refusal → Planned
-packet_as items submitter packet (Ok count) =
-    Packet (numbered_packet submitter (number_in submitter items) packet)
-packet_as items submitter packet (Err refusal) = RefusedPacket submitter refusal
+-- a packet is queued if it is admitted
+abbrev pub with_packet : PlanState → ℕ → packets.Packet → Result ℕ Refusal → PlanState
+with_packet plan submitter packet (Ok count) =
+    let job = numbered_packet submitter (number_in submitter plan.queue) packet in
+    with_planned plan (queue.Packet job ∷ []) (line.Packet ∷ [])
+with_packet plan submitter packet (Err refusal) = with_planned plan [] (line.RefusedPacket submitter refusal ∷ [])
+
+-- a pulse has its place; behind the Close it would have none
+abbrev pub pulse_lines : Place → List Line
+pulse_lines (Ahead place) = line.Pulse place ∷ []
+pulse_lines Behind = []
 
 -- a moment above 2^62 is refused
-abbrev pub pulse_as : ℕ → Planned
-pulse_as moment = if nat_lt moment_max moment then RefusedPulse else Pulse moment
+abbrev pub with_pulse : PlanState → ℕ → PlanState
+with_pulse plan moment =
+    if nat_lt moment_max moment then with_planned plan [] (line.RefusedPulse ∷ [])
+    else with_planned plan (queue.Pulse moment ∷ []) (pulse_lines (place_after (Ahead 0) plan.queue))
 
-abbrev pub planned_as : ℕ → List work.Item → ScriptItem → Planned
-planned_as limit items (script.Packet submitter packet) =
-    packet_as items submitter packet (admission_of limit packet)
-planned_as limit items (script.Pulse moment) = pulse_as moment
-planned_as limit items script.Shut = Close
+abbrev pub with_item : ℕ → PlanState → ScriptItem → PlanState
+with_item limit plan (script.Packet submitter packet) = with_packet plan submitter packet (admission_of limit packet)
+with_item limit plan (script.Pulse moment) = with_pulse plan moment
+with_item limit plan script.Shut = with_planned plan (queue.Close ∷ []) (line.Shut ∷ [])
 
--- the plan of a script's items after those queued, with packets of at most `limit` events
-unfoldable pub plan_after : ℕ → List work.Item → List ScriptItem → List Planned
-plan_after limit items [] = []
-plan_after limit items (item ∷ others) =
-    planned_as limit items item ∷ plan_after limit (items ++ queued_items (planned_as limit items item)) others
+-- the plan of a script's items, with packets of at most `limit` events
+abbrev pub plan_of : ℕ → List ScriptItem → PlanState
+plan_of limit items = fold (with_item limit) (record { queue = []; lines = [] }) items

@@ -11,22 +11,9 @@ use tb_core::{Outcomes, Parcel};
 use tb_demux::Cutter;
 use tb_durable::{DurableLedger, OpenFault, Settings};
 use tb_layout::{BATCH_MAX, MOMENT_MAX};
-use tb_program::{Output, put_state};
-use tb_program_text::{
-    ScriptItem, put_close, put_pulse, put_refused, put_refused_pulse, put_reply,
-};
+use tb_program::{Line, Output, operations_of, put_lines, put_state};
+use tb_program_text::{ScriptItem, SubmitterNumber};
 use tb_work::{Item, Job, Moment, Outcome, Packet, Refusal, Reply};
-
-/// A line of the output, in the order of the script. That of a queued packet is its reply's.
-#[derive(Clone, Copy)]
-enum Line {
-    /// A packet of an operation.
-    Queued(u8),
-    Refused(u32, Refusal),
-    Pulse(u64),
-    RefusedPulse,
-    Close,
-}
 
 /// A ledger and the front before it, with the lines so far.
 pub(crate) struct Committing<S: Store> {
@@ -124,29 +111,24 @@ impl<S: Store + Drop> Committing<S> {
     }
 
     /// Queues a packet with its submitter's next number, or notes why it is refused.
-    fn packet(&mut self, submitter: u32, packet: Packet) -> Result<(), JournalFault> {
-        if submitter >= self.settings.submitters {
+    fn packet(&mut self, submitter: SubmitterNumber, packet: Packet) -> Result<(), JournalFault> {
+        let sender = submitter.get();
+        if sender >= self.settings.submitters {
             drop(packet);
             self.lines
-                .push(Line::Refused(submitter, Refusal::BadSubmitters))?;
+                .push(Line::RefusedPacket(submitter, Refusal::BadSubmitters))?;
             return Ok(());
         }
-        let number = self.numbers[submitter as usize % 16];
+        let number = self.numbers[sender as usize];
         let limit = self.settings.limit.min(BATCH_MAX);
-        let operation = packet.operation;
-        match Job::new(self.alloc, submitter, number, limit, packet) {
+        match Job::new(self.alloc, sender, number, limit, packet) {
             Ok(job) => {
-                self.numbers[submitter as usize % 16] = number.saturating_add(1);
-                self.lines.push(Line::Queued(operation))?;
-                self.pass(submitter, Item::Packet(job))?;
+                self.numbers[sender as usize] = number.saturating_add(1);
+                self.lines.push(Line::Packet)?;
+                self.pass(sender, Item::Packet(job))?;
             }
-            Err((packet, refusal)) => {
-                drop(packet);
-                if refusal == Refusal::NoMemory {
-                    return Err(JournalFault::NoMemory);
-                }
-                self.lines.push(Line::Refused(submitter, refusal))?;
-            }
+            Err((_packet, Refusal::NoMemory)) => return Err(JournalFault::NoMemory),
+            Err((_packet, refusal)) => self.lines.push(Line::RefusedPacket(submitter, refusal))?,
         }
         Ok(())
     }
@@ -167,10 +149,10 @@ impl<S: Store + Drop> Committing<S> {
 
     fn take(&mut self, item: ScriptItem) -> Result<(), JournalFault> {
         match item {
-            ScriptItem::Packet(submitter, packet) => self.packet(submitter.get(), packet),
+            ScriptItem::Packet(submitter, packet) => self.packet(submitter, packet),
             ScriptItem::Pulse(moment) => self.pulse(moment),
             ScriptItem::Shut => {
-                self.lines.push(Line::Close)?;
+                self.lines.push(Line::Shut)?;
                 Ok(self.pass(self.settings.submitters, Item::Close)?)
             }
         }
@@ -179,34 +161,9 @@ impl<S: Store + Drop> Committing<S> {
     /// Returns the lines, and then the clock and the accounts.
     fn text(&self) -> Result<String, AllocError> {
         let mut out = String::new(self.alloc);
-        let mut replies = self.replies.iter();
-        for line in self.lines.iter() {
-            match line {
-                Line::Queued(_) => {
-                    if let Some(reply) = replies.next() {
-                        put_reply(&mut out, reply)?;
-                    }
-                }
-                Line::Refused(submitter, refusal) => put_refused(&mut out, *submitter, *refusal)?,
-                Line::Pulse(place) => put_pulse(&mut out, *place)?,
-                Line::RefusedPulse => put_refused_pulse(&mut out)?,
-                Line::Close => put_close(&mut out)?,
-            }
-        }
+        put_lines(&mut out, &self.lines, &self.replies)?;
         put_state(&mut out, self.ledger.machine())?;
         Ok(out)
-    }
-
-    /// Returns the operation of each line, 0 of one that is no packet's.
-    fn operations(&self) -> Result<Vec<u8>, AllocError> {
-        let mut operations = Vec::new(self.alloc);
-        for line in self.lines.iter() {
-            operations.push(match line {
-                Line::Queued(operation) => *operation,
-                _ => 0,
-            })?;
-        }
-        Ok(operations)
     }
 
     /// Returns why not all that was queued is committed, apart from packets behind a Close.
@@ -219,6 +176,7 @@ impl<S: Store + Drop> Committing<S> {
 
     /// Takes all items and commits what is held at last.
     pub(crate) fn commit_all(mut self, items: Vec<ScriptItem>) -> Result<Journaled, JournalFault> {
+        let operations = operations_of(self.alloc, &items)?;
         for item in items {
             self.take(item)?;
         }
@@ -229,7 +187,7 @@ impl<S: Store + Drop> Committing<S> {
             text: self.text()?,
             faultless: true,
             remark: String::new(self.alloc),
-            operations: self.operations()?,
+            operations,
         };
         let stop = self.stop();
         Ok(Journaled { output, stop })
