@@ -103,7 +103,8 @@ impl<'g, G: Gate> BatchRing<'g, G> {
     }
 
     /// Returns whether the group held may wait for packets that join it though the queue is empty: a commit waits for a disk, and the
-    /// committer hasn't taken what was given before. So no packet is committed later for that, and one wait serves more of them.
+    /// committer hasn't taken what was given before. No packet waits longer for that than the batcher takes to wake, and one wait for the
+    /// disk serves more packets.
     fn may_hold(&mut self, front: &Front) -> bool
         ensures ring { SameOutlet self.old.outlet self.new.outlet }
         ensures given { given self.new.outlet ≡ given self.old.outlet }

@@ -6,7 +6,7 @@ ghost use Rattle.tb_core.specs.declared.parcel.Parcel.{Parcel as ParcelValue};
 ghost use Rattle.tb_rings.specs.clauses.Ends.{given, taken, SameInlet, SameOutlet};
 ghost use Rattle.tb_pipe.specs.clauses.Carried.{is_last, given_on, AreCleared, IsCommitted, AllCommitted, CommittedTo};
 
-use crate::clearing::{Cleared, clear};
+use crate::clearing::pass_gate;
 use crate::gate::Gate;
 use crate::waiting::give_waiting;
 use std::snapshot::Snapshot;
@@ -68,14 +68,13 @@ fn commit<R: Wait + Clock, L: AnyLedger>(
     rt: &R,
     ledger: &mut L,
     outlet: &mut Outlet<Outcomes>,
-    cleared: Cleared,
+    parcel: Parcel,
 ) -> bool
     ensures ring { SameOutlet outlet.old outlet.new }
     ensures committed { (start : LedgerState) (sent : List ParcelValue)
         → IsCommitted start sent (L.is ledger.old) (given outlet.old)
-        → CommittedTo result start (sent ++ cleared ∷ []) (L.is ledger.new) (given outlet.new) }
+        → CommittedTo result start (sent ++ parcel ∷ []) (L.is ledger.new) (given outlet.new) }
 {
-    let parcel = cleared.into_parcel();
     let last = is_last(&parcel);
     let outcomes = ledger.apply(parcel);
     give_on(rt, outlet, outcomes);
@@ -101,8 +100,8 @@ impl<L: AnyLedger> Committer<L> {
                 continue;
             };
             idle.reset();
-            let cleared = clear(rt, gate, parcel, &mut batches);
-            if commit(rt, &mut self.ledger, &mut self.outlet, cleared) {
+            pass_gate(rt, gate, &parcel, &mut batches);
+            if commit(rt, &mut self.ledger, &mut self.outlet, parcel) {
                 return;
             }
         }

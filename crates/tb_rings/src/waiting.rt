@@ -1,5 +1,7 @@
 //! A thread that has nothing to do sleeps until another wakes it.
 
+ghost use Rattle.std.specs.Prelude.{◌<◌, ◌≤◌, ◌-◌, ◌*◌, ◌^◌, ◌↔◌, IsTrue, min};
+
 use crossbeam_utils::sync::{Parker, Unparker};
 use std::alloc::Global;
 use std::cell::Cell;
@@ -20,8 +22,8 @@ const YIELD_MICROSECONDS: u64 = 1_000;
 /// twice as many.
 const FIRST_WAITS_WITHOUT_YIELDS: u32 = 100;
 
-/// For how many waits it doesn't yield at most. In a pipeline with work to do they take less than a second.
-const MAX_WAITS_WITHOUT_YIELDS: u32 = 12_800;
+/// How often that is doubled, to 12,800 waits. In a pipeline with work to do they take less than a second.
+const MOST_DOUBLINGS: u32 = 7;
 
 /// How many microseconds a thread sleeps between two looks at what nobody wakes it for: a look takes some two of processor time.
 const POLL_MICROSECONDS: u64 = 50;
@@ -31,12 +33,22 @@ const POLL_MICROSECONDS: u64 = 50;
 /// sleeps: a thread that is woken gets a processor sooner than one that yielded. Now and then it yields again, to see whether that pays.
 #[derive(Drop)]
 struct Pausing {
-    /// How many yields in a row took long, at most two.
+    /// How many yields in a row took long.
     long_yields: Cell<u32>,
-    /// For how many waits it doesn't yield.
-    without_yields: Cell<u32>,
-    /// For how many waits it won't yield after the next long yield.
-    next_without_yields: Cell<u32>,
+    /// How many waits began since the last yield.
+    waits: Cell<u32>,
+}
+
+/// Returns whether a thread yields after this number of long yields in a row and, since the last, this number of begun waits.
+fn may_yield(long_yields: u32, waits: u32) -> bool
+    ensures few { long_yields < 2 → IsTrue result }
+    ensures many { 2 ≤ long_yields → IsTrue result ↔ (100 * 2 ^ min (long_yields - 2) 7 < waits) }
+{
+    if long_yields < 2 {
+        return true;
+    }
+    let doublings = (long_yields - 2).min(MOST_DOUBLINGS);
+    waits > FIRST_WAITS_WITHOUT_YIELDS * 2u32.pow(doublings)
 }
 
 impl Pausing {
@@ -44,35 +56,29 @@ impl Pausing {
     fn new(long_yields: u32) -> Pausing {
         Pausing {
             long_yields: Cell::new(long_yields),
-            without_yields: Cell::new(0),
-            next_without_yields: Cell::new(FIRST_WAITS_WITHOUT_YIELDS),
+            waits: Cell::new(0),
         }
     }
 
     /// Begins a wait.
     fn begin(&self) {
-        self.without_yields
-            .set(self.without_yields.get().saturating_sub(1));
+        self.waits.set(self.waits.get().saturating_add(1));
     }
 
     /// Notes whether a yield took long.
     fn note(&self, is_long: bool) {
-        if !is_long {
-            self.long_yields.set(0);
-            self.next_without_yields.set(FIRST_WAITS_WITHOUT_YIELDS);
-        } else if self.long_yields.get() == 0 {
-            self.long_yields.set(1);
+        let long_yields = if is_long {
+            self.long_yields.get().saturating_add(1)
         } else {
-            let waits = self.next_without_yields.get();
-            self.without_yields.set(waits);
-            self.next_without_yields
-                .set(waits.saturating_mul(2).min(MAX_WAITS_WITHOUT_YIELDS));
-        }
+            0
+        };
+        self.long_yields.set(long_yields);
+        self.waits.set(0);
     }
 
     /// Yields, or pauses for some nanoseconds.
     fn pause<R: Clock>(&self, rt: &R) {
-        if self.without_yields.get() > 0 {
+        if !may_yield(self.long_yields.get(), self.waits.get()) {
             hint::spin_loop();
             return;
         }

@@ -18,6 +18,7 @@ mod rings;
 mod rounds;
 mod service;
 mod threads;
+mod yields;
 
 /// Returns a packet of this number of bytes, each of them 7.
 fn sevens(alloc: Global, operation: u8, length: usize) -> Result<Packet, AllocError> {

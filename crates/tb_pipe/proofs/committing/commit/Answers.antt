@@ -3,6 +3,6 @@ use Rattle.tb_pipe.proofs.committing.commit.Goals as goal
 
 pub returns-clause-committed : goal.returns-clause-committed
 returns-clause-committed g c = λ start sent has.
-    rw (← c.into_parcel-parcel.ensures, c.give_on.ensures.given)
-    (parcel_more has c.into_parcel-parcel.result c.apply-outcomes.result (g.L.AnyLedger.is c.apply-outcomes.new.self)
+    rw c.give_on.ensures.given
+    (parcel_more has _ c.apply-outcomes.result (g.L.AnyLedger.is c.apply-outcomes.new.self)
     c.is_last-last.result c.is_last-last.ensures c.apply-outcomes.ensures.applied)

@@ -6,10 +6,10 @@ pub loop-preserved : goal.loop-preserved
 loop-preserved g c = record {
   inlet = c.in-Some-take.ensures.ring ∙ c.loop.invariant.inlet;
   outlet = c.commit.ensures.ring ∙ c.loop.invariant.outlet;
-  committed = λ start begun. rw (c.in-Some-take.ensures.some, ← c.clear-cleared.ensures.parcel)
+  committed = λ start begun. rw c.in-Some-take.ensures.some
       (rw c.if-commit.false at (c.commit.ensures.committed start _ (c.loop.invariant.committed start begun)));
   cleared = one_cleared c.in-Some-take.parcel c.loop.invariant.cleared c.in-Some-take.ensures.some
-      c.clear-cleared.ensures.through c.clear-cleared.ensures.next;
+      c.pass_gate.ensures.through c.pass_gate.ensures.next;
 }
 
 pub loop-init : goal.loop-init
@@ -23,14 +23,14 @@ loop-init g c =
 
 pub returns-then-commit-clause-through : goal.returns-then-commit-clause-through
 returns-then-commit-clause-through g c = (
-  c.clear-cleared.new.batches,
-  one_cleared c.in-Some-take.parcel c.loop.invariant.cleared c.in-Some-take.ensures.some c.clear-cleared.ensures.through
-      c.clear-cleared.ensures.next,
+  c.pass_gate.new.batches,
+  one_cleared c.in-Some-take.parcel c.loop.invariant.cleared c.in-Some-take.ensures.some c.pass_gate.ensures.through
+      c.pass_gate.ensures.next,
 )
 
 pub returns-then-commit-clause-all : goal.returns-then-commit-clause-all
 returns-then-commit-clause-all g c = λ start begun.
-    rw (c.in-Some-take.ensures.some, ← c.clear-cleared.ensures.parcel)
+    rw c.in-Some-take.ensures.some
     (rw c.if-commit.true at (c.commit.ensures.committed start _ (c.loop.invariant.committed start begun)))
 
 -- nothing was taken
