@@ -3,7 +3,7 @@ import math
 
 WIDTH, HEIGHT = 640, 360
 LEFT, RIGHT, TOP, BOTTOM = 70, 20, 50, 55
-COLOURS = {"Rattle": "#0b63a5", "Rust": "#c2410c", "strong": "#4d7c0f"}
+COLOURS = {"Rattle": "#0b63a5", "Rust": "#c2410c", "strong": "#4d7c0f", "Rust, yielding": "#c2410c", "Rust, parking": "#7e22ce"}
 
 
 def step_for(greatest):
@@ -57,8 +57,9 @@ class Plot:
             yield f'<circle cx="{self.x(x):.1f}" cy="{self.y(y):.1f}" r="3.5" fill="{COLOURS[name]}"/>'
 
     def legend(self):
+        step = max(80, 30 + 6 * max(map(len, self.lines)))
         for place, name in enumerate(self.lines):
-            x = WIDTH - RIGHT - 230 + place * 80
+            x = WIDTH - RIGHT + 10 - (3 - place) * step
             yield f'<rect x="{x}" y="{TOP - 22}" width="12" height="12" fill="{COLOURS[name]}"/>'
             yield self.text(x + 18, TOP - 12, name, "start")
 

@@ -11,9 +11,8 @@ from collections import namedtuple
 # What one run of a program took, in seconds, and what it printed.
 Run = namedtuple("Run", "wall processor output")
 
-# The medians of two programs that ran in turn, in seconds, and of their ratio pair by pair. The quartiles of the ratio and of both
-# programs' times are next to them.
-Pair = namedtuple("Pair", "ours peers low ratio high our_spread peers_spread")
+# The medians of two programs that ran in turn, in seconds, and of their ratio pair by pair, next to its quartiles.
+Pair = namedtuple("Pair", "ours peers low ratio high")
 
 
 def run(command, source=os.devnull):
@@ -67,7 +66,7 @@ def medians(rounds, measure, peer=1):
     times = [(getattr(runs[0], measure), getattr(runs[peer], measure)) for runs in rounds]
     ours, peers = zip(*times)
     low, middle, high = statistics.quantiles([our / other for our, other in times], n=4, method="inclusive")
-    return Pair(statistics.median(ours), statistics.median(peers), low, middle, high, quartiles(ours), quartiles(peers))
+    return Pair(statistics.median(ours), statistics.median(peers), low, middle, high)
 
 
 # A process begins with the memory of the one that starts it, so a small one starts it and tells its greatest memory.

@@ -5,6 +5,7 @@ mod codes;
 pub mod events;
 pub mod hash;
 pub mod layout;
+pub mod live;
 pub mod lock;
 pub mod machine;
 pub mod packet;

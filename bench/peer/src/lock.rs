@@ -2,6 +2,7 @@
 
 use crate::events::{ACCOUNTS, accounts, transfers};
 use crate::layout::{BATCH_MAX, Failure};
+use crate::live::{self, Over, Part};
 use crate::packet::{Packet, Refusal};
 use crate::tally::Tally;
 use std::sync::Mutex;
@@ -56,11 +57,15 @@ fn send<L: Ledger>(ledger: &Mutex<L>, submitter: u32, load: Load) -> Result<Tall
     Ok(tally)
 }
 
-/// Runs a thread for each submitter; the sums over all replies.
-fn send_all<L: Ledger>(ledger: &Mutex<L>, load: Load) -> Result<Tally, Refusal> {
+/// Runs a thread for each submitter, which drives it; the sums over all replies.
+fn run(
+    submitters: u32,
+    drive: impl Fn(u32) -> Result<Tally, Refusal> + Sync,
+) -> Result<Tally, Refusal> {
+    let drive = &drive;
     thread::scope(|scope| {
-        let threads: Vec<_> = (0..load.submitters)
-            .map(|submitter| scope.spawn(move || send(ledger, submitter, load)))
+        let threads: Vec<_> = (0..submitters)
+            .map(|submitter| scope.spawn(move || drive(submitter)))
             .collect();
         let mut tally = Tally::default();
         for thread in threads {
@@ -73,8 +78,46 @@ fn send_all<L: Ledger>(ledger: &Mutex<L>, load: Load) -> Result<Tally, Refusal> 
 /// The line of a run.
 pub fn line_of_run<L: Ledger>(ledger: L, load: Load) -> Result<String, Refusal> {
     let ledger = Mutex::new(ledger);
-    let tally = send_all(&ledger, load)?;
+    let tally = run(load.submitters, |submitter| send(&ledger, submitter, load))?;
     let mut ledger = ledger.into_inner().expect("no thread panics");
     let balances = ledger.sum_of_balances(load.accounts());
     Ok(format!("{tally} balances {balances}"))
+}
+
+/// Commits a packet of one event for each byte of the input, and writes a byte after it.
+fn echo<L: Ledger>(ledger: &Mutex<L>, submitter: u32) -> Result<Tally, Refusal> {
+    let mut tally = Tally::default();
+    live::echo(|sent| commit(ledger, transfers(submitter, sent, 1), &mut tally))?;
+    Ok(tally)
+}
+
+/// Commits packets of one event, one after the other, until the input has ended.
+fn load_until<L: Ledger>(ledger: &Mutex<L>, submitter: u32, over: &Over) -> Result<Tally, Refusal> {
+    let mut tally = Tally::default();
+    commit(ledger, accounts(submitter), &mut tally)?;
+    let mut sent = 0;
+    while !over.is_ended() {
+        commit(ledger, transfers(submitter, sent, 1), &mut tally)?;
+        sent += 1;
+    }
+    Ok(tally)
+}
+
+/// A live run, until its input ends; this number of submitters load the ledger meanwhile.
+pub fn run_live<L: Ledger>(ledger: L, submitters: u32, loads: u32) -> Result<(), Refusal> {
+    let ledger = Mutex::new(ledger);
+    let over = Over::default();
+    run(submitters, |submitter| match Part::of(submitter, loads) {
+        Part::Echoes => {
+            let tally = echo(&ledger, submitter);
+            over.end();
+            tally
+        }
+        Part::Loads => load_until(&ledger, submitter, &over),
+        Part::Sleeps => {
+            over.wait();
+            Ok(Tally::default())
+        }
+    })?;
+    Ok(())
 }

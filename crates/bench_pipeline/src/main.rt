@@ -1,12 +1,13 @@
 //! Drives the pipeline from its submitters' threads, to measure it.
 //!
-//!     bench_pipeline run EVENTS PACKETS SUBMITTERS CREDIT CAPACITY LIMIT
-//!     bench_pipeline bare EVENTS PACKETS SUBMITTERS CREDIT CAPACITY LIMIT
+//!     bench_pipeline run EVENTS PACKETS SUBMITTERS CREDIT CAPACITY LIMIT ROOM
+//!     bench_pipeline bare EVENTS PACKETS SUBMITTERS CREDIT CAPACITY LIMIT ROOM
 //!     bench_pipeline live SUBMITTERS LOADS
 //!
 //! `run`: each submitter makes a thousand accounts and sends PACKETS packets of EVENTS plain transfers between them, with
-//! at most CREDIT of them unanswered. The queue has CAPACITY slots, and a batch at most LIMIT events. Prints sums over the
-//! replies and the balances, which are the same in every order. `bare`: the same over a ledger that keeps no journal.
+//! at most CREDIT of them unanswered. The queue has CAPACITY slots, and a batch at most LIMIT events. ROOM is how many
+//! transfers capacity is reserved for, or 0. Prints sums over the replies and the balances, which are the same in every
+//! order. `bare`: the same over a ledger that keeps no journal.
 //!
 //! `live`: the first submitter sends a packet of one event for each byte of the standard input, and writes a byte when it
 //! has the reply. LOADS others send packets of one event at credit 16 until the input ends, the rest sleep until then.
@@ -21,9 +22,8 @@ mod tally;
 ghost use Rattle.std.specs.Prelude.{◌≡◌, length, IfSome};
 
 use crate::driver::LoadDriver;
-use crate::events::ACCOUNTS;
 use crate::live::{Echo, Over, Party};
-use crate::request::{Asked, LiveRequest, Load, Request, asked_by};
+use crate::request::{Asked, LiveRequest, Load, Opening, Request, asked_by};
 use crate::tally::{Tally, sum_of_balances};
 use std::alloc::Global;
 use std::io::{Read, Write};
@@ -90,17 +90,40 @@ fn line_of_run(
     alloc: Global,
     drivers: Vec<LoadDriver>,
     machine: &Machine,
-    submitters: u32,
+    opening: Opening,
 ) -> Option<String> {
     let tally = tally_of(drivers);
-    let accounts = u64::from(submitters).wrapping_mul(ACCOUNTS);
-    let balances = sum_of_balances(machine, accounts);
+    let balances = sum_of_balances(machine, opening.accounts());
     let replies = tally.replies;
     let failures = tally.failures;
     let places = tally.places;
     format!(in alloc;
         "replies {replies} failures {failures} places {places} balances {balances}"
     ).ok()
+}
+
+/// Returns a ledger with the capacity asked for, or None if memory runs out.
+fn new_ledger(alloc: Global, opening: Opening) -> Option<Ledger> {
+    let mut ledger = Ledger::new(alloc, 0);
+    match ledger.reserve(opening.accounts_reserved(), opening.room) {
+        Ok(()) => Some(ledger),
+        Err(_) => {
+            drop(ledger);
+            None
+        }
+    }
+}
+
+/// Returns the same of a ledger that keeps no journal.
+fn new_bare_ledger(alloc: Global, opening: Opening) -> Option<BareLedger> {
+    let mut ledger = BareLedger::with_seed(alloc, 0, Seed::default());
+    match ledger.reserve(opening.accounts_reserved(), opening.room) {
+        Ok(()) => Some(ledger),
+        Err(_) => {
+            drop(ledger);
+            None
+        }
+    }
 }
 
 /// Returns the line that a request prints.
@@ -113,13 +136,8 @@ fn line_of<R: Threads + Wait + Clock + Sync>(
         report,
         drivers,
         ..
-    } = run(rt, alloc, request, Ledger::new(alloc, 0))?;
-    line_of_run(
-        alloc,
-        drivers,
-        report.ledger.machine(),
-        request.opening.submitters,
-    )
+    } = run(rt, alloc, request, new_ledger(alloc, request.opening)?)?;
+    line_of_run(alloc, drivers, report.ledger.machine(), request.opening)
 }
 
 /// Returns the line that a request prints if its ledger keeps no journal.
@@ -128,18 +146,12 @@ fn line_of_bare<R: Threads + Wait + Clock + Sync>(
     alloc: Global,
     request: Request,
 ) -> Option<String> {
-    let ledger = BareLedger::with_seed(alloc, 0, Seed::default());
     let Finished {
         report,
         drivers,
         ..
-    } = run(rt, alloc, request, ledger)?;
-    line_of_run(
-        alloc,
-        drivers,
-        report.ledger.machine(),
-        request.opening.submitters,
-    )
+    } = run(rt, alloc, request, new_bare_ledger(alloc, request.opening)?)?;
+    line_of_run(alloc, drivers, report.ledger.machine(), request.opening)
 }
 
 /// Returns the submitters of a live run, by rising number.
@@ -203,7 +215,7 @@ fn main(rt: HostRuntime) -> ExitCode {
         }
         None => {
             let _ = println!(rt;
-                "usage: bench_pipeline run|bare EVENTS PACKETS SUBMITTERS CREDIT CAPACITY LIMIT | live SUBMITTERS LOADS"
+                "usage: bench_pipeline run|bare EVENTS PACKETS SUBMITTERS CREDIT CAPACITY LIMIT ROOM | live SUBMITTERS LOADS"
             );
             return ExitCode::from(1);
         }

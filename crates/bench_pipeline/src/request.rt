@@ -1,5 +1,6 @@
 //! What a run is asked for.
 
+use crate::events::ACCOUNTS;
 use std::env::Args;
 
 /// What each submitter sends: `packets` packets of `events` events, with at most `credit` of them unanswered.
@@ -10,12 +11,30 @@ pub(crate) struct Load {
     pub(crate) credit: u32,
 }
 
-/// How a pipeline is opened: the places of its queue, the most events of a batch.
+/// How a pipeline is opened: the slots of its queue, the most events of a batch, and how many transfers its ledger has
+/// capacity for.
 #[derive(Clone, Copy)]
 pub(crate) struct Opening {
     pub(crate) submitters: u32,
     pub(crate) capacity: u32,
     pub(crate) limit: u32,
+    pub(crate) room: usize,
+}
+
+impl Opening {
+    /// Returns how many accounts the submitters make.
+    pub(crate) fn accounts(self) -> u64 {
+        u64::from(self.submitters).wrapping_mul(ACCOUNTS)
+    }
+
+    /// Returns how many accounts capacity is reserved for: for all, or for none where none is for transfers.
+    pub(crate) fn accounts_reserved(self) -> usize {
+        if self.room == 0 {
+            0
+        } else {
+            self.accounts() as usize
+        }
+    }
 }
 
 /// A pipeline whose submitters send a load each.
@@ -58,11 +77,13 @@ fn next_run(words: &mut Args) -> Option<Request> {
     let credit = next_u32(words)?;
     let capacity = next_u32(words)?;
     let limit = next_u32(words)?;
+    let room = usize::try_from(next_number(words)?).ok()?;
     Some(Request {
         opening: Opening {
             submitters,
             capacity,
             limit,
+            room,
         },
         load: Load {
             events,

@@ -2,13 +2,14 @@
 //! submits, flushes, reads the reply, and unlocks.
 //!
 //!     lock EVENTS PACKETS SUBMITTERS ROOM
+//!     lock live SUBMITTERS LOADS
 //!
 //! The submitters send what those of `bench_pipeline` send, and the line printed is theirs. ROOM is how many transfers capacity is
-//! reserved for, or 0. The embedded ledger keeps no journal.
+//! reserved for, or 0. The embedded ledger keeps no journal. `live`: as `peer_lock` does it.
 
 use kip::{Ledger, Outcome, failures};
 use peer::layout::{BATCH_MAX, Failure};
-use peer::lock::{self, Committed, Load, line_of_run};
+use peer::lock::{self, Committed, Load, line_of_run, run_live};
 use peer::packet::Packet;
 use std::error::Error;
 
@@ -37,16 +38,34 @@ impl lock::Ledger for Embedded {
     }
 }
 
+/// A ledger of so many submitters.
+fn open(submitters: u32) -> Result<Embedded, Box<dyn Error>> {
+    let ledger = Ledger::open(0, BATCH_MAX, submitters)?;
+    Ok(Embedded { ledger, results: Vec::new() })
+}
+
+/// The line of a run.
+fn line_of(load: Load, room: usize) -> Result<String, Box<dyn Error>> {
+    let mut embedded = open(load.submitters)?;
+    if room > 0 {
+        embedded.ledger.reserve(load.accounts(), room)?;
+    }
+    line_of_run(embedded, load).map_err(|why| format!("{why:?}").into())
+}
+
 fn main() -> Result<(), Box<dyn Error>> {
     let words: Vec<String> = std::env::args().skip(1).collect();
-    let [events, packets, submitters, room] = &words[..] else { return Err("usage: EVENTS PACKETS SUBMITTERS ROOM".into()) };
-    let load = Load { events: events.parse()?, packets: packets.parse()?, submitters: submitters.parse()? };
-    let mut ledger = Ledger::open(0, BATCH_MAX, load.submitters)?;
-    match room.parse()? {
-        0 => {}
-        room => ledger.reserve(load.accounts(), room)?,
+    let words: Vec<&str> = words.iter().map(String::as_str).collect();
+    match words[..] {
+        ["live", submitters, loads] => {
+            let submitters = submitters.parse()?;
+            run_live(open(submitters)?, submitters, loads.parse()?).map_err(|why| format!("{why:?}"))?;
+        }
+        [events, packets, submitters, room] => {
+            let load = Load { events: events.parse()?, packets: packets.parse()?, submitters: submitters.parse()? };
+            println!("{}", line_of(load, room.parse()?)?);
+        }
+        _ => return Err("usage: EVENTS PACKETS SUBMITTERS ROOM | live SUBMITTERS LOADS".into()),
     }
-    let line = line_of_run(Embedded { ledger, results: Vec::new() }, load).map_err(|why| format!("{why:?}"))?;
-    println!("{line}");
     Ok(())
 }

@@ -1,46 +1,34 @@
 //! Submitters that wait: one for input, the others for its end.
 
 use crate::submitter::Submitter;
+use crate::waiting::Waiting;
 use crate::{Opening, run};
 use peer::events::{accounts, transfers};
+use peer::live::{self, Over, Part};
 use peer::packet::Refusal;
 use peer::tally::Tally;
-use std::io::{Read, Write, stdin, stdout};
-use std::sync::atomic::{AtomicBool, Ordering};
-use std::thread;
-use std::time::Duration;
 
 /// The packets that a submitter may have in flight.
 const CREDIT: u64 = 16;
 
 /// Sends a packet of one event for each byte of the input, and writes a byte once it has the reply.
-fn echo(submitter: &mut Submitter) -> Result<Tally, Refusal> {
+fn echo<W: Waiting>(submitter: &mut Submitter<W>) -> Result<Tally, Refusal> {
     let mut tally = Tally::default();
-    let mut sent = 0;
-    let mut byte = [0];
-    while matches!(stdin().lock().read(&mut byte), Ok(1)) {
-        sent += 1;
+    live::echo(|sent| {
         submitter.submit(transfers(submitter.submitter, sent, 1))?;
         submitter.receive(&mut tally);
-        let mut output = stdout().lock();
-        if output
-            .write_all(b".")
-            .and_then(|()| output.flush())
-            .is_err()
-        {
-            break;
-        }
-    }
+        Ok(())
+    })?;
     Ok(tally)
 }
 
 /// Sends packets of one event until the input has ended.
-fn load(submitter: &mut Submitter, over: &AtomicBool) -> Result<Tally, Refusal> {
+fn load<W: Waiting>(submitter: &mut Submitter<W>, over: &Over) -> Result<Tally, Refusal> {
     let mut tally = Tally::default();
     submitter.submit(accounts(submitter.submitter))?;
     submitter.receive(&mut tally);
     let mut sent = 0;
-    while !over.load(Ordering::Relaxed) {
+    while !over.is_ended() {
         submitter.submit(transfers(submitter.submitter, sent, 1))?;
         sent += 1;
         if sent >= CREDIT {
@@ -53,34 +41,40 @@ fn load(submitter: &mut Submitter, over: &AtomicBool) -> Result<Tally, Refusal> 
     Ok(tally)
 }
 
-/// Sleeps until the input has ended.
-fn sleep(over: &AtomicBool) -> Tally {
-    while !over.load(Ordering::Relaxed) {
-        thread::sleep(Duration::from_millis(50));
-    }
-    Tally::default()
+/// Takes a submitter's part until the input has ended, and ends.
+fn drive<W: Waiting>(
+    mut submitter: Submitter<W>,
+    part: Part,
+    over: &Over,
+) -> Result<Tally, Refusal> {
+    let tally = match part {
+        Part::Echoes => {
+            let tally = echo(&mut submitter);
+            over.end();
+            tally
+        }
+        Part::Loads => load(&mut submitter, over),
+        Part::Sleeps => {
+            over.wait();
+            Ok(Tally::default())
+        }
+    };
+    submitter.end();
+    tally
 }
 
 /// A live run, until its input ends.
-pub fn run_live(submitters: u32, loads: u32) -> Result<(), Refusal> {
-    let over = AtomicBool::new(false);
+pub fn run_live<W: Waiting>(submitters: u32, loads: u32) -> Result<(), Refusal> {
+    let over = Over::default();
     let opening = Opening {
         submitters,
         capacity: 64,
         limit: 8190,
+        room: 0,
     };
-    run(opening, CREDIT, |mut submitter| {
-        let tally = match submitter.submitter {
-            0 => {
-                let tally = echo(&mut submitter);
-                over.store(true, Ordering::Relaxed);
-                tally
-            }
-            number if number <= loads => load(&mut submitter, &over),
-            _ => Ok(sleep(&over)),
-        };
-        submitter.end();
-        tally
+    run::<W>(opening, CREDIT, |submitter| {
+        let part = Part::of(submitter.submitter, loads);
+        drive(submitter, part, &over)
     })?;
     Ok(())
 }

@@ -1,36 +1,39 @@
 //! A pipeline in Rust over the original crates, to measure the pipeline of this repository against: submission queue,
 //! batcher, committer over the state machine, demultiplexer, and a ring of replies for each submitter.
 //!
-//!     peer_pipeline run EVENTS PACKETS SUBMITTERS CREDIT CAPACITY LIMIT
-//!     peer_pipeline live SUBMITTERS LOADS
+//!     peer_pipeline yielding|parking run EVENTS PACKETS SUBMITTERS CREDIT CAPACITY LIMIT ROOM
+//!     peer_pipeline yielding|parking live SUBMITTERS LOADS
+//!
+//! A thread that waits yields for ever (`yielding`), or yields 64 times and then sleeps until it is woken (`parking`).
 //!
 //! `run`: each submitter makes a thousand accounts and sends PACKETS packets of EVENTS plain transfers between them, with at
-//! most CREDIT of them unanswered, over a queue of CAPACITY slots and in batches of at most LIMIT events. Prints sums
-//! over the replies and the balances, which are the same in every order.
+//! most CREDIT of them unanswered, over a queue of CAPACITY slots and in batches of at most LIMIT events. ROOM is how many
+//! transfers capacity is reserved for, or 0. Prints sums over the replies and the balances, which are the same in every order.
 //!
 //! `live`: the first submitter sends a packet of one event for each byte of the standard input, and writes a byte when it
 //! has the reply. LOADS others send packets of one event at credit 16 until the input ends, the rest sleep until then.
 
+mod ends;
 mod live;
 mod ring;
 mod stages;
 mod submitter;
+mod waiting;
 mod work;
 
-use crossbeam_queue::ArrayQueue;
+use ends::{Queue, ends};
 use live::run_live;
 use peer::events::ACCOUNTS;
 use peer::machine::Machine;
 use peer::packet::Refusal;
 use peer::state_machine::StateMachine;
 use peer::tally::Tally;
-use ring::{Consumer, Producer, ring};
 use stages::{batch_all, commit_all, route_all};
 use std::error::Error;
 use std::sync::Arc;
 use std::thread;
 use submitter::{Load, Submitter};
-use work::Reply;
+use waiting::{Parking, Waiting, Yielding};
 
 /// The slots of the rings between the stages.
 const STAGE_SLOTS: usize = 8;
@@ -43,6 +46,15 @@ struct Opening {
     capacity: usize,
     /// The most events of a batch.
     limit: u32,
+    /// How many transfers capacity is reserved for.
+    room: usize,
+}
+
+impl Opening {
+    /// The accounts of all submitters.
+    fn accounts(&self) -> usize {
+        self.submitters as usize * ACCOUNTS as usize
+    }
 }
 
 /// What is left of a run: the sums over all replies, and the machine.
@@ -52,22 +64,23 @@ struct Report {
 }
 
 /// Runs a thread for each submitter, which drives it, and for each stage; this one is the batcher.
-fn run(
+fn run<W: Waiting>(
     opening: Opening,
     credit: u64,
-    drive: impl Fn(Submitter) -> Result<Tally, Refusal> + Sync,
+    drive: impl Fn(Submitter<W>) -> Result<Tally, Refusal> + Sync,
 ) -> Result<Report, Refusal> {
     let Opening {
         submitters,
         capacity,
         limit,
+        room,
     } = opening;
     let drive = &drive;
-    let queue = Arc::new(ArrayQueue::new(capacity));
-    let (batches, parcels) = ring(STAGE_SLOTS);
-    let (made, outcomes) = ring(STAGE_SLOTS);
-    let (outlets, inlets): (Vec<Producer<Reply>>, Vec<Consumer<Reply>>) =
-        (0..submitters).map(|_| ring(credit as usize)).unzip();
+    let queue = Arc::new(Queue::new(capacity));
+    let (batches, parcels) = ends(STAGE_SLOTS);
+    let (made, outcomes) = ends(STAGE_SLOTS);
+    let (outlets, inlets): (Vec<_>, Vec<_>) =
+        (0..submitters).map(|_| ends(credit as usize)).unzip();
     thread::scope(|scope| {
         let drivers: Vec<_> = (0..submitters)
             .zip(inlets)
@@ -80,7 +93,8 @@ fn run(
             })
             .map(|submitter| scope.spawn(move || drive(submitter)))
             .collect();
-        let committer = scope.spawn(move || commit_all(parcels, made));
+        let committer = scope
+            .spawn(move || commit_all(Machine::with_room(opening.accounts(), room), parcels, made));
         scope.spawn(move || route_all(outcomes, outlets));
         batch_all(&queue, submitters as usize, limit, batches);
         let mut tally = Tally::default();
@@ -96,16 +110,26 @@ fn run(
 }
 
 /// The line of a run.
-fn line_of_run(opening: Opening, load: Load) -> Result<String, Refusal> {
-    let Report { tally, machine } = run(opening, load.credit, |submitter| submitter.drive(load))?;
-    let balances = machine.sum_of_balances(opening.submitters as usize * ACCOUNTS as usize);
+fn line_of_run<W: Waiting>(opening: Opening, load: Load) -> Result<String, Refusal> {
+    let Report { tally, machine } =
+        run::<W>(opening, load.credit, |submitter| submitter.drive(load))?;
+    let balances = machine.sum_of_balances(opening.accounts());
     Ok(format!("{tally} balances {balances}"))
 }
 
-/// The line that the arguments ask for.
-fn line_of(words: &[&str]) -> Result<String, Box<dyn Error>> {
+/// The line that the arguments ask for, which is empty for a live run.
+fn line_of<W: Waiting>(words: &[&str]) -> Result<String, Box<dyn Error>> {
     match words {
-        ["run", events, packets, submitters, credit, capacity, limit] => {
+        [
+            "run",
+            events,
+            packets,
+            submitters,
+            credit,
+            capacity,
+            limit,
+            room,
+        ] => {
             let load = Load {
                 events: events.parse()?,
                 packets: packets.parse()?,
@@ -115,24 +139,29 @@ fn line_of(words: &[&str]) -> Result<String, Box<dyn Error>> {
                 submitters: submitters.parse()?,
                 capacity: capacity.parse()?,
                 limit: limit.parse()?,
+                room: room.parse()?,
             };
-            line_of_run(opening, load).map_err(|why| format!("{why:?}").into())
+            line_of_run::<W>(opening, load).map_err(|why| format!("{why:?}").into())
         }
         ["live", submitters, loads] => {
-            run_live(submitters.parse()?, loads.parse()?).map_err(|why| format!("{why:?}"))?;
+            run_live::<W>(submitters.parse()?, loads.parse()?).map_err(|why| format!("{why:?}"))?;
             Ok(String::new())
         }
-        _ => Err(
-            "usage: run EVENTS PACKETS SUBMITTERS CREDIT CAPACITY LIMIT | live SUBMITTERS LOADS"
-                .into(),
-        ),
+        _ => Err(USAGE.into()),
     }
 }
+
+const USAGE: &str = "usage: yielding|parking run EVENTS PACKETS SUBMITTERS CREDIT CAPACITY LIMIT ROOM | \
+                     yielding|parking live SUBMITTERS LOADS";
 
 fn main() -> Result<(), Box<dyn Error>> {
     let words: Vec<String> = std::env::args().skip(1).collect();
     let words: Vec<&str> = words.iter().map(String::as_str).collect();
-    let line = line_of(&words)?;
+    let line = match words.split_first() {
+        Some((&"yielding", asked)) => line_of::<Yielding>(asked)?,
+        Some((&"parking", asked)) => line_of::<Parking>(asked)?,
+        _ => return Err(USAGE.into()),
+    };
     if !line.is_empty() {
         println!("{line}");
     }

@@ -1,8 +1,8 @@
 //! The stages: batcher, committer and demultiplexer, each in a thread of its own.
 
-use crate::ring::{Consumer, Producer};
-use crate::work::{Batch, Item, Job, Outcome, Parcel, Queue, Reply};
-use crossbeam_utils::Backoff;
+use crate::ends::{Inlet, Outlet, Queue};
+use crate::waiting::Waiting;
+use crate::work::{Batch, Item, Job, Outcome, Parcel, Reply};
 use peer::layout::{CREATE_ACCOUNTS, EVENT_SIZE, Failure};
 use peer::machine::Machine;
 use peer::packet::{Entry, Stub};
@@ -46,24 +46,19 @@ impl Group {
     }
 }
 
-/// Pushes as soon as there is room.
-fn give<T>(ring: &mut Producer<T>, value: T) {
-    let mut value = value;
-    let backoff = Backoff::new();
-    while let Err(back) = ring.push(value) {
-        value = back;
-        backoff.snooze();
-    }
-}
-
-fn give_held(held: &mut Option<Group>, batches: &mut Producer<Parcel>) {
+fn give_held<W: Waiting>(held: &mut Option<Group>, batches: &mut Outlet<Parcel, W>) {
     if let Some(group) = held.take() {
-        give(batches, Parcel::Batch(group.batch));
+        batches.give(Parcel::Batch(group.batch));
     }
 }
 
 /// Puts a packet into the batch held, or hands that on and begins another.
-fn join(held: &mut Option<Group>, job: Job, limit: u32, batches: &mut Producer<Parcel>) {
+fn join<W: Waiting>(
+    held: &mut Option<Group>,
+    job: Job,
+    limit: u32,
+    batches: &mut Outlet<Parcel, W>,
+) {
     let may_share = job.packet.may_share();
     match held {
         Some(group) if group.takes(&job, may_share, limit) => group.add(job),
@@ -75,25 +70,26 @@ fn join(held: &mut Option<Group>, job: Job, limit: u32, batches: &mut Producer<P
 }
 
 /// Joins packets to batches until all submitters have ended.
-pub fn batch_all(queue: &Queue, submitters: usize, limit: u32, mut batches: Producer<Parcel>) {
+pub fn batch_all<W: Waiting>(
+    queue: &Queue<W>,
+    submitters: usize,
+    limit: u32,
+    mut batches: Outlet<Parcel, W>,
+) {
     let mut held = None;
     let mut ended = 0;
-    let backoff = Backoff::new();
     while ended < submitters {
-        match queue.pop() {
-            Some(Item::Packet(job)) => {
-                join(&mut held, job, limit, &mut batches);
-                backoff.reset();
-            }
-            Some(Item::End) => ended += 1,
-            None => {
-                give_held(&mut held, &mut batches);
-                backoff.snooze();
-            }
+        let item = queue.try_take().unwrap_or_else(|| {
+            give_held(&mut held, &mut batches);
+            queue.take()
+        });
+        match item {
+            Item::Packet(job) => join(&mut held, job, limit, &mut batches),
+            Item::End => ended += 1,
         }
     }
     give_held(&mut held, &mut batches);
-    give(&mut batches, Parcel::Last);
+    batches.give(Parcel::Last);
 }
 
 /// The machine and what it committed.
@@ -131,31 +127,31 @@ impl Ledger {
     }
 }
 
-/// Commits batches until the last parcel.
-pub fn commit_all(mut batches: Consumer<Parcel>, mut outcomes: Producer<Outcome>) -> Ledger {
+/// Commits batches to a new machine until the last parcel.
+pub fn commit_all<W: Waiting>(
+    machine: Machine,
+    mut batches: Inlet<Parcel, W>,
+    mut outcomes: Outlet<Outcome, W>,
+) -> Ledger {
     let mut ledger = Ledger {
-        machine: Machine::new(0),
+        machine,
         journal: Vec::new(),
         places: 0,
     };
-    let backoff = Backoff::new();
-    loop {
-        match batches.pop() {
-            Some(Parcel::Batch(batch)) => {
-                backoff.reset();
-                give(&mut outcomes, ledger.commit(batch));
-            }
-            Some(Parcel::Last) => {
-                give(&mut outcomes, Outcome::Last);
-                return ledger;
-            }
-            None => backoff.snooze(),
-        }
+    while let Parcel::Batch(batch) = batches.take() {
+        outcomes.give(ledger.commit(batch));
     }
+    outcomes.give(Outcome::Last);
+    ledger
 }
 
 /// Gives each packet of a batch its own failures, and hands it back.
-fn route(replies: &mut [Producer<Reply>], place: u64, jobs: Vec<Job>, failures: &[Failure]) {
+fn route<W: Waiting>(
+    replies: &mut [Outlet<Reply, W>],
+    place: u64,
+    jobs: Vec<Job>,
+    failures: &[Failure],
+) {
     let mut left = failures;
     let mut offset = 0;
     for (mut job, place) in jobs.into_iter().zip(place..) {
@@ -166,27 +162,20 @@ fn route(replies: &mut [Producer<Reply>], place: u64, jobs: Vec<Job>, failures: 
             code: failure.code,
         }));
         let outlet = &mut replies[job.packet.submitter as usize];
-        give(outlet, Reply { job, place });
+        outlet.give(Reply { job, place });
         left = rest;
         offset = end;
     }
 }
 
 /// Hands replies out until the last outcome.
-pub fn route_all(mut outcomes: Consumer<Outcome>, mut replies: Vec<Producer<Reply>>) {
-    let backoff = Backoff::new();
-    loop {
-        match outcomes.pop() {
-            Some(Outcome::Committed {
-                place,
-                jobs,
-                failures,
-            }) => {
-                backoff.reset();
-                route(&mut replies, place, jobs, &failures);
-            }
-            Some(Outcome::Last) => return,
-            None => backoff.snooze(),
-        }
+pub fn route_all<W: Waiting>(mut outcomes: Inlet<Outcome, W>, mut replies: Vec<Outlet<Reply, W>>) {
+    while let Outcome::Committed {
+        place,
+        jobs,
+        failures,
+    } = outcomes.take()
+    {
+        route(&mut replies, place, jobs, &failures);
     }
 }

@@ -1,16 +1,16 @@
 //! A submitter in a thread of its own.
 
-use crate::ring::Consumer;
-use crate::work::{Item, Job, Queue, Reply, push_waiting};
-use crossbeam_utils::Backoff;
+use crate::ends::{Inlet, Queue};
+use crate::waiting::Waiting;
+use crate::work::{Item, Job, Reply};
 use peer::events::{accounts, transfers};
 use peer::packet::{Packet, Refusal};
 use peer::tally::Tally;
 use std::sync::Arc;
 
-pub struct Submitter {
-    pub queue: Arc<Queue>,
-    pub replies: Consumer<Reply>,
+pub struct Submitter<W> {
+    pub queue: Arc<Queue<W>>,
+    pub replies: Inlet<Reply, W>,
     pub submitter: u32,
     /// The most events of a packet.
     pub limit: u32,
@@ -26,7 +26,7 @@ pub struct Load {
     pub credit: u64,
 }
 
-impl Submitter {
+impl<W: Waiting> Submitter<W> {
     /// The packet's number.
     pub fn submit(&mut self, packet: Packet) -> Result<u64, Refusal> {
         let count = packet.admit(self.limit)?;
@@ -37,21 +37,15 @@ impl Submitter {
             count,
             failures: Vec::with_capacity(count as usize),
         };
-        push_waiting(&self.queue, Item::Packet(job));
+        self.queue.give(Item::Packet(job));
         self.queued += 1;
         Ok(number)
     }
 
     /// Waits for the next reply.
     pub fn receive(&mut self, tally: &mut Tally) {
-        let backoff = Backoff::new();
-        loop {
-            if let Some(reply) = self.replies.pop() {
-                tally.add(reply.job.failures.len(), reply.place);
-                return;
-            }
-            backoff.snooze();
-        }
+        let reply = self.replies.take();
+        tally.add(reply.job.failures.len(), reply.place);
     }
 
     /// Makes the accounts, and then sends the load; the sums over its replies.
@@ -80,6 +74,6 @@ impl Submitter {
 
     /// Queues nothing more.
     pub fn end(&self) {
-        push_waiting(&self.queue, Item::End);
+        self.queue.give(Item::End);
     }
 }

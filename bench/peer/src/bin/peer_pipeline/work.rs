@@ -1,7 +1,5 @@
 //! What goes between the threads.
 
-use crossbeam_queue::ArrayQueue;
-use crossbeam_utils::Backoff;
 use peer::layout::Failure;
 use peer::packet::{Packet, Stub};
 
@@ -17,8 +15,6 @@ pub enum Item {
     Packet(Job),
     End,
 }
-
-pub type Queue = ArrayQueue<Item>;
 
 /// Packets of one operation whose data is committed as one.
 pub struct Batch {
@@ -47,14 +43,4 @@ pub enum Outcome {
 pub struct Reply {
     pub job: Job,
     pub place: u64,
-}
-
-/// Pushes as soon as there is room.
-pub fn push_waiting(queue: &Queue, item: Item) {
-    let mut item = item;
-    let backoff = Backoff::new();
-    while let Err(back) = queue.push(item) {
-        item = back;
-        backoff.snooze();
-    }
 }
