@@ -144,29 +144,29 @@ pub record HasOneMore (old new : Parts) (job : Numbered) : Type 0 where
   pub body : new.body.items ≡ old.body.items ++ job.packet.bytes
 
 -- a job for which there was room
-pub batch_more : (old new : Parts) {job : Numbered} {shares : Bool} {events : ℕ} (limit : ℕ) → HasOneMore old new job
+pub batch_more : {old new : Parts} {job : Numbered} {shares : Bool} {events : ℕ} (limit : ℕ) → HasOneMore old new job
     → IsGroupOf old shares events → limit ≤ 8190 → is_taken limit old.jobs.items job ≡ true
     → IsOk (admission_of 8190 job.packet)
     → HasRoom old.operation (events + count_of job.packet) new.failures new.accounts
     → IsGroupOf new shares (events + count_of job.packet)
-batch_more old new {job} {shares} {events} limit more h low taken ok room =
+batch_more {old} {new} {job} {shares} {events} limit more group low taken admitted room =
     let count : count_of_all new.jobs.items ≡ events + count_of job.packet = ap count_of_all more.jobs
-    ∙ count_of_all-push old.jobs.items job ∙ ap (λ n. n + count_of job.packet) (sym h.counted) in
+    ∙ count_of_all-push old.jobs.items job ∙ ap (λ n. n + count_of job.packet) (sym group.counted) in
     let lawful : IsLawful new.operation new.jobs.items =
-    rw (more.operation, more.jobs) (lawful_more old.operation limit old.jobs.items job h.whole.lawful low ok taken) in
+    rw (more.operation, more.jobs) (lawful_more old.operation limit old.jobs.items job group.whole.lawful low admitted taken) in
     record {
       whole = record {
         lawful = lawful;
-        stubs = more.stubs ∙ ap (λ ss. ss ++ stub_of job ∷ []) h.whole.stubs
+        stubs = more.stubs ∙ ap (λ ss. ss ++ stub_of job ∷ []) group.whole.stubs
             ∙ sym (map-append stub_of old.jobs.items (job ∷ [])) ∙ ap (map stub_of) (sym more.jobs);
-        body = more.body ∙ ap (λ bs. bs ++ job.packet.bytes) h.whole.body
+        body = more.body ∙ ap (λ bs. bs ++ job.packet.bytes) group.whole.body
             ∙ ap (λ bs. body_of old.jobs.items ++ bs) (sym (append-nil job.packet.bytes))
             ∙ sym (flat_map-append (λ (j : Numbered). j.packet.bytes) old.jobs.items (job ∷ []))
             ∙ ap body_of (sym more.jobs);
         room = rw (more.operation, count) room;
       };
-      sharing = (and_parts shares _ (sym (taken_by old shares events limit job h ok) ∙ taken)).0
-          ∙ sym (lawful.alone (omega (arith, h.whole.lawful.some, ap length more.jobs, length-append old.jobs.items (job ∷ []))));
+      sharing = (and_parts shares _ (sym (taken_by old shares events limit job group admitted) ∙ taken)).0
+          ∙ sym (lawful.alone (omega (arith, group.whole.lawful.some, ap length more.jobs, length-append old.jobs.items (job ∷ []))));
       counted = sym count;
     }
 

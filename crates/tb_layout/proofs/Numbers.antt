@@ -31,17 +31,16 @@ bytes_low_first-bytes_of place (suc size) number =
     rw (byte_at-pow place number, bytes_low_first-bytes_of (suc place) size number, next) refl
 
 -- a write at an offset, seen from the front
-pub written : (offset size count number : ℕ) (xs part : List ℕ) → offset + size ≤ length xs
-    → count ≡ offset + size - offset →
-    part ≡ bytes_low_first 0 size number ++ drop size (take count (drop offset xs)) →
-    take (offset + size) (put_mid offset count xs part) ≡ take offset xs ++ bytes_of size number
-written offset size count number xs part h count_is is =
+pub written : (offset size number : ℕ) (xs part : List ℕ) → offset + size ≤ length xs
+    → part ≡ bytes_low_first 0 size number ++ drop size (take (offset + size - offset) (drop offset xs))
+    → take (offset + size) (put_mid offset (offset + size - offset) xs part) ≡ take offset xs ++ bytes_of size number
+written offset size number xs part within is =
+    let count = offset + size - offset in
+    let replaced = take count (drop offset xs) in
     let low : bytes_low_first 0 size number ≡ bytes_of size number = bytes_low_first-bytes_of 0 size number
     ∙ ap (bytes_of size) (div-one number) in
-    let none : drop size (take count (drop offset xs))
-    ≡ [] =
-    drop_all size (take count (drop offset xs)) (omega
-    (arith, length-take-le count (drop offset xs) (omega (arith, length-drop offset xs)))) in
+    let none : drop size replaced ≡ [] =
+    drop_all size replaced (omega (arith, length-take-le count (drop offset xs) (omega (arith, length-drop offset xs)))) in
     let exact : part ≡ bytes_of size number =
     is ∙ ap (λ bytes. bytes_low_first 0 size number ++ bytes) none ∙ append-nil (bytes_low_first 0 size number) ∙ low in
     take-put_mid offset count xs part (offset + size)

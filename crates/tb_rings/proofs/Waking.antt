@@ -39,22 +39,20 @@ notified_more : (changed : ℕ) (word : Word) → is_notified (changed + 1) word
 notified_more changed word = grind arith
 
 -- what a thread is on its way to tell may change
-notified_still : (notified : Bool) (values more : ℕ) (asked given : Bool) (waking : ℕ) (word : Word) (reader : Reader)
-    → is_right notified values asked waking word reader ≡ true → is_right true more given waking word reader ≡ true
-notified_still notified values more asked given waking word (Awake none going) h = grind arith
-notified_still notified values more asked given waking word reader h = grind arith
+module _ (s : Waking) (more : ℕ) (given : Bool) where
+  notified_still : (notified : Bool) (reader : Reader) → is_right notified s.values s.asked s.waking s.word reader ≡ true
+      → is_right true more given s.waking s.word reader ≡ true
+  notified_still notified (Awake none going) right = grind arith
+  notified_still notified reader right = grind arith
 
-change_keeps : (values more : ℕ) (asked given : Bool) (changed waking : ℕ) (word : Word) (reader : Reader)
-    → is_right (is_notified changed word) values asked waking word reader ≡ true
-    → is_right (is_notified (changed + 1) word) more given waking word reader ≡ true
-change_keeps values more asked given changed waking word reader h =
-    rw notified_more (notified_still (is_notified changed word) values more asked given waking word reader h)
+  change_keeps : is_sound s ≡ true → is_sound (record s { values = more; asked = given; changed = s.changed + 1 }) ≡ true
+  change_keeps right = rw notified_more (notified_still (is_notified s.changed s.word) s.reader right)
 
 -- ---- each step keeps it
 
 keeps : (s : Waking) (step : Step) → is_sound s ≡ true → stays_sound (stepped s step) ≡ true
-keeps s Give h = change_keeps s.values (s.values + 1) s.asked s.asked s.changed s.waking s.word s.reader h
-keeps s Ask h = change_keeps s.values s.values s.asked true s.changed s.waking s.word s.reader h
+keeps s Give h = change_keeps s (s.values + 1) s.asked h
+keeps s Ask h = change_keeps s s.values true h
 keeps s Notify h = grind arith
 keeps s Wake h = grind arith
 keeps s Look h = grind arith

@@ -39,6 +39,5 @@ invariant_of-self-2 c =
       stubs = put.stubs ∙ ap (λ ss. ss ++ stub_of c.args.job ∷ []) room.jobs.1;
       body = put.body ∙ ap (λ bs. bs ++ c.args.job.packet.bytes) room.jobs.2;
     } in
-    rw c.stub.ensures.value (batch_more c.self.inside.parts c.append.new.self c.args.limit more c.self.invariant
-    c.requires.limit (ap (λ js. is_taken c.args.limit js c.args.job) c.self.view_is ∙ c.requires.joins)
-    put.admitted has_room)
+    rw c.stub.ensures.value (batch_more c.args.limit more c.self.invariant c.requires.limit
+    (ap (λ js. is_taken c.args.limit js c.args.job) c.self.view_is ∙ c.requires.joins) put.admitted has_room)
