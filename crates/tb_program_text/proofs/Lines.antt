@@ -4,17 +4,15 @@ use Rattle.tb_program_text.proofs.Words.{nil_from_length, IsOk, Fault, ParsedScr
 use Rattle.tb_program_text.specs.clauses.Text.{lines_of}
 use Rattle.tb_program_text.specs.clauses.Script.{after_line, after_lines}
 
-pub line_parsed : (number : ℕ) (parsed next : ParsedScript) (all : List (List ℕ)) (line : List ℕ) (lines : List (List ℕ))
-    → all ≡ line ∷ lines → after_line parsed line ≡ Ok next →
-    after_lines number parsed all ≡ after_lines (number + 1) next lines
+pub line_parsed : (number : ℕ) (parsed : ParsedScript) {next : ParsedScript} {line : List ℕ} {all lines : List (List ℕ)}
+    → all ≡ line ∷ lines → after_line parsed line ≡ Ok next → after_lines number parsed all ≡ after_lines (number + 1) next lines
 unfolding after_lines
-line_parsed number parsed next all line lines e h = rw e (rw h refl)
+line_parsed number parsed first is = rw first (rw is refl)
 
-pub line_faulty : (number : ℕ) (parsed : ParsedScript) (fault : Fault) (all : List (List ℕ)) (line : List ℕ)
-    (lines : List (List ℕ)) → all ≡ line ∷ lines → after_line parsed line ≡ Err fault →
-    after_lines number parsed all ≡ Err (number, fault)
+pub line_faulty : (number : ℕ) (parsed : ParsedScript) {fault : Fault} {line : List ℕ} {all lines : List (List ℕ)}
+    → all ≡ line ∷ lines → after_line parsed line ≡ Err fault → after_lines number parsed all ≡ Err (number, fault)
 unfolding after_lines
-line_faulty number parsed fault all line lines e h = rw e (rw h refl)
+line_faulty number parsed first is = rw first (rw is refl)
 
 pub lines_ended : (number : ℕ) (parsed : ParsedScript) (bs : List ℕ) → length bs ≡ 0
     → after_lines number parsed (lines_of bs) ≡ Ok parsed
@@ -40,10 +38,14 @@ after_lines-append number parsed next (line ∷ front) back h =
     let count : number + 1 + length front ≡ number + suc (length front) = omega arith in
     rw step.1 (after_lines-append (number + 1) step.0 next front back step.2 ∙ ap (λ n. after_lines n next back) count)
 
+module _ (number : ℕ) (parsed next : ParsedScript) (lines others : List (List ℕ)) (line : List ℕ) (fault : Fault) where
+  first_fault : after_lines number parsed lines ≡ Ok next → after_line next line ≡ Err fault
+      → after_lines number parsed (lines ++ line ∷ others) ≡ Err (number + length lines, fault)
+  first_fault fine faulty =
+      after_lines-append number parsed next lines (line ∷ others) fine ∙ line_faulty (number + length lines) next refl faulty
+
 pub decides : FirstFaultDecides
-decides number parsed next lines others line fault h f =
-    after_lines-append number parsed next lines (line ∷ others) h
-    ∙ line_faulty (number + length lines) next fault (line ∷ others) line others refl f
+decides = first_fault
 
 faultless_step : (number : ℕ) (parsed : ParsedScript) (line : List ℕ) (lines : List (List ℕ)) (r : Result ParsedScript Fault)
     → r ≡ after_line parsed line → IsOk r →
@@ -54,9 +56,8 @@ faultless_step number parsed line lines (Err fault) e fine rest = cc
 
 pub faultless : FaultlessLinesAreParsed
 unfolding after_lines
-faultless number parsed [] h = refl
-faultless number parsed (line ∷ lines) h =
-    faultless_step number parsed line lines (after_line parsed line) refl (h [] lines line parsed refl refl)
-    (λ next e. faultless (number + 1) next lines (λ front back later before is fine.
-    h (line ∷ front) back later before (ap (λ ls. line ∷ ls) is)
-    (line_parsed number parsed next (line ∷ front) line front refl e ∙ fine)))
+faultless number parsed [] none_faulty = refl
+faultless number parsed (line ∷ lines) none_faulty =
+    faultless_step number parsed line lines (after_line parsed line) refl (none_faulty [] lines line parsed refl refl)
+    (λ next is. faultless (number + 1) next lines (λ front back later before parts fine.
+    none_faulty (line ∷ front) back later before (ap (λ ls. line ∷ ls) parts) (line_parsed number parsed refl is ∙ fine)))

@@ -7,7 +7,7 @@ pub loop-rest-preserved : goal.loop-rest-preserved
 loop-rest-preserved c =
     let first = first_of_lines c.loop-rest.rest.now c.in-Ok.others.now (search rules) c.in-Ok.ensures.others in
     record {
-      same = sym (line_parsed (c.loop-rest.number + 1) _ _ _ _ _ first.lines c.in-Ok.ensures.script)
+      same = sym (line_parsed (c.loop-rest.number + 1) _ first.lines c.in-Ok.ensures.script)
           ∙ c.loop-rest.invariant.same;
       counted = omega (arith, first.shorter);
     }
@@ -21,7 +21,7 @@ pub returns-in-Err-Fault : goal.returns-in-Err-Fault
 returns-in-Err-Fault c =
     let first = first_of_lines c.loop-rest.rest.now _ (search rules) refl in
     rw c.in-Err-Fault.field-0-is (sym c.loop-rest.invariant.same
-    ∙ line_faulty (c.loop-rest.number + 1) _ _ _ _ _ first.lines
+    ∙ line_faulty (c.loop-rest.number + 1) _ first.lines
     (rw c.in-Err-Fault.field-0-is at c.in-Err-Fault.ensures.script))
 
 pub returns : goal.returns
