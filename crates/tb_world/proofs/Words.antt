@@ -19,6 +19,7 @@ pub use Rattle.tb_core.specs.claim.Front.{FrontState, take_step, with_group, all
 pub use Rattle.tb_core.specs.claim.Journal.{LedgerState, inputs, inputs_since}
 pub use Rattle.tb_core.specs.claim.Ledger.{apply_step, Applied, must_stop, apply_result, with_stop, with_entry, step_of_batch, new_ledger}
 pub use Rattle.tb_core.specs.claim.Run.{Commits, replies_in, Ran}
+pub use Rattle.tb_core.specs.claim.TwoRuns.{FollowsOn}
 pub use Rattle.tb_core.specs.declared.outcomes.Outcomes.{Outcomes}
 pub use Rattle.tb_core.specs.declared.parcel.Parcel.{Parcel}
 pub use Rattle.tb_layout.specs.claim.Events.{Input}
@@ -27,7 +28,7 @@ pub use Rattle.tb_work.specs.claim.Packet.{Numbered, ReplyValue, input_of}
 pub use Rattle.tb_work.specs.claim.Queue.{is_end, IsUnended, IsEnded, IsSubmitted, AreSubmitted, AreNumbered, IsQueueOf}
 pub use Rattle.tb_work.specs.declared.item.Item.{Item}
 pub use Rattle.tb_work.specs.declared.item.Ticket.{Ticket}
-pub use Rattle.tb_world.specs.clauses.EveryOrder.{pushed_at, history, is_refused, HasPlaces, IsAtRest, IsLawfulSoFar, NoneStopped, IsLawfulAtRest, HasRun, RunsGoOn, WorldsFollow, is_push}
+pub use Rattle.tb_world.specs.clauses.EveryOrder.{run_of, pushed_at, history, is_refused, HasPlaces, IsAtRest, IsLawfulSoFar, NoneStopped, IsLawfulAtRest, HasRun, RunsGoOn, WorldsFollow, is_push}
 pub use Rattle.tb_world.specs.clauses.Mailbox.{empty_mailbox, Mailbox, mailbox_at, with_reply, mailboxes_with, after_pop_of}
 pub use Rattle.tb_world.specs.clauses.Progress.{unread, in_flight, has_credit, uses_credit, UseCredit, has_reply_slot, CreditLeavesRoom, left, left_of_last, MayMove, HasFinished, RunsOut, HasRested, IsRound, all_of, has_room, run_within, LeftIsBounded, EachStepCounts, FairRunsAreAnswered, left_of_parcel, left_of_pushed, left_of_outcome, left_of_outcomes, moved_within, is_same_step, is_step_of, readers, one_round, OneRoundIsARound, FairListsRest, owed, left_of_batcher}
 pub use Rattle.tb_world.specs.clauses.Pushing.{may_push, may_push_item, newcomer, sender_after}

@@ -1,6 +1,6 @@
 -- The reports of a World: so far, if nothing was refused, and at rest.
 use Rattle.std.proofs.Common.{refl, sym, ap, subst, ◌∙◌, ◌≡◌, ℕ, ◌<◌, ◌==◌, false, List, [], ◌∷◌, ◌++◌, map, length, append_assoc, append-nil, Option, Some, None}
-use Rattle.tb_world.proofs.Words.{map-append, Input, Numbered, ReplyValue, ahead, items_in, Item, Ticket, Outcomes, Parcel, Event, Pop, BatchPush, BatchPop, OutcomePush, OutcomePop, ReplyPush, ReplyPop, outcome_at, reply_due, all_due_from, all_due, replies_to, Place, Ahead, next_place, inputs_in, Decision, Admitted, AreDecisions, all_decisions_in, held_by, LedgerState, inputs, inputs_since, Commits, Ran, Mailbox, mailbox_at, after_pop_of, WorldState, pop, batch_push, batch_pop, outcome_push, outcome_pop, reply_push, reply_pop, received_of, after_event, run, world_over, IsPrefix, history, IsAtRest, IsLawfulSoFar, NoneStopped, IsLawfulAtRest, HasRun, RunsGoOn, WorldsFollow, is-prefix-trans, prefix-filter, ahead-first, none_of_first, none_among, SoFar, so_far, run_is_lawful}
+use Rattle.tb_world.proofs.Words.{map-append, Input, Numbered, ReplyValue, ahead, items_in, Item, Ticket, Outcomes, Parcel, Event, Pop, BatchPush, BatchPop, OutcomePush, OutcomePop, ReplyPush, ReplyPop, outcome_at, reply_due, all_due_from, all_due, replies_to, Place, Ahead, next_place, inputs_in, Decision, Admitted, AreDecisions, all_decisions_in, held_by, LedgerState, inputs, inputs_since, Commits, Ran, Mailbox, mailbox_at, after_pop_of, WorldState, pop, batch_push, batch_pop, outcome_push, outcome_pop, reply_push, reply_pop, received_of, after_event, run, world_over, IsPrefix, history, IsAtRest, IsLawfulSoFar, NoneStopped, IsLawfulAtRest, FollowsOn, run_of, HasRun, RunsGoOn, WorldsFollow, is-prefix-trans, prefix-filter, ahead-first, none_of_first, none_among, SoFar, so_far, run_is_lawful}
 use Rattle.tb_world.proofs.orders.Pushed.{numbered_by, queue_of_all}
 use Rattle.tb_world.proofs.orders.Holding.{on_the_way, unrouted, of_all, of_one, shelved, Holds, Goes}
 use Rattle.tb_world.proofs.orders.Runs.{GoesOn, all_holds}
@@ -213,6 +213,11 @@ runs_go_on start limit n before events world ran =
     has_run start limit n (before ++ events) (run world events) ran.began
     (ap (λ (w : WorldState). run w events) ran.is ∙ sym (run_more (world_over start limit n) before events))
 
+module _ (start : LedgerState) (submitters : ℕ) (queue : List Ticket) (first second : WorldState) (limit others : ℕ)
+    (events : List Event) where
+  follows : HasRun first.ledger limit others events second → FollowsOn (run_of start submitters queue first)
+      (run_of first.ledger others (history (world_over first.ledger limit others) events) second)
+  follows ran = record { opening = ran.so_far.opening; before = refl }
+
 pub worlds_follow : WorldsFollow
-worlds_follow start submitters queue first second limit others events ran =
-    record { opening = ran.so_far.opening; before = refl }
+worlds_follow = follows

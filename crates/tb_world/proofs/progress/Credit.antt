@@ -1,6 +1,6 @@
 -- Within the credit a reply ring has room for each reply.
 use Rattle.std.proofs.Common.{refl, sym, ap, subst, ◌∙◌, arith, ◌≡◌, ◌≢◌, ⊎_elim, ℕ, ◌+◌, ◌-◌, ◌<◌, ◌≤◌, ◌==◌, Bool, true, false, List, [], ◌∷◌, ◌++◌, length, length-append, set, Option, Some, None, unwrap_or, ltb-true, lt-ltb, eq-eqb, get_or-set_other}
-use Rattle.tb_world.proofs.Words.{if◌then◌else◌, nat_lt, cases_eq, cases_lt, length-map, get_or-set_same, set_past, get_or-replicate, get_or_past, length-replicate, Input, ReplyValue, items_in, items_from, AreSubmitted, Item, Ticket, all_due, replies_to, Ahead, IsPrefix, LedgerState, inputs, prefix-filter, one-each, Event, Push, WorldSender, newcomer, sender_after, empty_mailbox, mailbox_at, WorldState, sender_at, is_lawful, senders_after, received_of, moved, after_event, run, world_over, unread, in_flight, has_credit, uses_credit, UseCredit, has_reply_slot, CreditLeavesRoom}
+use Rattle.tb_world.proofs.Words.{if◌then◌else◌, nat_lt, cases_eq, cases_lt, length-map, get_or-set_same, set_past, get_or-replicate, get_or_past, length-replicate, Input, ReplyValue, items_in, items_from, AreSubmitted, Item, Ticket, all_due, replies_to, Ahead, IsPrefix, LedgerState, inputs, Commits, prefix-filter, one-each, Event, Push, ReplyPush, WorldSender, newcomer, sender_after, empty_mailbox, mailbox_at, WorldState, sender_at, is_lawful, senders_after, received_of, moved, after_event, run, world_over, unread, in_flight, has_credit, uses_credit, UseCredit, has_reply_slot, has_room, CreditLeavesRoom}
 use Rattle.tb_work.specs.declared.item.Item.TheVariants as item
 use Rattle.tb_core.specs.claim.Headline.{packets_queued}
 use Rattle.tb_core.proofs.Packets.{jobs-part}
@@ -163,8 +163,15 @@ room_for {n} {w} h credit in_credit some (reply ∷ replies) r =
         let own : (s == s) ≡ true = eq-eqb s s refl in
         rw (r, own) (omega arith)
 
+module _ (start : LedgerState) (limit submitters credit slots : ℕ) (events : List Event) where
+  abbrev begin : WorldState
+  begin = world_over start limit submitters
+
+  leaves_room : Commits start [] start [] → 0 < credit → UseCredit credit begin events
+      → has_room slots credit (run begin events) ReplyPush ≡ true
+  leaves_room began some uses =
+      room_for (all_holds start limit submitters events began) credit
+      (run_keeps credit begin events uses (new_keeps credit start limit submitters)) some (run begin events).replies refl
+
 pub credit_leaves_room : CreditLeavesRoom
-credit_leaves_room start limit n credit slots events began some uses =
-    let begin = world_over start limit n in
-    room_for (all_holds start limit n events began) credit
-    (run_keeps credit begin events uses (new_keeps credit start limit n)) some (run begin events).replies refl
+credit_leaves_room = leaves_room

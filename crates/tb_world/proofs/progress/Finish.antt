@@ -167,24 +167,6 @@ runs_out old w event far may takes =
       takes = takes;
     }
 
-pub has_rested : (start : LedgerState) (limit n : ℕ) (events : List Event) (old world : WorldState)
-    → HasRun start limit n events old → HasFinished old world → HasRested start limit n events world
-has_rested start limit n events old world ran finished =
-    let begin = world_over start limit n in
-    let same = history_same begin events finished.steps finished.no_push in
-    let further = subst (HasRun start limit n (events ++ finished.steps)) (sym finished.leads)
-    (runs_go_on start limit n events finished.steps old ran) in
-    record {
-      steps = finished.steps;
-      ran = further;
-      no_push = finished.no_push;
-      none_more = same;
-      unrefused = finished.unrefused;
-      few = omega (arith, finished.few, ap left ran.is, left_is_bounded start limit n events);
-      rest = finished.rest;
-      answered = subst (λ (queue : List Ticket). IsLawfulAtRest start n queue world) same (further.at_rest finished.rest);
-    }
-
 -- ---- rounds
 
 abbrev always : WorldState → Event → Bool
@@ -208,16 +190,43 @@ rounds_push_nothing n [] all = refl
 rounds_push_nothing n (round ∷ rounds) all =
     rw (list_any-append is_push round (all_of rounds), all.0.no_push, rounds_push_nothing n rounds all.1) refl
 
+-- ---- runs over a ledger
+
+module _ (start : LedgerState) (limit submitters : ℕ) (events : List Event) where
+  abbrev begin : WorldState
+  begin = world_over start limit submitters
+
+  pub has_rested : (old world : WorldState) → HasRun start limit submitters events old → HasFinished old world
+      → HasRested start limit submitters events world
+  has_rested old world ran finished =
+      let same = history_same begin events finished.steps finished.no_push in
+      let further = subst (HasRun start limit submitters (events ++ finished.steps)) (sym finished.leads)
+      (runs_go_on start limit submitters events finished.steps old ran) in
+      record {
+        steps = finished.steps;
+        ran = further;
+        no_push = finished.no_push;
+        none_more = same;
+        unrefused = finished.unrefused;
+        few = omega (arith, finished.few, ap left ran.is, left_is_bounded start limit submitters events);
+        rest = finished.rest;
+        answered = subst (λ (queue : List Ticket). IsLawfulAtRest start submitters queue world) same (further.at_rest finished.rest);
+      }
+
+  answered : (rounds : List (List Event)) (world : WorldState) → AllByRecursion (IsRound submitters) rounds
+      → 7 * length (history begin events) ≤ length rounds → HasRun start limit submitters (events ++ all_of rounds) world
+      → IsLawfulAtRest start submitters (history begin events) world
+  answered rounds world all enough ran =
+      let middle = run begin events in
+      let long : length middle.mailboxes ≤ submitters =
+      omega (arith, (after_all begin events).long, length-replicate submitters empty_mailbox) in
+      let same : run_within always middle (all_of rounds) ≡ world =
+      run_always middle (all_of rounds) ∙ sym (ran.is ∙ run_more begin events (all_of rounds)) in
+      let rest : IsAtRest world =
+      subst IsAtRest same (rounds_rest always (λ w event other is. refl) moves_always submitters middle rounds long all
+      (omega (arith, enough, left_is_bounded start limit submitters events))) in
+      subst (λ (queue : List Ticket). IsLawfulAtRest start submitters queue world)
+      (history_same begin events (all_of rounds) (rounds_push_nothing submitters rounds all)) (ran.at_rest rest)
+
 pub fair_runs_are_answered : FairRunsAreAnswered
-fair_runs_are_answered start limit n events rounds world all enough ran =
-    let begin = world_over start limit n in
-    let middle = run begin events in
-    let long : length middle.mailboxes ≤ n =
-    omega (arith, (after_all begin events).long, length-replicate n empty_mailbox) in
-    let same : run_within always middle (all_of rounds) ≡ world =
-    run_always middle (all_of rounds) ∙ sym (ran.is ∙ run_more begin events (all_of rounds)) in
-    let rest : IsAtRest world =
-    subst IsAtRest same (rounds_rest always (λ w event other is. refl) moves_always n middle rounds long all
-    (omega (arith, enough, left_is_bounded start limit n events))) in
-    subst (λ (queue : List Ticket). IsLawfulAtRest start n queue world)
-    (history_same begin events (all_of rounds) (rounds_push_nothing n rounds all)) (ran.at_rest rest)
+fair_runs_are_answered = answered
