@@ -4,7 +4,7 @@ use Rattle.tb_durable.proofs.Words.{flat_map-append, map-append, Row, Trees, Inp
 use Rattle.std.proofs.lemmas.List.Elements.{filter-append}
 use Rattle.tb_core.specs.claim.EachSubmitter.{is_packet_of, packets_of}
 use Rattle.tb_core.specs.claim.EndedRun.{IsPrefix}
-use Rattle.tb_durable.specs.claim.Recovery.{AreOfQueued, RecoversFromCrashes, inputs_of}
+use Rattle.tb_durable.specs.claim.Recovery.{LeavesOneOf, AreOfQueued, IsRecovered, RecoversFromCrashes, inputs_of}
 
 packets-append : (submitter : ℕ) (groups more : List (List Input))
     → packets_of submitter (inputs_of (groups ++ more)) ≡ packets_of submitter (inputs_of groups) ++ packets_of submitter (inputs_of more)
@@ -32,48 +32,54 @@ abbrev clock_of : List Row → ℕ
 clock_of [] = 0
 clock_of (first ∷ entries) = clock_in first
 
-module _ (rows rest found_rows : List Row) (old found : BareLedgerState) (j : IsJournal rows old)
-    (k : IsJournal found_rows found) (left : found_rows ≡ rows ++ rest) where
-  same_first : found_rows ≡ j.first ∷ (j.entries ++ rest)
-  same_first = left ∙ ap (λ all. all ++ rest) j.is
+-- the rows found are a journal's, and others after them
+module _ (rest : List Row) {rows found_rows : List Row} {old found : BareLedgerState} (journal : IsJournal rows old)
+    (found_journal : IsJournal found_rows found) (is : found_rows ≡ rows ++ rest) where
+  same_first : found_rows ≡ journal.first ∷ (journal.entries ++ rest)
+  same_first = is ∙ ap (λ all. all ++ rest) journal.is
 
   found_groups : groups_of found_rows ≡ groups_of rows ++ map group_in rest
   found_groups =
-      ap groups_of same_first ∙ map-append group_in j.entries rest
-      ∙ ap (λ groups. groups ++ map group_in rest) (sym (ap groups_of j.is))
+      ap groups_of same_first ∙ map-append group_in journal.entries rest
+      ∙ ap (λ groups. groups ++ map group_in rest) (sym (ap groups_of journal.is))
 
   found_committed : HasCommitted found (groups_of found_rows)
-  found_committed = subst (HasCommitted found) (sym (ap groups_of k.is)) k.committed
+  found_committed = subst (HasCommitted found) (sym (ap groups_of found_journal.is)) found_journal.committed
 
   found_opened : found.opening ≡ old.opening
-  found_opened = k.opened ∙ ap clock_of (sym k.is ∙ same_first) ∙ sym j.opened
+  found_opened = found_journal.opened ∙ ap clock_of (sym found_journal.is ∙ same_first) ∙ sym journal.opened
+
+module _ (recovers : Trees → Type 0) (rows last : List Row) (old found : BareLedgerState) (db : Trees) where
+  is_recovered : IsJournal rows old → LeavesOneOf recovers rows last → recovers db → IsJournal (db 0) found
+      → IsRecovered (groups_of rows) (map group_in last) old found
+  is_recovered journal leaves left found_journal =
+      elim (leaves db left) [
+        | inl same ↦
+            let is : db 0 ≡ rows ++ [] = same ∙ sym (append-nil rows) in
+            let all : groups_of (db 0) ≡ groups_of rows = ap groups_of same in
+            record {
+              groups = groups_of (db 0);
+              kept = ([], append-nil (groups_of rows) ∙ sym all);
+              one_of = inl all;
+              committed = found_committed [] journal found_journal is;
+              opened = found_opened [] journal found_journal is;
+              whole = λ came is_prefix.
+                  subst (λ all. IsPrefix (inputs_of all) came) (sym all) (fewer_came came (groups_of rows) (map group_in last) is_prefix);
+              each = λ queued are.
+                  subst (AreOfQueued queued) (sym all) (fewer queued (groups_of rows) (map group_in last) are);
+            }
+        | inr more ↦
+            let all = found_groups last journal found_journal more in
+            record {
+              groups = groups_of (db 0);
+              kept = (map group_in last, sym all);
+              one_of = inr all;
+              committed = found_committed last journal found_journal more;
+              opened = found_opened last journal found_journal more;
+              whole = λ came is_prefix. subst (λ all. IsPrefix (inputs_of all) came) (sym all) is_prefix;
+              each = λ queued are. subst (AreOfQueued queued) (sym all) are;
+            }
+      ]
 
 pub recovered : (recovers : Trees → Type 0) → RecoversFromCrashes recovers
-recovered recovers rows last old found db j leaves left k =
-    elim (leaves db left) [
-      | inl same ↦
-          let is : db 0 ≡ rows ++ [] = same ∙ sym (append-nil rows) in
-          let all : groups_of (db 0) ≡ groups_of rows = ap groups_of same in
-          record {
-            groups = groups_of (db 0);
-            kept = ([], append-nil (groups_of rows) ∙ sym all);
-            one_of = inl all;
-            committed = found_committed rows [] (db 0) old found j k is;
-            opened = found_opened rows [] (db 0) old found j k is;
-            whole = λ came is_prefix.
-                subst (λ all. IsPrefix (inputs_of all) came) (sym all) (fewer_came came (groups_of rows) (map group_in last) is_prefix);
-            each = λ queued are.
-                subst (AreOfQueued queued) (sym all) (fewer queued (groups_of rows) (map group_in last) are);
-          }
-      | inr more ↦
-          let all : groups_of (db 0) ≡ groups_of rows ++ map group_in last = found_groups rows last (db 0) old found j k more in
-          record {
-            groups = groups_of (db 0);
-            kept = (map group_in last, sym all);
-            one_of = inr all;
-            committed = found_committed rows last (db 0) old found j k more;
-            opened = found_opened rows last (db 0) old found j k more;
-            whole = λ came is_prefix. subst (λ all. IsPrefix (inputs_of all) came) (sym all) is_prefix;
-            each = λ queued are. subst (AreOfQueued queued) (sym all) are;
-          }
-    ]
+recovered = is_recovered

@@ -1,28 +1,31 @@
 -- What the rows of a store say of a ledger.
 use Rattle.std.proofs.Common.{◌≡◌, ◌∙◌, arith, refl, ap, subst, sym, ℕ, zero, suc, List, [], ◌∷◌, false}
-use Rattle.tb_durable.proofs.Words.{flat_map, Row, View, IsClean, doubt, BareLedgerState, with_journal, HasCommitted, LedgerState, clock_in, HasJournal, IsJournal, IsKept, IsStored, groups_of}
+use Rattle.tb_durable.proofs.Words.{flat_map, Row, View, IsClean, doubt, BareLedgerState, with_journal, HasCommitted, LedgerState, inputs, clock_in, HasJournal, IsKept, IsStored, groups_of}
+use Rattle.tb_core.specs.claim.EndedRun.{Run}
+use Rattle.tb_core.specs.claim.TwoRuns.{FollowsOn}
 use Rattle.tb_durable.specs.clauses.Runs.{RunsFollow, ShowsJournal}
 
 abbrev opening_of : List Row → ℕ
 opening_of [] = 0
 opening_of (first ∷ entries) = clock_in first
 
-journal_opening : (rows : List Row) (bare : BareLedgerState) → IsJournal rows bare → bare.opening ≡ opening_of rows
-journal_opening rows bare journal = journal.opened ∙ sym (ap opening_of journal.is)
-
-shown_opening : (view : View) (bare : BareLedgerState) (ledger : LedgerState) → ShowsJournal view bare ledger
+shown_opening : {view : View} {bare : BareLedgerState} {ledger : LedgerState} → ShowsJournal view bare ledger
     → ledger.opening ≡ opening_of (view.committed 0)
-shown_opening view bare ledger shows =
-    ap (λ (l : LedgerState). l.opening) shows.kept.journal.same
-    ∙ journal_opening (view.committed 0) bare (shows.kept.stored shows.clean shows.goes_on).1
+shown_opening shows =
+    let journal = (shows.kept.stored shows.clean shows.goes_on).1 in
+    ap (λ (l : LedgerState). l.opening) shows.kept.journal.same ∙ journal.opened ∙ sym (ap opening_of journal.is)
+
+module _ (first second : Run) (old new : View) (before after : BareLedgerState) (start : LedgerState) where
+  follows : ShowsJournal old before first.ledger → ShowsJournal new after start → new.committed 0 ≡ old.committed 0
+      → second.before ≡ inputs start → second.ledger.opening ≡ start.opening → FollowsOn first second
+  follows ended began same from opens = record {
+    opening = opens ∙ shown_opening began ∙ ap opening_of same ∙ sym (shown_opening ended);
+    before = from ∙ ap (flat_map (λ group. group)) (sym (began.kept.rows began.clean began.goes_on) ∙ ap groups_of same
+        ∙ ended.kept.rows ended.clean ended.goes_on);
+  }
 
 pub runs_follow : RunsFollow
-runs_follow first second old new before after start ended began same from opens = record {
-  opening = opens ∙ shown_opening new after start began ∙ ap opening_of same
-      ∙ sym (shown_opening old before first.ledger ended);
-  before = from ∙ ap (flat_map (λ group. group)) (sym (began.kept.rows began.clean began.goes_on) ∙ ap groups_of same
-      ∙ ended.kept.rows ended.clean ended.goes_on);
-}
+runs_follow = follows
 
 -- a stored ledger is the one with the journal that its rows have
 pub shows_rows : (view : View) (bare : BareLedgerState) → IsStored view bare → IsClean view → bare.stopped ≡ false
