@@ -90,6 +90,29 @@ def resolved_late():
     return script, [*printed, f"clock {TIMEOUT_MAX + 1112}", f"account 1 1 0 {both} 0 0", f"account 2 2 0 0 0 {both}"]
 
 
+def many_timeouts():
+    """73,710 pending transfers with a timeout in nine packets of 8,190, of one second if the id is odd, else of two. The first packet's are
+    posted by a packet of their own. The odd ones up to 36,855 expire by a pulse to the nanosecond, and the others by the next."""
+    count, expired = 9 * BATCH_MAX, (36_855 - BATCH_MAX + 1) // 2
+    script, printed = ["packet 0 129", account(1), account(2)], [f"packet 0 {number} committed {number}" for number in range(11)]
+    for first in range(1, count, BATCH_MAX):
+        ids = range(first, first + BATCH_MAX)
+        script += ["packet 0 130", *(f"{transfer(number, flags=2)} timeout={2 - number % 2}" for number in ids)]
+    script += ["packet 0 130", *(f"transfer id={count + number} pending_id={number} amount={MAX} flags=4" for number in range(1, BATCH_MAX + 1))]
+    script += [f"pulse {10**9 + 2 + 36_855}", "packet 0 131", "id 1", f"pulse {3 * 10**9}"]
+    printed += ["pulse 11", f"packet 0 11 committed 12 1:{count - BATCH_MAX - expired}:{BATCH_MAX}:0:0", "pulse 13"]
+    return script, [*printed, f"clock {3 * 10**9}", f"account 1 1 0 {BATCH_MAX} 0 0", f"account 2 2 0 0 0 {BATCH_MAX}"]
+
+
+def seventy_thousand_pulses():
+    """70,000 pulses, then a pulse and a packet that are refused, the Close, and a packet and a refused packet after it."""
+    script = [*(f"pulse {number}" for number in range(70_000)), f"pulse {2**62 + 1}", "packet 1 200", "shut", "packet 1 131", "packet 0 0"]
+    return script, [
+        *(f"pulse {number}" for number in range(70_000)), "pulse refused 12 MomentTooLarge", "packet 1 refused 1 InvalidOperation", "shut",
+        "packet 1 0 shutdown", "packet 0 refused 1 InvalidOperation", "clock 69999",
+    ]
+
+
 def failed_ids():
     """1,100 transfers whose account isn't there, each refused with 68 afterwards."""
     transfers = [transfer(number, credit=9) for number in range(1, 1101)]
@@ -317,7 +340,7 @@ ALIKE = [
 ]
 
 # What is for `list` alone: scripts with pulses or of several submitters.
-BY_LIST = [sixteen_submitters, resolved_late, many_entries]
+BY_LIST = [sixteen_submitters, resolved_late, many_entries, many_timeouts, seventy_thousand_pulses]
 
 # What takes no allocation of more than 256 bytes for each of its 2,100 items of a kind, or events.
 IN_SMALL_STEPS = [lookups_and_pulses, accounts_and_pending_transfers]
