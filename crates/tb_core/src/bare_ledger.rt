@@ -1,6 +1,6 @@
 //! The ledger without its journal.
 
-ghost use Rattle.std.specs.Prelude.{◌≡◌, ◌<◌, ◌≤◌, ◌+◌, ◌++◌, [], ℕ, List, Bool, Option, false, true, length, map, OnOk, OnErr, IfOk, IfErr, None};
+ghost use Rattle.std.specs.Prelude.{◌≡◌, ◌<◌, ◌≤◌, ◌+◌, ◌++◌, [], ℕ, List, Bool, Option, false, true, length, map, OnOk, OnErr, IfOk, IfErr, None, Some};
 ghost use Rattle.tb_layout.specs.claim.Events.{events_of, Input};
 ghost use Rattle.tb_layout.specs.claim.Limits.{clock_max};
 ghost use Rattle.tb_layout.specs.claim.Bounds.{places_max};
@@ -10,6 +10,8 @@ ghost use Rattle.tb_work.specs.claim.Packet.{input_of};
 ghost use Rattle.tb_work.specs.claim.Answer.{reply_with};
 ghost use Rattle.tb_work.specs.declared.outcome.Outcome.TheVariants.{Stopped as StoppedOutcome};
 ghost use Rattle.tb_core.specs.claim.BareLedger.{grows};
+ghost use Rattle.tb_core.specs.declared.journal.Entry.{Entry as EntryValue};
+ghost use Rattle.tb_core.specs.declared.outcomes.Outcomes.TheVariants.{Cut};
 ghost use Rattle.tb_core.specs.claim.Ledger.{group_of, IsEntry};
 ghost use Rattle.tb_core.specs.inside.BatchAnswer.{AreAnswered, answer_in};
 ghost use Rattle.tb_core.specs.claim.Decision.{cause_outcome, replies_from, Admitted};
@@ -78,21 +80,22 @@ fn answer(operation: u8, failures: Vec<Failure>, accounts: Vec<Account>) -> Answ
     }
 }
 
-/// A batch that was committed: its replies, and its entry of the journal.
+/// A parcel that was applied: its outcomes, and its entry of the journal if it was committed.
 #[derive(Drop)]
-struct Committed {
-    replies: Cutter,
-    entry: Entry,
+pub(crate) struct Recorded {
+    pub(crate) outcomes: Outcomes,
+    pub(crate) entry: Option<Entry>,
 }
 
 /// Divides the answer to a batch that was committed at a place.
-fn record(place: u64, parts: Parts) -> Committed
+fn record(place: u64, parts: Parts) -> Recorded
     requires answered { (state : State) × AreAnswered state parts }
     requires fits { place + length parts.jobs.items ≤ places_max }
-    ensures entry { (group_of result.entry ≡ map input_of parts.jobs.items) × IsEntry result.entry }
+    ensures entry { (entry : EntryValue) × (result.entry ≡ Some entry) × (group_of entry ≡ map input_of parts.jobs.items)
+        × IsEntry entry }
     ensures replies { (clock : ℕ) (before : List Input) → place ≡ length before → AreAnswered (replay clock before) parts
-        → result.replies ≡ replies_from clock (before ++ map input_of parts.jobs.items) place
-        (map Admitted parts.jobs.items) }
+        → result.outcomes ≡ Cut (replies_from clock (before ++ map input_of parts.jobs.items) place
+        (map Admitted parts.jobs.items)) }
 {
     let Parts {
         operation,
@@ -105,13 +108,13 @@ fn record(place: u64, parts: Parts) -> Committed
     // The law that each packet's part of the answer is its own.
     joining_is_invisible();
     let answer = answer(operation, failures, accounts);
-    Committed {
-        replies: Cutter::new(jobs, Outcome::Committed { place, answer }),
-        entry: Entry::Batch {
+    Recorded {
+        outcomes: Outcomes::Cut(Cutter::new(jobs, Outcome::Committed { place, answer })),
+        entry: Some(Entry::Batch {
             operation,
             body,
             stubs,
-        },
+        }),
     }
 }
 
@@ -131,13 +134,6 @@ fn returned(job: Job, cause: Cause) -> Reply
         Cause::Shutdown => Reply::of(job, Outcome::Shutdown),
         Cause::Stopped => Reply::of(job, Outcome::Stopped),
     }
-}
-
-/// A parcel that was applied: its outcomes, and its entry of the journal if it was committed.
-#[derive(Drop)]
-pub(crate) struct Recorded {
-    pub(crate) outcomes: Outcomes,
-    pub(crate) entry: Option<Entry>,
 }
 
 /// Returns the outcomes of a parcel that wasn't committed.
@@ -161,7 +157,6 @@ impl BareLedger {
     ghost use Rattle.tb_core.specs.claim.Journal.{LedgerState};
     ghost use Rattle.tb_core.specs.claim.Ledger.{new_ledger};
     ghost use Rattle.tb_core.specs.claim.BareLedger.{new_bare_ledger, halts, Applies, HasSent, IsBatch, IsEntryIf, Records, after_refusal, refusal_of, stops, places_after, places_with};
-    ghost use Rattle.tb_core.specs.declared.journal.Entry.{Entry as EntryValue};
     ghost use Rattle.tb_core.specs.claim.AnyLedger.{Applying, IsWithJournal};
 
     /// Returns a ledger that has committed nothing, whose clock starts at a number of nanoseconds, 0 to `CLOCK_MAX`,
@@ -255,12 +250,9 @@ impl BareLedger {
         }
         // The law that the machine is in the state to which the packets, one by one, bring it.
         joining_is_invisible();
-        let Committed { replies, entry } = record(self.places, parts);
+        let recorded = record(self.places, parts);
         self.places += count as u64;
-        Ok(Recorded {
-            outcomes: Outcomes::Cut(replies),
-            entry: Some(entry),
-        })
+        Ok(recorded)
     }
 
     /// Commits a pulse, unless it stopped before or has no place left. Takes no memory.

@@ -4,6 +4,7 @@ use Rattle.tb_core.proofs.Batches.{JoinInvisibly, entry_is}
 use Rattle.tb_core.proofs.Bodies.{entry_has}
 use Rattle.tb_core.proofs.LedgerSteps.{replies_from-answers}
 use Rattle.tb_core.proofs.RecordedBatch.{recorded}
+use Rattle.tb_core.specs.declared.outcomes.Outcomes.TheVariants.{Cut}
 use Rattle.tb_core.proofs.bare_ledger.record.Goals as goal
 
 pub new-requires : goal.new-requires
@@ -25,7 +26,7 @@ returns-clause-entry c =
     let whole = subst (λ body. IsBatchEntry parts.operation body parts.stubs.items) (sym answered.body)
     (subst (IsBatchEntry parts.operation (body_of parts.jobs.items)) (sym answered.stubs)
     (entry_is parts.operation parts.jobs.items answered.lawful)) in
-    (packets, whole)
+    (_, refl, packets, whole)
 
 pub returns-clause-replies : goal.returns-clause-replies
 returns-clause-replies c = λ clock before at answered.
@@ -33,6 +34,6 @@ returns-clause-replies c = λ clock before at answered.
       accounts = c.joining_is_invisible.ensures.accounts;
       transfers = c.joining_is_invisible.ensures.transfers;
     } in
-    c.new.ensures ∙ rw c.answer-answer.ensures (recorded law c.args.place
+    ap Cut (c.new.ensures ∙ rw c.answer-answer.ensures (recorded law c.args.place
     (replay clock before) c.args.parts c.requires.fits answered).replies
-    ∙ replies_from-answers clock c.args.place _ before c.args.parts.jobs.items refl at
+    ∙ replies_from-answers clock c.args.place _ before c.args.parts.jobs.items refl at)

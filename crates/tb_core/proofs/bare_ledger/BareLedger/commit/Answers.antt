@@ -1,4 +1,4 @@
-use Rattle.std.proofs.Common.{◌∙◌, ap, sym, subst, length}
+use Rattle.std.proofs.Common.{◌∙◌, ap, refl, sym, subst, length}
 use Rattle.tb_core.proofs.Words.{BareLedgerState, halts, AreAnswered}
 use Rattle.tb_core.proofs.Batches.{JoinInvisibly}
 use Rattle.tb_core.proofs.LedgerSteps.{batch_applied}
@@ -26,9 +26,10 @@ returns-clause-ok c = rw (← c.self.view_is) (λ groups is.
     let goes = ap (λ (b : BareLedgerState). halts b (length c.args.batch)) c.self.view_is
     ∙ ap (λ jobs. halts c.args.self.now (length jobs)) (sym c.jobs-count.ensures.jobs)
     ∙ sym c.halts_at.ensures ∙ c.if-halts_at.false in
-    rw c.record-replies.ensures.entry.0 (
+    let (entry, has_entry, adds, whole) = c.record-recorded.ensures.entry in
+    let replies = c.record-recorded.ensures.replies inside.opening _ is.counted
+    (subst (λ state. AreAnswered state parts) is.machine answered) in
+    rw (has_entry, replies, adds) (
       batch_entered law is answered next (ap length (c.jobs-count.ensures.jobs ∙ sym same)),
-      batch_applied is (next ∙ batch_state law inside.machine parts answered) same
-          (c.record-replies.ensures.replies inside.opening _ is.counted
-          (subst (λ state. AreAnswered state parts) is.machine answered)) goes,
+      batch_applied is (next ∙ batch_state law inside.machine parts answered) same refl goes,
     ))
