@@ -103,24 +103,8 @@ front_of_one [] remainder input e = inl refl
 front_of_one (x ∷ []) remainder input e = inr cc
 front_of_one (x ∷ y ∷ done) remainder input e = cc
 
-others_end : (clock : ℕ) (packet : Packet) (ledger : LedgerState) (ends : List EndedState)
-    (run : IsRunOfOne clock packet ledger ends) → OthersEnd run.queue
-others_end clock packet ledger ends run zero above = absurd (omega (arith, above))
-others_end clock packet ledger ends run (suc zero) above =
-    subst AreEnds (sym (run.lawful.filled.parts 1 (omega arith) ∙ run.controlled)) (refl, tt)
-others_end clock packet ledger ends run (suc (suc k)) above =
-    subst AreEnds (sym (run.lawful.filled.no_other_sender (suc (suc k)) (omega arith))) tt
-
 abbrev one_reply : ℕ → List Input → Packet → ReplyValue
 one_reply clock done packet = reply_with (outcome_at clock done (Ahead 0)) (numbered_packet 0 0 packet)
-
-pub replies_to_one : (clock : ℕ) (packet : Packet) (ledger : LedgerState) (ends : List EndedState)
-    → IsRunOfOne clock packet ledger ends → replies_of ends 0 ≡ one_reply ledger.opening (inputs ledger) packet ∷ []
-replies_to_one clock packet ledger ends run =
-    let first : items_from 0 run.queue ≡ one_and_end packet = run.lawful.filled.parts 0 (omega arith) ∙ run.submitted in
-    run.lawful.replied 0 (omega arith)
-    ∙ ap (λ replies. replies_to replies 0) (due_to_first ledger.opening (inputs ledger) (Ahead 0) run.queue
-    (others_end clock packet ledger ends run) ∙ ap (all_due_from ledger.opening (inputs ledger) (Ahead 0)) first)
 
 reply_where : (clock : ℕ) (packet : Packet) (done : List Input)
     → (done ≡ []) ⊎ (done ≡ input_of (numbered_packet 0 0 packet) ∷ [])
@@ -128,34 +112,47 @@ reply_where : (clock : ℕ) (packet : Packet) (done : List Input)
 reply_where clock packet done (inl none) = inl (ap (λ d. one_reply clock d packet) none)
 reply_where clock packet done (inr all) = inr (ap (λ d. one_reply clock d packet) all)
 
-pub is_reply : (clock : ℕ) (packet : Packet) (ledger : LedgerState) (ends : List EndedState)
-    → IsRunOfOne clock packet ledger ends → IsReplyToOne ledger.opening packet (one_reply ledger.opening (inputs ledger) packet)
-is_reply clock packet ledger ends run =
-    let first : items_from 0 run.queue ≡ one_and_end packet = run.lawful.filled.parts 0 (omega arith) ∙ run.submitted in
-    reply_where ledger.opening packet (inputs ledger) (front_of_one (inputs ledger) run.lawful.committed.0
-    (input_of (numbered_packet 0 0 packet))
-    (run.lawful.committed.1 ∙ ahead_of_first run.queue (others_end clock packet ledger ends run) ∙ ap ahead first))
+module _ {clock : ℕ} {packet : Packet} {ledger : LedgerState} {ends : List EndedState} (run : IsRunOfOne clock packet ledger ends) where
+  others_end : OthersEnd run.queue
+  others_end zero above = absurd (omega (arith, above))
+  others_end (suc zero) above =
+      subst AreEnds (sym (run.lawful.filled.parts 1 (omega arith) ∙ run.controlled)) (refl, tt)
+  others_end (suc (suc k)) above =
+      subst AreEnds (sym (run.lawful.filled.no_other_sender (suc (suc k)) (omega arith))) tt
 
--- the one end has the reply still to read
-pub lies_for_one : (clock : ℕ) (packet : Packet) (ledger : LedgerState) (ends front : List EndedState)
-    (ended : EndedState) → IsRunOfOne clock packet ledger ends → ends ≡ front ++ ended ∷ []
-    → ended.lying ≡ one_reply ledger.opening (inputs ledger) packet ∷ []
-lies_for_one clock packet ledger ends [] ended run is =
-    let unread : ended.read ≡ [] = ap (λ (l : List EndedState). (get_or l 0 ended).read) (sym is) ∙ run.unread ended in
-    ap (λ read. read ++ ended.lying) (sym unread) ∙ ap (λ l. replies_of l 0) (sym is)
-    ∙ replies_to_one clock packet ledger ends run
-lies_for_one clock packet ledger ends (x ∷ front) ended run is =
-    let long : length ends ≡ suc (length front + 1) = ap length is ∙ ap suc (length-append front (ended ∷ [])) in
-    absurd (omega (arith, long, run.long))
+  first : items_from 0 run.queue ≡ one_and_end packet
+  first = run.lawful.filled.parts 0 (omega arith) ∙ run.submitted
 
-pub is_reply_read : (clock : ℕ) (packet : Packet) (ledger : LedgerState) (ends front : List EndedState)
-    (ended : EndedState) (reply : ReplyValue) (rest : List ReplyValue) → IsRunOfOne clock packet ledger ends →
-    ends ≡ front ++ ended ∷ [] → ended.lying ≡ reply ∷ rest → IsReplyToOne clock packet reply
-is_reply_read clock packet ledger ends front ended reply rest run is lies =
-    let known = lies_for_one clock packet ledger ends front ended run is in
-    let same : one_reply ledger.opening (inputs ledger) packet ≡ reply = cc in
-    subst (λ opening. IsReplyToOne opening packet reply) run.opening
-    (subst (IsReplyToOne ledger.opening packet) same (is_reply clock packet ledger ends run))
+  abbrev reply_due_to_one : ReplyValue
+  reply_due_to_one = one_reply ledger.opening (inputs ledger) packet
+
+  replies_to_one : replies_of ends 0 ≡ reply_due_to_one ∷ []
+  replies_to_one =
+      run.lawful.replied 0 (omega arith)
+      ∙ ap (λ replies. replies_to replies 0) (due_to_first ledger.opening (inputs ledger) (Ahead 0) run.queue others_end
+      ∙ ap (all_due_from ledger.opening (inputs ledger) (Ahead 0)) first)
+
+  is_reply : IsReplyToOne ledger.opening packet reply_due_to_one
+  is_reply =
+      reply_where ledger.opening packet (inputs ledger) (front_of_one (inputs ledger) run.lawful.committed.0
+      (input_of (numbered_packet 0 0 packet))
+      (run.lawful.committed.1 ∙ ahead_of_first run.queue others_end ∙ ap ahead first))
+
+  -- the one end has the reply still to read
+  pub lies_for_one : (front : List EndedState) (ended : EndedState) → ends ≡ front ++ ended ∷ [] → ended.lying ≡ reply_due_to_one ∷ []
+  lies_for_one [] ended is =
+      let unread : ended.read ≡ [] = ap (λ (l : List EndedState). (get_or l 0 ended).read) (sym is) ∙ run.unread ended in
+      ap (λ read. read ++ ended.lying) (sym unread) ∙ ap (λ l. replies_of l 0) (sym is) ∙ replies_to_one
+  lies_for_one (other ∷ front) ended is =
+      let long : length ends ≡ suc (length front + 1) = ap length is ∙ ap suc (length-append front (ended ∷ [])) in
+      absurd (omega (arith, long, run.long))
+
+  pub is_reply_read : (front : List EndedState) (ended : EndedState) (reply : ReplyValue) (rest : List ReplyValue)
+      → ends ≡ front ++ ended ∷ [] → ended.lying ≡ reply ∷ rest → IsReplyToOne clock packet reply
+  is_reply_read front ended reply rest is lies =
+      let known = lies_for_one front ended is in
+      let same : reply_due_to_one ≡ reply = cc in
+      subst (λ opening. IsReplyToOne opening packet reply) run.opening (subst (IsReplyToOne ledger.opening packet) same is_reply)
 
 -- the one submitter of a pipeline that was just opened
 pub record IsFirst (first : SubmitterState) : Type 0 where

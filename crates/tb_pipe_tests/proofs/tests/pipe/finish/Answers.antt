@@ -5,6 +5,11 @@ use Rattle.tb_pipe_tests.proofs.tests.pipe.finish.Goals as goal
 pub returns : goal.returns
 returns g c =
     let settled = c.settle.ensures in
-    is_run c.args.pipeline c.in_ok-served.served (queued_by c.args.ends.submitters.items c.args.ends.control)
-    c.settle.result.ledger c.settle.result.ends.items c.in_ok-served.ensures.start c.in_ok-served.ensures.intake
-    settled.opening settled.report settled.grouping
+    is_run c.args.pipeline c.in_ok-served.served c.settle.result.ledger c.settle.result.ends.items
+    c.in_ok-served.ensures.start c.in_ok-served.ensures.intake (
+      c.in_ok-served.served.intake.taken,
+      queued_by c.args.ends.submitters.items c.args.ends.control,
+      settled.opening,
+      settled.report,
+      settled.grouping,
+    )
