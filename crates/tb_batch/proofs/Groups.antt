@@ -20,12 +20,12 @@ count_of_all-push (first ∷ jobs) job = omega (arith, count_of_all-push jobs jo
 -- packets of one operation are of another's if these are the same
 are_of-other : (operation other : ℕ) (jobs : List Numbered) → 0 < length jobs → are_of operation jobs ≡ true
     → are_of other jobs ≡ (operation == other)
-are_of-other operation other [] some h = absurd (omega arith)
-are_of-other operation other (job ∷ []) some h =
-    let same = eqb-true job.packet.operation operation (and_parts (job.packet.operation == operation) true h).0 in
+are_of-other operation other [] some same_operation = absurd (omega arith)
+are_of-other operation other (job ∷ []) some same_operation =
+    let same = eqb-true job.packet.operation operation (and_parts (job.packet.operation == operation) true same_operation).0 in
     rw same (elim (operation == other) as (λ b. (b && true) ≡ b) [ true ↦ refl | false ↦ refl ])
-are_of-other operation other (job ∷ next ∷ jobs) some h =
-    let parts = and_parts (job.packet.operation == operation) (are_of operation (next ∷ jobs)) h in
+are_of-other operation other (job ∷ next ∷ jobs) some same_operation =
+    let parts = and_parts (job.packet.operation == operation) (are_of operation (next ∷ jobs)) same_operation in
     let same = eqb-true job.packet.operation operation parts.0 in
     rw (same, are_of-other operation other (next ∷ jobs) (omega arith) parts.1)
     (elim (operation == other) as (λ b. (b && b) ≡ b) [ true ↦ refl | false ↦ refl ])
@@ -35,13 +35,13 @@ pub taken_by : (parts : Parts) (shares : Bool) (events limit : ℕ) (job : Numbe
     → IsOk (admission_of 8190 job.packet) → is_taken limit parts.jobs.items job ≡ (shares
     && (can_share (events_in job.packet) && ((parts.operation == job.packet.operation)
     && nat_le (events + count_of job.packet) limit)))
-taken_by parts shares events limit job h ok =
+taken_by parts shares events limit job group admitted =
     let jobs = parts.jobs.items in
-    is_joining jobs h.whole.lawful.some ∙ joins_by limit jobs job h.whole.lawful.all_admitted ok
+    is_joining jobs group.whole.lawful.some ∙ joins_by limit jobs job group.whole.lawful.all_admitted admitted
     ∙ rw (
-      are_of-other parts.operation job.packet.operation jobs h.whole.lawful.some h.whole.lawful.one_operation,
-      h.sharing,
-      h.counted,
+      are_of-other parts.operation job.packet.operation jobs group.whole.lawful.some group.whole.lawful.one_operation,
+      group.sharing,
+      group.counted,
     ) refl
   where
     is_joining : (jobs : List Numbered) → 0 < length jobs
@@ -82,13 +82,13 @@ offered_group old new job (Refused back refused) group is = rw is.1 group
 pub still_held : {E : Type 0} (result : Result (Unit {0}) E) {limit : ℕ} {old : List Numbered} (new : List Numbered) (job : Numbered)
     → IsBatcherState limit old → is_taken limit old job ≡ true →
     OnOk result (new ≡ old ++ job ∷ []) → OnErr result (new ≡ old) → IsBatcherState limit new
-still_held (Ok done) {limit} {old} new job h taken joined same =
+still_held (Ok done) {limit} {old} new job held taken joined same =
     record {
-      limit_low = h.limit_low;
-      limit_high = h.limit_high;
-      group = rw joined (group_more limit old job h.group taken);
+      limit_low = held.limit_low;
+      limit_high = held.limit_high;
+      group = rw joined (group_more limit old job held.group taken);
     }
-still_held (Err refused) new job h taken joined same = rw same h
+still_held (Err refused) new job held taken joined same = rw same held
 
 -- ---- the batch
 
@@ -117,17 +117,17 @@ admitted-push (first ∷ jobs) job all ok = (all.0, admitted-push jobs job all.1
 
 pub lawful_more : (operation limit : ℕ) (jobs : List Numbered) (job : Numbered) → IsLawful operation jobs → limit ≤ 8190
     → IsOk (admission_of 8190 job.packet) → is_taken limit jobs job ≡ true → IsLawful operation (jobs ++ job ∷ [])
-lawful_more operation limit [] job lawful low ok taken = absurd (omega (arith, lawful.some))
-lawful_more operation limit (first ∷ rest) job lawful low ok taken =
+lawful_more operation limit [] job lawful low admitted taken = absurd (omega (arith, lawful.some))
+lawful_more operation limit (first ∷ rest) job lawful low admitted taken =
     let jobs = first ∷ rest in
     let known = both_true (all_share jobs) (can_share (events_in job.packet)) (are_of job.packet.operation jobs)
     (nat_le (count_of_all jobs + count_of job.packet) limit)
-    (sym (joins_by limit jobs job lawful.all_admitted ok) ∙ taken) in
+    (sym (joins_by limit jobs job lawful.all_admitted admitted) ∙ taken) in
     let same : (operation == job.packet.operation) ≡ true =
     sym (are_of-other operation job.packet.operation jobs lawful.some lawful.one_operation) ∙ known.2 in
     record {
       some = omega (arith, length-append jobs (job ∷ []));
-      all_admitted = admitted-push jobs job lawful.all_admitted ok;
+      all_admitted = admitted-push jobs job lawful.all_admitted admitted;
       one_operation = list_all-append (λ (j : Numbered). j.packet.operation == operation) jobs (job ∷ [])
           ∙ and_from (are_of operation jobs) (are_of operation (job ∷ [])) lawful.one_operation
           (rw (sym (eqb-true operation job.packet.operation same)) (ap (λ b. b && true) (equal_numbers operation)));

@@ -9,15 +9,15 @@ use Rattle.tb_durable.proofs.StoreLemmas.{left_is}
 -- a row after those of a journal
 next_fault : {rows read : List Row} {bare : BareLedgerState} (row : Row) (left : List Row) → IsJournal read bare
     → rows ≡ read ++ row ∷ left → (error : OpenFault) → IsRowFault bare.places row error → IsCause rows error
-next_fault row left j all fault.NoMemory is = tt
-next_fault row left j all (fault.Store error) is = tt
-next_fault row left j all (fault.File error) is = tt
-next_fault row left j all fault.NotALedger is = tt
-next_fault row left j all fault.BadSettings is = tt
-next_fault row left j all (fault.OtherVersion version) is = absurd is
-next_fault {read} {bare} row left j all (fault.OutOfPlace place) is = (
+next_fault row left read_journal all fault.NoMemory is = tt
+next_fault row left read_journal all (fault.Store error) is = tt
+next_fault row left read_journal all (fault.File error) is = tt
+next_fault row left read_journal all fault.NotALedger is = tt
+next_fault row left read_journal all fault.BadSettings is = tt
+next_fault row left read_journal all (fault.OtherVersion version) is = absurd is
+next_fault {read} {bare} row left read_journal all (fault.OutOfPlace place) is = (
   row,
-  record { read = read; left = left; bare = bare; all = all; journal = j; next = sym is.0 },
+  record { read = read; left = left; bare = bare; all = all; journal = read_journal; next = sym is.0 },
   subst (λ p. rowid row ≢ Int (pos p)) (sym is.0) is.1,
 )
 next_fault {read} {bare} row left j all (fault.BadEntry place) is = (

@@ -123,13 +123,13 @@ flat_groups (row ∷ rows) = ap (λ more. group_in row ++ more) (flat_groups row
 -- the row of an entry at the next place keeps a file a file
 file_push : {rows : List Row} {bare : BareLedgerState} {before after : PacketCounts} {row : Row} → IsJournal rows bare
     → IsLedgerFile rows before → IsEntryRow bare.places before row after → IsLedgerFile (rows ++ row ∷ []) after
-file_push {bare} {before} {after} {row} j file entry =
-    let all : IsLedgerFile (j.first ∷ j.entries) before = subst (λ rs. IsLedgerFile rs before) j.is file in
-    let place : bare.places ≡ 0 + length (flat_map group_in j.entries)
-    = j.committed.counted ∙ ap length (flat_groups j.entries) ∙ omega arith in
-    subst (λ rs. IsLedgerFile (rs ++ row ∷ []) after) (sym j.is) (
+file_push {bare} {before} {after} {row} journal file entry =
+    let all : IsLedgerFile (journal.first ∷ journal.entries) before = subst (λ rs. IsLedgerFile rs before) journal.is file in
+    let place : bare.places ≡ 0 + length (flat_map group_in journal.entries)
+    = journal.committed.counted ∙ ap length (flat_groups journal.entries) ∙ omega arith in
+    subst (λ rs. IsLedgerFile (rs ++ row ∷ []) after) (sym journal.is) (
       all.0,
-      rows_push 0 no_packets before after j.entries row all.1 (subst (λ p. IsEntryRow p before row after) place entry),
+      rows_push 0 no_packets before after journal.entries row all.1 (subst (λ p. IsEntryRow p before row after) place entry),
     )
 
 -- whatever a crash leaves can be opened if the row that is being stored is an entry's at the next place

@@ -40,24 +40,24 @@ new_journal row clock bare first is =
 pub one_more : (rows : List Row) (row : Row) (old new : BareLedgerState) → IsJournal rows old
     → AddsGroup old new (group_in row) → 0 < length (group_in row) → rowid row ≡ Int (pos old.places)
     → IsJournal (rows ++ row ∷ []) new
-one_more rows row old new j adds some at =
-    let groups = map group_in j.entries in
-    let next = adds groups j.committed in
+one_more rows row old new journal adds some placed =
+    let groups = map group_in journal.entries in
+    let next = adds groups journal.committed in
     let more : old.places < new.places = omega (
       arith,
-      j.committed.counted,
+      journal.committed.counted,
       next.0.counted,
       some,
       length-all_in groups (group_in row),
     ) in
-    let place : IsBelow new.places row = ap (λ v. value_cmp v (Int (pos new.places))) at ∙ place-Less old.places new.places more in
+    let place : IsBelow new.places row = ap (λ v. value_cmp v (Int (pos new.places))) placed ∙ place-Less old.places new.places more in
     record {
-      first = j.first;
-      entries = j.entries ++ row ∷ [];
-      is = ap (λ all. all ++ row ∷ []) j.is;
-      opened = next.1 ∙ j.opened;
-      committed = subst (HasCommitted new) (sym (map-append group_in j.entries (row ∷ []))) next.0;
-      below = all_below_push new.places rows row (all_below_later old.places new.places rows more j.below) place;
+      first = journal.first;
+      entries = journal.entries ++ row ∷ [];
+      is = ap (λ all. all ++ row ∷ []) journal.is;
+      opened = next.1 ∙ journal.opened;
+      committed = subst (HasCommitted new) (sym (map-append group_in journal.entries (row ∷ []))) next.0;
+      below = all_below_push new.places rows row (all_below_later old.places new.places rows more journal.below) place;
     }
 
 -- the groups of a journal with more rows

@@ -47,9 +47,9 @@ pub some_kept : (view : View) (bare : BareLedgerState) → IsStored view bare �
     → (ledger : LedgerState) × IsKept view bare ledger
 some_kept view bare stored has goes_on = by (doubt view.is_clean) refl
   where
-    by : (n : ℕ) → doubt view.is_clean ≡ n → (ledger : LedgerState) × IsKept view bare ledger
+    by : (doubts : ℕ) → doubt view.is_clean ≡ doubts → (ledger : LedgerState) × IsKept view bare ledger
     by zero clean = (with_journal bare (groups_of (view.committed 0)), (shows_rows view bare stored clean goes_on).kept)
-    by (suc n) unclean = (
+    by (suc doubts) unclean = (
       with_journal bare has.0,
       record {
         journal = record { same = refl; committed = has.1 };

@@ -103,15 +103,15 @@ module _ {L : Type 0} (is : L → LedgerState → Type 0) (old new : AnyEngineSt
       more_by (slice_set new.numbers submitter (number + 1)) new.shut took (omega (arith, among))
       (λ queue are. packet_queued_as submitter packet are is_number took.same.0 took.same.1 among long)
 
-  pub control_by : (x : Item) → TookBy (ticket_of old.front.submitters x)
-      → IsSubmitted old.front.submitters old.front.submitters x
-      → IsNext old.front.submitters 0 x → 0 + packets_in (x ∷ []) ≡ 0 → old.shut ≡ false →
-      QueuesBy is old (ticket_of old.front.submitters x) (record new { shut = is_end x })
-  control_by x took own next none on =
-      let n = old.front.submitters in
-      more_by new.numbers (is_end x) took (omega arith) (λ queue are.
-      subst (λ ns. AreQueued n (queue ++ ticket_of n x ∷ []) ns (is_end x)) (sym took.same.0)
-      (control_queued n queue old.numbers old.shut are x own next none on))
+  pub control_by : (item : Item) → TookBy (ticket_of old.front.submitters item)
+      → IsSubmitted old.front.submitters old.front.submitters item
+      → IsNext old.front.submitters 0 item → 0 + packets_in (item ∷ []) ≡ 0 → old.shut ≡ false →
+      QueuesBy is old (ticket_of old.front.submitters item) (record new { shut = is_end item })
+  control_by item took own next none on =
+      let control = old.front.submitters in
+      more_by new.numbers (is_end item) took (omega arith) (λ queue are.
+      subst (λ ns. AreQueued control (queue ++ ticket_of control item ∷ []) ns (is_end item)) (sym took.same.0)
+      (control_queued control queue old.numbers old.shut are item own next none on))
 
   -- the group held committed
   pub group_by : ((start : LedgerState) (items : List Item) (read : List ReplyValue)

@@ -99,17 +99,18 @@ module _ (submitters : ℕ) (queue : List Ticket) (numbers : List ℕ) (shut : B
       }
 
   -- the control queues an item that isn't a packet
-  pub control_queued : (x : Item) → IsSubmitted submitters submitters x → IsNext submitters 0 x → 0 + packets_in (x ∷ []) ≡ 0
-      → shut ≡ false → AreQueued submitters (queue ++ ticket_of submitters x ∷ []) numbers (is_end x)
-  control_queued x own is none on = record {
-    submitted = all-push (λ (t : Ticket). IsSubmitted submitters t.sender t.item) queue (ticket_of submitters x)
+  pub control_queued : (item : Item) → IsSubmitted submitters submitters item → IsNext submitters 0 item
+      → 0 + packets_in (item ∷ []) ≡ 0 → shut ≡ false
+      → AreQueued submitters (queue ++ ticket_of submitters item ∷ []) numbers (is_end item)
+  control_queued item own is none on = record {
+    submitted = all-push (λ (t : Ticket). IsSubmitted submitters t.sender t.item) queue (ticket_of submitters item)
         are.submitted own;
-    no_other_sender = no_other_sender_stays submitters x (omega arith);
-    each = λ sender below. others sender submitters (get_or numbers sender 0) false x
+    no_other_sender = no_other_sender_stays submitters item (omega arith);
+    each = λ sender below. others sender submitters (get_or numbers sender 0) false item
         (λ same. absurd (omega (arith, same, below))) (are.each sender below);
-    control = subst (λ n. HasQueued submitters n (is_end x) (items_from submitters (queue ++ ticket_of submitters x ∷ []))) none
-        (subst (HasQueued submitters (0 + packets_in (x ∷ [])) (is_end x)) (sym (part_own submitters queue x))
-        (queued_more submitters 0 (items_from submitters queue) x is
+    control = subst (λ n. HasQueued submitters n (is_end item) (items_from submitters (queue ++ ticket_of submitters item ∷ []))) none
+        (subst (HasQueued submitters (0 + packets_in (item ∷ [])) (is_end item)) (sym (part_own submitters queue item))
+        (queued_more submitters 0 (items_from submitters queue) item is
         (subst (λ b. HasQueued submitters 0 b (items_from submitters queue)) on are.control)));
   }
 

@@ -31,31 +31,31 @@ bytes_low_first-bytes_of place (suc size) number =
     rw (byte_at-pow place number, bytes_low_first-bytes_of (suc place) size number, next) refl
 
 -- a write at an offset, seen from the front
-pub written : (offset size number : ℕ) (xs part : List ℕ) → offset + size ≤ length xs
-    → part ≡ bytes_low_first 0 size number ++ drop size (take (offset + size - offset) (drop offset xs))
-    → take (offset + size) (put_mid offset (offset + size - offset) xs part) ≡ take offset xs ++ bytes_of size number
-written offset size number xs part within is =
+pub written : (offset size number : ℕ) (buffer part : List ℕ) → offset + size ≤ length buffer
+    → part ≡ bytes_low_first 0 size number ++ drop size (take (offset + size - offset) (drop offset buffer))
+    → take (offset + size) (put_mid offset (offset + size - offset) buffer part) ≡ take offset buffer ++ bytes_of size number
+written offset size number buffer part within is =
     let count = offset + size - offset in
-    let replaced = take count (drop offset xs) in
+    let replaced = take count (drop offset buffer) in
     let low : bytes_low_first 0 size number ≡ bytes_of size number = bytes_low_first-bytes_of 0 size number
     ∙ ap (bytes_of size) (div-one number) in
     let none : drop size replaced ≡ [] =
-    drop_all size replaced (omega (arith, length-take-le count (drop offset xs) (omega (arith, length-drop offset xs)))) in
+    drop_all size replaced (omega (arith, length-take-le count (drop offset buffer) (omega (arith, length-drop offset buffer)))) in
     let exact : part ≡ bytes_of size number =
     is ∙ ap (λ bytes. bytes_low_first 0 size number ++ bytes) none ∙ append-nil (bytes_low_first 0 size number) ∙ low in
-    take-put_mid offset count xs part (offset + size)
+    take-put_mid offset count buffer part (offset + size)
     (sym (ap (λ bytes. offset + length bytes) exact ∙ ap (λ n. offset + n) (length-bytes_of size number)))
-    (omega arith) ∙ ap (λ bytes. take offset xs ++ bytes) exact
+    (omega arith) ∙ ap (λ bytes. take offset buffer ++ bytes) exact
 
 -- a number in two parts, the lower of them first
 pub bytes_of-append : (size more low high : ℕ) → low < 256 ^ size
     → bytes_of size low ++ bytes_of more high ≡ bytes_of (size + more) (low + 256 ^ size * high)
 unfolding bytes_of
-bytes_of-append zero more low high h =
+bytes_of-append zero more low high low_fits =
     let count : 0 + more ≡ more = omega arith in
     let number : low + 256 ^ 0 * high ≡ high = omega arith in
     rw (count, number) refl
-bytes_of-append (suc size) more low high h =
+bytes_of-append (suc size) more low high low_fits =
     let power = pow-suc 256 size in
     let product : 256 ^ suc size * high ≡ 256 * (256 ^ size * high) = ap (λ (p : ℕ). p * high) power ∙ omega arith in
     let whole = low + 256 ^ suc size * high in
@@ -90,14 +90,14 @@ little_endian-bytes_of (suc size) number h =
 bytes_of-little_endian : (bytes : List ℕ) → All (λ byte. byte < 256) bytes
     → bytes_of (length bytes) (little_endian bytes) ≡ bytes
 unfolding bytes_of
-bytes_of-little_endian [] h = refl
-bytes_of-little_endian (byte ∷ bytes) h =
-    let small : byte < 256 = h 0 0 (omega arith) in
+bytes_of-little_endian [] are_bytes = refl
+bytes_of-little_endian (byte ∷ bytes) are_bytes =
+    let small : byte < 256 = are_bytes 0 0 (omega arith) in
     let whole = byte + 256 * little_endian bytes in
     let first : whole % 256 ≡ byte = omega arith in
     let others : whole / 256 ≡ little_endian bytes = omega arith in
     rw (first, others) (ap (λ more. byte ∷ more) (bytes_of-little_endian bytes
-    (λ place d within. h (suc place) d (omega arith))))
+    (λ place d within. are_bytes (suc place) d (omega arith))))
 
 -- ---- numbers that lie one after the other
 
@@ -140,8 +140,8 @@ end_of-le (size ∷ sizes) offset = omega (arith, end_of-le sizes (offset + size
 pub laid-fields_from : (sizes : List ℕ) (offset : ℕ) (bytes : List ℕ) → end_of sizes offset ≡ length bytes
     → All (λ byte. byte < 256) bytes →
     bytes_in_turn (fields_from sizes offset bytes) ≡ drop offset bytes
-laid-fields_from [] offset bytes h small = sym (drop_all offset bytes (omega arith))
-laid-fields_from (size ∷ sizes) offset bytes h small =
+laid-fields_from [] offset bytes ends small = sym (drop_all offset bytes (omega arith))
+laid-fields_from (size ∷ sizes) offset bytes ends small =
     let within = end_of-le sizes (offset + size) in
     let count : offset + size - offset ≡ size = omega arith in
     let part = take size (drop offset bytes) in
@@ -152,6 +152,6 @@ laid-fields_from (size ∷ sizes) offset bytes h small =
     ∙ bytes_of-little_endian part (All-take (λ byte. byte < 256) size (drop offset bytes)
     (All-drop (λ byte. byte < 256) offset bytes small)) in
     ap (λ front. front ++ bytes_in_turn (fields_from sizes (offset + size) bytes)) first
-    ∙ ap (λ back. part ++ back) (laid-fields_from sizes (offset + size) bytes h small
+    ∙ ap (λ back. part ++ back) (laid-fields_from sizes (offset + size) bytes ends small
     ∙ sym (drop-drop size offset bytes))
     ∙ take-append-drop size (drop offset bytes)

@@ -33,21 +33,21 @@ pub record IsAccount (account : Account) : Type 0 where
   pub timestamp : account.timestamp < 256 ^ 8
 
 pub account_of-account_bytes : (account : Account) → IsAccount account → account_of (account_bytes account) ≡ account
-account_of-account_bytes account h =
+account_of-account_bytes account fits =
     let all = account_fields account in λ i. record {
-      id = number_at-laid (take 0 all) 16 account.id (drop 1 all) h.id i;
-      debits_pending = number_at-laid (take 1 all) 16 account.debits_pending (drop 2 all) h.debits_pending i;
-      debits_posted = number_at-laid (take 2 all) 16 account.debits_posted (drop 3 all) h.debits_posted i;
-      credits_pending = number_at-laid (take 3 all) 16 account.credits_pending (drop 4 all) h.credits_pending i;
-      credits_posted = number_at-laid (take 4 all) 16 account.credits_posted (drop 5 all) h.credits_posted i;
-      user_data_128 = number_at-laid (take 5 all) 16 account.user_data_128 (drop 6 all) h.user_data_128 i;
-      user_data_64 = number_at-laid (take 6 all) 8 account.user_data_64 (drop 7 all) h.user_data_64 i;
-      user_data_32 = number_at-laid (take 7 all) 4 account.user_data_32 (drop 8 all) h.user_data_32 i;
-      reserved = number_at-laid (take 8 all) 4 account.reserved (drop 9 all) h.reserved i;
-      ledger = number_at-laid (take 9 all) 4 account.ledger (drop 10 all) h.ledger i;
-      code = number_at-laid (take 10 all) 2 account.code (drop 11 all) h.code i;
-      flags = number_at-laid (take 11 all) 2 account.flags (drop 12 all) h.flags i;
-      timestamp = number_at-laid (take 12 all) 8 account.timestamp (drop 13 all) h.timestamp i;
+      id = number_at-laid (take 0 all) 16 account.id (drop 1 all) fits.id i;
+      debits_pending = number_at-laid (take 1 all) 16 account.debits_pending (drop 2 all) fits.debits_pending i;
+      debits_posted = number_at-laid (take 2 all) 16 account.debits_posted (drop 3 all) fits.debits_posted i;
+      credits_pending = number_at-laid (take 3 all) 16 account.credits_pending (drop 4 all) fits.credits_pending i;
+      credits_posted = number_at-laid (take 4 all) 16 account.credits_posted (drop 5 all) fits.credits_posted i;
+      user_data_128 = number_at-laid (take 5 all) 16 account.user_data_128 (drop 6 all) fits.user_data_128 i;
+      user_data_64 = number_at-laid (take 6 all) 8 account.user_data_64 (drop 7 all) fits.user_data_64 i;
+      user_data_32 = number_at-laid (take 7 all) 4 account.user_data_32 (drop 8 all) fits.user_data_32 i;
+      reserved = number_at-laid (take 8 all) 4 account.reserved (drop 9 all) fits.reserved i;
+      ledger = number_at-laid (take 9 all) 4 account.ledger (drop 10 all) fits.ledger i;
+      code = number_at-laid (take 10 all) 2 account.code (drop 11 all) fits.code i;
+      flags = number_at-laid (take 11 all) 2 account.flags (drop 12 all) fits.flags i;
+      timestamp = number_at-laid (take 12 all) 8 account.timestamp (drop 13 all) fits.timestamp i;
     }
 
 -- the only bytes that are read as an account are its own
@@ -80,21 +80,21 @@ pub record IsTransfer (transfer : Transfer) : Type 0 where
 
 pub transfer_of-transfer_bytes : (transfer : Transfer) → IsTransfer transfer
     → transfer_of (transfer_bytes transfer) ≡ transfer
-transfer_of-transfer_bytes transfer h =
+transfer_of-transfer_bytes transfer fits =
     let all = transfer_fields transfer in λ i. record {
-      id = number_at-laid (take 0 all) 16 transfer.id (drop 1 all) h.id i;
-      debit_account_id = number_at-laid (take 1 all) 16 transfer.debit_account_id (drop 2 all) h.debit_account_id i;
-      credit_account_id = number_at-laid (take 2 all) 16 transfer.credit_account_id (drop 3 all) h.credit_account_id i;
-      amount = number_at-laid (take 3 all) 16 transfer.amount (drop 4 all) h.amount i;
-      pending_id = number_at-laid (take 4 all) 16 transfer.pending_id (drop 5 all) h.pending_id i;
-      user_data_128 = number_at-laid (take 5 all) 16 transfer.user_data_128 (drop 6 all) h.user_data_128 i;
-      user_data_64 = number_at-laid (take 6 all) 8 transfer.user_data_64 (drop 7 all) h.user_data_64 i;
-      user_data_32 = number_at-laid (take 7 all) 4 transfer.user_data_32 (drop 8 all) h.user_data_32 i;
-      timeout = number_at-laid (take 8 all) 4 transfer.timeout (drop 9 all) h.timeout i;
-      ledger = number_at-laid (take 9 all) 4 transfer.ledger (drop 10 all) h.ledger i;
-      code = number_at-laid (take 10 all) 2 transfer.code (drop 11 all) h.code i;
-      flags = number_at-laid (take 11 all) 2 transfer.flags (drop 12 all) h.flags i;
-      timestamp = number_at-laid (take 12 all) 8 transfer.timestamp (drop 13 all) h.timestamp i;
+      id = number_at-laid (take 0 all) 16 transfer.id (drop 1 all) fits.id i;
+      debit_account_id = number_at-laid (take 1 all) 16 transfer.debit_account_id (drop 2 all) fits.debit_account_id i;
+      credit_account_id = number_at-laid (take 2 all) 16 transfer.credit_account_id (drop 3 all) fits.credit_account_id i;
+      amount = number_at-laid (take 3 all) 16 transfer.amount (drop 4 all) fits.amount i;
+      pending_id = number_at-laid (take 4 all) 16 transfer.pending_id (drop 5 all) fits.pending_id i;
+      user_data_128 = number_at-laid (take 5 all) 16 transfer.user_data_128 (drop 6 all) fits.user_data_128 i;
+      user_data_64 = number_at-laid (take 6 all) 8 transfer.user_data_64 (drop 7 all) fits.user_data_64 i;
+      user_data_32 = number_at-laid (take 7 all) 4 transfer.user_data_32 (drop 8 all) fits.user_data_32 i;
+      timeout = number_at-laid (take 8 all) 4 transfer.timeout (drop 9 all) fits.timeout i;
+      ledger = number_at-laid (take 9 all) 4 transfer.ledger (drop 10 all) fits.ledger i;
+      code = number_at-laid (take 10 all) 2 transfer.code (drop 11 all) fits.code i;
+      flags = number_at-laid (take 11 all) 2 transfer.flags (drop 12 all) fits.flags i;
+      timestamp = number_at-laid (take 12 all) 8 transfer.timestamp (drop 13 all) fits.timestamp i;
     }
 
 -- the only bytes that are read as a transfer are its own

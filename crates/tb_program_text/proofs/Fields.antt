@@ -86,8 +86,8 @@ module _ (layout : Layout) where
       after_word layout (drafted front given) (field_word field)
       ≡ Ok (drafted (front ++ bytes_of field.size field.number) (set given index true))
   unfolding after_word field_and_number
-  one_field field front given is h unset room =
-      let small = fits field.size field.number is.small h in
+  one_field field front given is of_its_size unset room =
+      let small = fits field.size field.number is.small of_its_size in
       let bytes = bytes_of field.size field.number in
       let tail : drop (length front + field.size) (front ++ replicate (128 - length front) 0)
       ≡ replicate (128 - length (front ++ bytes)) 0 =
@@ -98,7 +98,7 @@ module _ (layout : Layout) where
         sides_of_named field.name (decimal field.number) is.bare,
         is.found,
         unset,
-        number_within-decimal 0 (256 ^ field.size - 1) field.number (omega arith) (omega (arith, h)) small,
+        number_within-decimal 0 (256 ^ field.size - 1) field.number (omega arith) (omega (arith, of_its_size)) small,
       )
       (rw (take-append_seam front (replicate (128 - length front) 0), lowest field.size field.number is.small, tail) refl)
 
@@ -108,20 +108,20 @@ module _ (layout : Layout) where
       bytes_after (after_words layout (drafted front given) (map field_word fields))
       ≡ Ok (front ++ bytes_in_turn (map sized fields))
   unfolding after_words
-  all_fields index front given [] turn h unset room =
+  all_fields index front given [] turn of_their_sizes unset room =
       let none : 128 - length front ≡ 0 = omega (arith, room) in
       rw none refl
-  all_fields index front given (field ∷ fields) turn h unset room =
+  all_fields index front given (field ∷ fields) turn of_their_sizes unset room =
       let bytes = bytes_of field.size field.number in
       let long : length (front ++ bytes) ≡ length front + field.size =
       omega (arith, length-append front bytes, length-bytes_of field.size field.number) in
       let still : NoneGivenFrom (suc index) (set given index true) = λ later after.
       get_or-set_other given index later true false (omega arith) ∙ unset later (omega arith) in
       rw (one_field field front given turn.0
-      (All-head IsOfItsSize field fields h) (unset index (omega arith)) (omega (arith, room)))
+      (All-head IsOfItsSize field fields of_their_sizes) (unset index (omega arith)) (omega (arith, room)))
       (all_fields (suc index) (front ++ bytes) (set given index true) fields
       (subst (λ (offset : ℕ). AreInTurn layout (suc index) offset fields) (sym long) turn.1)
-      (All-tail IsOfItsSize field fields h) still (omega (arith, long, room))
+      (All-tail IsOfItsSize field fields of_their_sizes) still (omega (arith, long, room))
       ∙ ap Ok (append_assoc front bytes (bytes_in_turn (map sized fields))))
 
 -- ---- lines
@@ -160,11 +160,11 @@ AreWhole layout fields = AreInTurn layout 0 0 fields × (size_of_fields fields �
 module _ (layout : Layout) where
   good_words : (index offset : ℕ) (keyword : List ℕ) (fields : List NamedNumber)
       → AreInTurn layout index offset fields → All IsOfItsSize fields → AreGoodWords keyword fields
-  good_words index offset keyword [] turn h = record { words = refl; short = omega arith }
-  good_words index offset keyword (field ∷ fields) turn h =
-      let small = fits field.size field.number turn.0.small (All-head IsOfItsSize field fields h) in
+  good_words index offset keyword [] turn of_their_sizes = record { words = refl; short = omega arith }
+  good_words index offset keyword (field ∷ fields) turn of_their_sizes =
+      let small = fits field.size field.number turn.0.small (All-head IsOfItsSize field fields of_their_sizes) in
       let rest = good_words (suc index) (offset + field.size) (field_word field) fields turn.1
-      (All-tail IsOfItsSize field fields h) in
+      (All-tail IsOfItsSize field fields of_their_sizes) in
       record {
         words = rw (field_is_word field.name field.number turn.0.word small, rest.words) refl;
         short = omega (
@@ -180,17 +180,17 @@ module _ (layout : Layout) where
   event_is_laid_out : (fields : List NamedNumber) → AreWhole layout fields → All IsOfItsSize fields
       → event_of layout (map field_word fields) ≡ Ok (bytes_in_turn (map sized fields))
   unfolding event_of
-  event_is_laid_out fields whole h = all_fields layout 0 [] (replicate 13 false) fields whole.0 h
+  event_is_laid_out fields whole of_their_sizes = all_fields layout 0 [] (replicate 13 false) fields whole.0 of_their_sizes
       (λ later after. none_given 13 later) (omega (arith, whole.1))
 
   line_adds : {keyword : Keyword} (name : List ℕ) (fields : List NamedNumber) → AreWhole layout fields
       → All IsOfItsSize fields → MakesEvents keyword layout → IsNamed keyword name
       → Adds (fields_line name fields) (bytes_in_turn (map sized fields))
-  line_adds name fields whole h makes named = λ parsed begun.
-      let words = good_words 0 0 name fields whole.0 h in
+  line_adds name fields whole of_their_sizes makes named = λ parsed begun.
+      let words = good_words 0 0 name fields whole.0 of_their_sizes in
       (keyword_line named parsed (map field_word fields) words.words (omega (arith, words.short, named.short, whole.2))
       ((makes parsed).0 ∙ begun)
-      ((makes parsed).1 (map field_word fields) ∙ rw (event_is_laid_out fields whole h) refl)).read
+      ((makes parsed).1 (map field_word fields) ∙ rw (event_is_laid_out fields whole of_their_sizes) refl)).read
 
 at : {layout : Layout} {index offset size : ℕ} {name : List ℕ} → look_up name (fields_of layout) ≡ Some (field index offset size) →
     list_all (λ byte. not (byte == 61)) name ≡ true

@@ -83,11 +83,11 @@ pub record Trimmed (text rest : List ℕ) : Type 0 where
   pub within : length (first_line rest) ≤ length (first_line text)
 
 pub trimmed_text : (text rest : List ℕ) → rest ≡ drop (spaces text) text → Trimmed text rest
-trimmed_text text rest e =
+trimmed_text text rest is =
     let only = spaces_only text in
     let cut = cut_line text (spaces text)
     (list_all-implied (λ byte. byte == 32) (λ byte. not (byte == 10)) (take (spaces text) text) no_end only) in
-    rw e (record {
+    rw is (record {
       words = sym (ap words_of cut.before ∙ words_after (take (spaces text) text) (first_line (drop (spaces text) text)) only);
       begins = line_begins (drop (spaces text) text) (trimmed_begins text);
       others = sym cut.rest;
@@ -116,14 +116,14 @@ pub record WordCut (text : List ℕ) (count : ℕ) : Type 0 where
   pub rest : IsAfterFirstWord text (drop count text)
 
 pub word_cut : (text : List ℕ) (count : ℕ) → count ≤ length text → count ≡ position_or_len ends_word text → WordCut text count
-word_cut text count within e =
+word_cut text count within count_is =
     let front = take count text in
     let back = first_line (drop count text) in
-    let before : list_all (λ byte. not (ends_word byte)) front ≡ true = rw e (none_before ends_word text) in
+    let before : list_all (λ byte. not (ends_word byte)) front ≡ true = rw count_is (none_before ends_word text) in
     let none = list_all-implied (λ byte. not (ends_word byte)) (λ byte. not (byte == 10)) front no_end_in_word before in
     let cut = cut_line text count none in
     let long : length front ≡ count = length-take-le count text within in
-    let at : word_end (first_line text) ≡ length front = sym (word_end_in_line text) ∙ sym e ∙ sym long in
+    let at : word_end (first_line text) ≡ length front = sym (word_end_in_line text) ∙ sym count_is ∙ sym long in
     record {
       word = ap (λ n. take n (first_line text)) at ∙ ap (take (length front)) cut.before ∙ take-append_seam front back;
       rest = record {

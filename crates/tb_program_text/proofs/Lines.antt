@@ -29,12 +29,12 @@ pub after_lines-append : (number : ℕ) (parsed next : ParsedScript) (front back
     → after_lines number parsed front ≡ Ok next → after_lines number parsed (front ++ back)
     ≡ after_lines (number + length front) next back
 unfolding after_lines
-after_lines-append number parsed next [] back h =
+after_lines-append number parsed next [] back fine =
     let same : parsed ≡ next = cc in
     let count : number + 0 ≡ number = omega arith in
     rw (same, count) refl
-after_lines-append number parsed next (line ∷ front) back h =
-    let step = first_step number (after_line parsed line) front next h in
+after_lines-append number parsed next (line ∷ front) back fine =
+    let step = first_step number (after_line parsed line) front next fine in
     let count : number + 1 + length front ≡ number + suc (length front) = omega arith in
     rw step.1 (after_lines-append (number + 1) step.0 next front back step.2 ∙ ap (λ n. after_lines n next back) count)
 

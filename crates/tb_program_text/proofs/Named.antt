@@ -34,10 +34,10 @@ parts_of word h =
     at ∙ ap (λ byte. before_first (λ byte. byte == 61) word ++ (byte ∷ rest_after (λ byte. byte == 61) word)) sign
 
 -- if they don't, the others decide
-pub found_later : (word name : List ℕ) (f : Field) (rows : List (List ℕ × Field))
+pub found_later : (word name : List ℕ) (field : Field) (rows : List (List ℕ × Field))
     → ((number : List ℕ) → word ≡ name ++ 61 ∷ number → ⊥) →
-    named word ((name, f) ∷ rows) ≡ named word rows
-found_later word name f rows differs = elim (cases_lt (position_or_len (λ byte. byte == 61) word) (length word)) [
+    named word ((name, field) ∷ rows) ≡ named word rows
+found_later word name field rows differs = elim (cases_lt (position_or_len (λ byte. byte == 61) word) (length word)) [
   | inl below ↦
       let other : bytes_eq (before_first (λ byte. byte == 61) word) name ≡ false =
       false_from_ne_true _ (λ same. differs (rest_after (λ byte. byte == 61) word)
@@ -62,13 +62,13 @@ begins_with text word others end e = record {
 
 pub after_sign : (text word : List ℕ) (end : ℕ) → BeginsWith text word end
     → text ≡ word ++ end ∷ take (length text - (length word + 1)) (drop (length word + 1) text)
-after_sign text word end h =
+after_sign text word end begins =
     let rest : take (length text - (length word + 1)) (drop (length word + 1) text)
     ≡ drop (length word + 1) text = grind (arith, common_steps) in
     let one : suc (length word) ≡ length word + 1 = omega arith in
-    rw rest (split_at text (length word) 0 h.long
-    ∙ ap (λ front. front ++ get_or text (length word) 0 ∷ drop (suc (length word)) text) h.front
-    ∙ ap (λ byte. word ++ byte ∷ drop (suc (length word)) text) h.sign
+    rw rest (split_at text (length word) 0 begins.long
+    ∙ ap (λ front. front ++ get_or text (length word) 0 ∷ drop (suc (length word)) text) begins.front
+    ∙ ap (λ byte. word ++ byte ∷ drop (suc (length word)) text) begins.sign
     ∙ ap (λ (count : ℕ). word ++ end ∷ drop count text) one)
 
 abbrev pub row_of : Bor (List ℕ) × Field → List ℕ × Field
@@ -115,9 +115,10 @@ some_found : {Value : Type 0} (value : Option Value) {made : Value} → found va
 some_found None e = absurd (search (rules, e))
 some_found (Some value) e = cc
 
-pub names_row : (word : List ℕ) (rows : List (List ℕ × Field)) (both : Field × List ℕ) → named word rows ≡ Ok both → NamesRow word rows both
-names_row word rows both e =
-    let sides = both_done (sides_of word) (λ s. found (look_up s.0 rows) >>= λ f. Ok (f, s.1)) e in
+pub names_row : (word : List ℕ) (rows : List (List ℕ × Field)) (both : Field × List ℕ) → named word rows ≡ Ok both
+    → NamesRow word rows both
+names_row word rows both is =
+    let sides = both_done (sides_of word) (λ s. found (look_up s.0 rows) >>= λ f. Ok (f, s.1)) is in
     let row = both_done (found (look_up sides.between.0 rows)) (λ f. Ok (f, sides.between.1)) sides.ended in
     let same : (row.between, sides.between.1) ≡ both = cc in
     record {
@@ -132,17 +133,17 @@ pub named_among : (layout : Layout) (rows : List (Bor (List ℕ) × Field)) (tex
     → NamesField text (length rows) (named (first_word (first_line text)) (map row_of rows)) (Ok named_field)
     → NamesField text 13 (field_and_number layout (first_word (first_line text))) (Ok named_field)
 unfolding field_and_number
-named_among layout rows text named_field own few h =
-    let is = names_row (first_word (first_line text)) (map row_of rows) _ h.both in
+named_among layout rows text named_field own few names =
+    let is = names_row (first_word (first_line text)) (map row_of rows) _ names.both in
     record {
       both = rw (
         is.sides,
         found_row (λ word field. look_up word (fields_of layout) ≡ Some field) (map row_of rows) is.name _
             (All-map (λ row. look_up row.0 (fields_of layout) ≡ Some row.1) row_of rows own.1) is.row,
       ) refl;
-      rest = h.rest;
-      lines = h.lines;
-      rows_after = omega (arith, h.rows_after, few);
+      rest = names.rest;
+      lines = names.lines;
+      rows_after = omega (arith, names.rows_after, few);
     }
 
 -- ---- the fields of a layout are within the event

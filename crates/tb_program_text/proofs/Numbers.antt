@@ -60,21 +60,21 @@ one_more word offset within short digits digit =
           (omega (arith, length-take-le (offset + 1) word (omega arith), short, within));
     }
 
-digits_read : {E : Type 0} (word : List ℕ) (r : Result ℕ E)
-    → OkIff r ((0 < length word) × (digits_value 10 word < 2 ^ 128)) (digits_value 10 word) →
-    list_all is_ascii_digit word ≡ true → length word < 40 → result_ok r ≡ fitting (number_of word)
+digits_read : {E : Type 0} (word : List ℕ) (result : Result ℕ E)
+    → OkIff result ((0 < length word) × (digits_value 10 word < 2 ^ 128)) (digits_value 10 word) →
+    list_all is_ascii_digit word ≡ true → length word < 40 → result_ok result ≡ fitting (number_of word)
 unfolding number_of
-digits_read word (Ok n) h digits short =
+digits_read word (Ok number) read digits short =
     rw (
-      lt-ltb 0 (length word) h.0.0,
+      lt-ltb 0 (length word) read.0.0,
       lt-ltb (length word) 40 short,
       digits,
       lt-ltb (digits_value 10 word)
-          (2 ^ 128) h.0.1,
-    ) (ap Some h.1)
-digits_read word (Err e) h digits short = elim (cases_lt 0 (length word)) [
+          (2 ^ 128) read.0.1,
+    ) (ap Some read.1)
+digits_read word (Err fault) read digits short = elim (cases_lt 0 (length word)) [
   | inl some ↦ elim (cases_lt (digits_value 10 word) (2 ^ 128)) [
-    | inl small ↦ absurd (h (some, small))
+    | inl small ↦ absurd (read (some, small))
     | inr large ↦ rw (
       lt-ltb 0 (length word) some,
       lt-ltb (length word) 40 short,
@@ -86,9 +86,9 @@ digits_read word (Err e) h digits short = elim (cases_lt 0 (length word)) [
   | inr none ↦ rw (le-ltb 0 (length word) none) refl
 ]
 
-pub parsed : {E : Type 0} (word : List ℕ) (r : Result ℕ E) → ParsesUnsigned 128 10 word r →
-    list_all is_ascii_digit word ≡ true → length word < 40 → result_ok r ≡ fitting (number_of word)
-parsed word r h digits short = digits_read word r (parse_digits own 128 word r h digits) digits short
+pub parsed : {E : Type 0} (word : List ℕ) (result : Result ℕ E) → ParsesUnsigned 128 10 word result →
+    list_all is_ascii_digit word ≡ true → length word < 40 → result_ok result ≡ fitting (number_of word)
+parsed word result parses digits short = digits_read word result (parse_digits own 128 word result parses digits) digits short
 
 -- a line that begins with a number begins with a word
 pub number_first : (line : List ℕ) (n : ℕ) → number_of (first_word line) ≡ Some n

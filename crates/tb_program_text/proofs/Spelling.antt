@@ -43,26 +43,26 @@ digit_is_word x h = grind (arith, nat_tests)
 words_of-line_of_words : (words : List (List ℕ)) → list_all is_word words ≡ true
     → words_of (line_of_words words) ≡ words
 unfolding words_of
-words_of-line_of_words [] h = refl
-words_of-line_of_words (word ∷ []) h =
-    let parts = and_parts (nat_lt 0 (length word)) (list_all is_word_byte word) (and_parts (is_word word) true h).0 in
+words_of-line_of_words [] are_words = refl
+words_of-line_of_words (word ∷ []) are_words =
+    let parts = and_parts (nat_lt 0 (length word)) (list_all is_word_byte word) (and_parts (is_word word) true are_words).0 in
     ap (filter (λ w. nat_lt 0 (length w))) (slice_split_none (λ b. b == 32) word
     (all-implied is_word_byte (λ x. (x == 32) ≡ false) word no_space parts.1))
     ∙ rw parts.0 refl
-words_of-line_of_words (word ∷ next ∷ words) h =
-    let both = and_parts (is_word word) (list_all is_word (next ∷ words)) h in
+words_of-line_of_words (word ∷ next ∷ words) are_words =
+    let both = and_parts (is_word word) (list_all is_word (next ∷ words)) are_words in
     let parts = and_parts (nat_lt 0 (length word)) (list_all is_word_byte word) both.0 in
     ap (filter (λ w. nat_lt 0 (length w))) (slice_split_at (λ b. b == 32) word 32 (line_of_words (next ∷ words))
     (all-implied is_word_byte (λ x. (x == 32) ≡ false) word no_space parts.1) refl)
     ∙ rw parts.0 (ap (λ ws. word ∷ ws) (words_of-line_of_words (next ∷ words) both.1))
 
 is_text-line_of_words : (words : List (List ℕ)) → list_all is_word words ≡ true → is_text (line_of_words words) ≡ true
-is_text-line_of_words [] h = refl
-is_text-line_of_words (word ∷ []) h =
+is_text-line_of_words [] are_words = refl
+is_text-line_of_words (word ∷ []) are_words =
     list_all-implied is_word_byte is_text_byte word word_is_text
-    (and_parts (nat_lt 0 (length word)) (list_all is_word_byte word) (and_parts (is_word word) true h).0).1
-is_text-line_of_words (word ∷ next ∷ words) h =
-    let both = and_parts (is_word word) (list_all is_word (next ∷ words)) h in
+    (and_parts (nat_lt 0 (length word)) (list_all is_word_byte word) (and_parts (is_word word) true are_words).0).1
+is_text-line_of_words (word ∷ next ∷ words) are_words =
+    let both = and_parts (is_word word) (list_all is_word (next ∷ words)) are_words in
     let front = list_all-implied is_word_byte is_text_byte word word_is_text
     (and_parts (nat_lt 0 (length word)) (list_all is_word_byte word) both.0).1 in
     list_all-append is_text_byte word (32 ∷ line_of_words (next ∷ words))
@@ -138,33 +138,33 @@ record IsSpelled (n : ℕ) : Type 0 where
   digits : list_all is_ascii_digit (decimal n) ≡ true
   value : digits_value 10 (decimal n) ≡ n
 
-spelled : (n : ℕ) → n < 2 ^ 128 → IsSpelled n
-spelled n h =
-    let numeral = decimal_is_IsNumeral_wide n (omega (arith, h)) in
+spelled : (number : ℕ) → number < 2 ^ 128 → IsSpelled number
+spelled number small =
+    let numeral = decimal_is_IsNumeral_wide number (omega (arith, small)) in
     record {
       some = numeral.0.0;
-      short = length-decimal-le_wide 39 n (omega arith) (omega (arith, h)) (omega (arith, h));
-      digits = own.from (decimal n) numeral.0.1;
-      value = own.same (decimal n) numeral.0.1 ∙ numeral.1;
+      short = length-decimal-le_wide 39 number (omega arith) (omega (arith, small)) (omega (arith, small));
+      digits = own.from (decimal number) numeral.0.1;
+      value = own.same (decimal number) numeral.0.1 ∙ numeral.1;
     }
 
-pub decimal_is_word : (n : ℕ) → n < 2 ^ 128 → is_word (decimal n) ≡ true
-decimal_is_word n h =
-    let is = spelled n h in
-    rw (lt-ltb 0 (length (decimal n)) is.some) (list_all-implied is_ascii_digit is_word_byte
-    (decimal n) digit_is_word is.digits)
+pub decimal_is_word : (number : ℕ) → number < 2 ^ 128 → is_word (decimal number) ≡ true
+decimal_is_word number small =
+    let is = spelled number small in
+    rw (lt-ltb 0 (length (decimal number)) is.some) (list_all-implied is_ascii_digit is_word_byte
+    (decimal number) digit_is_word is.digits)
 
-pub length-decimal : (n : ℕ) → n < 2 ^ 128 → length (decimal n) ≤ 39
-length-decimal n h = (spelled n h).short
+pub length-decimal : (number : ℕ) → number < 2 ^ 128 → length (decimal number) ≤ 39
+length-decimal number small = (spelled number small).short
 
-pub number_within-decimal : (low high n : ℕ) → low ≤ n → n ≤ high → n < 2 ^ 128
-    → number_within low high (decimal n) ≡ Ok n
+pub number_within-decimal : (low high number : ℕ) → low ≤ number → number ≤ high → number < 2 ^ 128
+    → number_within low high (decimal number) ≡ Ok number
 unfolding number_of
-number_within-decimal low high n above below h =
-    let is = spelled n h in
+number_within-decimal low high number above below small =
+    let is = spelled number small in
     rw (
-      lt-ltb 0 (length (decimal n)) is.some,
-      lt-ltb (length (decimal n)) 40
+      lt-ltb 0 (length (decimal number)) is.some,
+      lt-ltb (length (decimal number)) 40
           (omega (arith, is.short)),
       is.digits,
       is.value,
@@ -193,14 +193,14 @@ module _ {keyword : Keyword} {name : List ℕ} (named : IsNamed keyword name) wh
       }
 
   -- of a number in its bounds
-  pub number_line : {parsed : ParsedScript} (low high : ℕ) (to : ℕ → ParsedScript) (n : ℕ)
-      → TakesNumber parsed keyword low high to → low ≤ n → n ≤ high
-      → SaysLine parsed (line_of_words (name ∷ decimal n ∷ [])) (to n)
-  number_line low high to n takes above below =
-      let small : n < 2 ^ 128 = omega (arith, takes.1, below) in
-      keyword_line _ (decimal n ∷ []) (rw (decimal_is_word n small) refl)
-      (omega (arith, named.short, length-append name (32 ∷ decimal n), length-decimal n small)) takes.0
-      (takes.2 (decimal n) ∙ rw (number_within-decimal low high n above below small) refl)
+  pub number_line : {parsed : ParsedScript} (low high : ℕ) (to : ℕ → ParsedScript) (number : ℕ)
+      → TakesNumber parsed keyword low high to → low ≤ number → number ≤ high
+      → SaysLine parsed (line_of_words (name ∷ decimal number ∷ [])) (to number)
+  number_line low high to number takes above below =
+      let small : number < 2 ^ 128 = omega (arith, takes.1, below) in
+      keyword_line _ (decimal number ∷ []) (rw (decimal_is_word number small) refl)
+      (omega (arith, named.short, length-append name (32 ∷ decimal number), length-decimal number small)) takes.0
+      (takes.2 (decimal number) ∙ rw (number_within-decimal low high number above below small) refl)
 
   -- of a setting, if it is given
   says_setting : (low high : ℕ) (to : Option ℕ → ParsedScript) (setting : Option ℕ)
@@ -220,20 +220,23 @@ given clock limit capacity credit submitters = record {
   shut = false;
 }
 
-says_settings : (s : Settings) → CanBeSet s → Says nothing_parsed (settings_lines s)
-    (given s.clock s.limit s.capacity s.credit s.submitters)
+says_settings : (settings : Settings) → CanBeSet settings → Says nothing_parsed (settings_lines settings)
+    (given settings.clock settings.limit settings.capacity settings.credit settings.submitters)
 unfolding with_line keyword_of
-says_settings s h =
+says_settings settings within =
     says_both _ _ _ _ _ (says_setting (keyword_named word.Clock (codes "clock") refl (omega arith) refl refl) 0 clock_max
-    (λ clock. given clock None None None None) s.clock (refl, omega arith, λ text. refl) h.clock)
+    (λ clock. given clock None None None None) settings.clock (refl, omega arith, λ text. refl) within.clock)
     (says_both _ _ _ _ _ (says_setting (keyword_named word.Limit (codes "limit") refl (omega arith) refl refl) 1 batch_max
-    (λ limit. given s.clock limit None None None) s.limit (refl, omega arith, λ text. refl) h.limit)
+    (λ limit. given settings.clock limit None None None) settings.limit (refl, omega arith, λ text. refl) within.limit)
     (says_both _ _ _ _ _ (says_setting (keyword_named word.Capacity (codes "capacity") refl (omega arith) refl refl) 1 capacity_max
-    (λ capacity. given s.clock s.limit capacity None None) s.capacity (refl, omega arith, λ text. refl) h.capacity)
+    (λ capacity. given settings.clock settings.limit capacity None None) settings.capacity
+    (refl, omega arith, λ text. refl) within.capacity)
     (says_both _ _ _ _ _ (says_setting (keyword_named word.Credit (codes "credit") refl (omega arith) refl refl) 1 capacity_max
-    (λ credit. given s.clock s.limit s.capacity credit None) s.credit (refl, omega arith, λ text. refl) h.credit)
+    (λ credit. given settings.clock settings.limit settings.capacity credit None) settings.credit
+    (refl, omega arith, λ text. refl) within.credit)
     (says_setting (keyword_named word.Submitters (codes "submitters") refl (omega arith) refl refl) 1 submitters_max
-    (λ submitters. given s.clock s.limit s.capacity s.credit submitters) s.submitters (refl, omega arith, λ text. refl) h.submitters))))
+    (λ submitters. given settings.clock settings.limit settings.capacity settings.credit submitters) settings.submitters
+    (refl, omega arith, λ text. refl) within.submitters))))
 
 -- ---- packets
 
@@ -275,26 +278,26 @@ says_bytes : (parsed : ParsedScript) (submitter : ℕ) (packet : packets.Packet)
     → All (λ byte. byte < 256) bytes →
     Says (adding parsed submitter packet) (map byte_line bytes)
     (adding parsed submitter (record packet { bytes = packet.bytes ++ bytes }))
-says_bytes parsed submitter packet [] h =
+says_bytes parsed submitter packet [] are_bytes =
     subst (λ bs. Says (adding parsed submitter packet) [] (adding parsed submitter (record packet { bytes = bs })))
     (sym (append-nil packet.bytes)) (says_nothing _)
-says_bytes parsed submitter packet (byte ∷ bytes) h =
-    let small = All-head (λ b. b < 256) byte bytes h in
+says_bytes parsed submitter packet (byte ∷ bytes) are_bytes =
+    let small = All-head (λ b. b < 256) byte bytes are_bytes in
     let more = record packet { bytes = packet.bytes ++ byte ∷ [] } in
     says_more _ (adding parsed submitter more) _ _ _ (says_byte parsed submitter packet byte small)
     (subst (λ bs. Says (adding parsed submitter more) (map byte_line bytes) (adding parsed submitter (record packet { bytes = bs })))
     (append_assoc packet.bytes (byte ∷ []) bytes)
-    (says_bytes parsed submitter more bytes (All-tail (λ b. b < 256) byte bytes h)))
+    (says_bytes parsed submitter more bytes (All-tail (λ b. b < 256) byte bytes are_bytes)))
 
 -- a packet's line begins the packet, and those of its bytes add them
 says_packet : (parsed : ParsedScript) (submitter : ℕ) (packet : packets.Packet) → submitters_of parsed.settings ≤ submitters_max
     → CanBeSubmitted (submitters_of parsed.settings) submitter packet →
     Says parsed (packet_lines submitter packet) (adding parsed submitter packet)
 unfolding with_line keyword_of
-says_packet parsed submitter packet few h =
+says_packet parsed submitter packet few allowed =
     let empty = record packet { bytes = [] } in
-    let first : submitter < 2 ^ 128 = omega (arith, h.known) in
-    let second : packet.operation < 2 ^ 128 = omega (arith, h.operation) in
+    let first : submitter < 2 ^ 128 = omega (arith, allowed.known) in
+    let second : packet.operation < 2 ^ 128 = omega (arith, allowed.operation) in
     let short : length (line_of_words (codes "packet" ∷ decimal submitter ∷ decimal packet.operation ∷ [])) ≤ 65536 = omega (
       arith,
       length-append (decimal submitter) (32 ∷ decimal packet.operation),
@@ -303,13 +306,14 @@ says_packet parsed submitter packet few h =
     ) in
     says_more parsed (adding parsed submitter empty) (adding parsed submitter packet) _ (map byte_line packet.bytes)
     (keyword_line (keyword_named word.Packet (codes "packet") refl (omega arith) refl refl) parsed
-    (decimal submitter ∷ decimal packet.operation ∷ []) (rw (decimal_is_word submitter first, decimal_is_word packet.operation second) refl) short refl
+    (decimal submitter ∷ decimal packet.operation ∷ [])
+    (rw (decimal_is_word submitter first, decimal_is_word packet.operation second) refl) short refl
     (rw (
-      number_within-decimal 0 (submitters_of parsed.settings - 1) submitter (omega arith) (omega (arith, h.known)) first,
-      number_within-decimal 0 255 packet.operation (omega arith) (omega (arith, h.operation)) second,
-      h.user,
+      number_within-decimal 0 (submitters_of parsed.settings - 1) submitter (omega arith) (omega (arith, allowed.known)) first,
+      number_within-decimal 0 255 packet.operation (omega arith) (omega (arith, allowed.operation)) second,
+      allowed.user,
     ) refl))
-    (says_bytes parsed submitter empty packet.bytes h.bytes)
+    (says_bytes parsed submitter empty packet.bytes allowed.bytes)
 
 -- a pulse's line says its pulse
 says_pulse : (parsed : ParsedScript) (moment : ℕ) → parsed.shut ≡ false → moment < 2 ^ 64

@@ -60,18 +60,19 @@ record Front (parts : List (List ℕ)) (n : ℕ) (bs : List ℕ) : Type 0 where
   parted : parts ≡ take n bs ∷ others
   words : some_words others ≡ words_of (drop n bs)
 
-front_more : (space : Bool) (b n : ℕ) (bs : List ℕ) → space ≡ (b == 32) → Front (slice_split (λ x. x == 32) bs) n bs →
-    Front (cond space ([] ∷ slice_split (λ x. x == 32) bs) (onto_first b (slice_split (λ x. x == 32) bs)))
-    (cond (not space) (1 + n) 0) (b ∷ bs)
+front_more : (space : Bool) (byte count : ℕ) (bytes : List ℕ) → space ≡ (byte == 32)
+    → Front (slice_split (λ x. x == 32) bytes) count bytes
+    → Front (cond space ([] ∷ slice_split (λ x. x == 32) bytes) (onto_first byte (slice_split (λ x. x == 32) bytes)))
+    (cond (not space) (1 + count) 0) (byte ∷ bytes)
 unfolding words_of
-front_more true b n bs e h =
-    record { others = slice_split (λ x. x == 32) bs; parted = refl; words = sym (words_from_space b bs (sym e)) }
-front_more false b n bs e h =
-    let one : 1 + n ≡ suc n = omega arith in
+front_more true byte count bytes is begun =
+    record { others = slice_split (λ x. x == 32) bytes; parted = refl; words = sym (words_from_space byte bytes (sym is)) }
+front_more false byte count bytes is begun =
+    let one : 1 + count ≡ suc count = omega arith in
     record {
-      others = h.others;
-      parted = ap (onto_first b) h.parted ∙ rw one refl;
-      words = h.words ∙ rw one refl;
+      others = begun.others;
+      parted = ap (onto_first byte) begun.parted ∙ rw one refl;
+      words = begun.words ∙ rw one refl;
     }
 
 front : (bs : List ℕ) → Front (slice_split (λ x. x == 32) bs) (word_end bs) bs

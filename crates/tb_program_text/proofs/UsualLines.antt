@@ -100,22 +100,22 @@ number_given draft field (Some n) e = (n, refl)
 
 -- a word is its sides with `=` between them
 sides_are : (word : List ℕ) (sides : List ℕ × List ℕ) → sides_of word ≡ Ok sides → word ≡ sides.0 ++ 61 ∷ sides.1
-sides_are word sides e = elim (cases_lt (position_or_len (λ byte. byte == 61) word) (length word)) [
+sides_are word sides is = elim (cases_lt (position_or_len (λ byte. byte == 61) word) (length word)) [
   | inl below ↦
-      let found = rw (lt-ltb (position_or_len (λ byte. byte == 61) word) (length word) below) at e in
+      let found = rw (lt-ltb (position_or_len (λ byte. byte == 61) word) (length word) below) at is in
       let same : (before_first (λ byte. byte == 61) word, after_first (λ byte. byte == 61) word) ≡ sides = cc found in
       parts_of word below ∙ ap (λ (s : List ℕ × List ℕ). s.0 ++ 61 ∷ s.1) same
   | inr above ↦
-      let found = rw (le-ltb (position_or_len (λ byte. byte == 61) word) (length word) above) at e in
+      let found = rw (le-ltb (position_or_len (λ byte. byte == 61) word) (length word) above) at is in
       absurd (search (rules, found))
 ]
 
 word_is_text : (layout : Layout) (draft : Draft) {next : Draft} (word : List ℕ) → after_word layout draft word ≡ Ok next
     → is_text word ≡ true
 unfolding after_word field_and_number
-word_is_text layout draft word e =
+word_is_text layout draft word accepted =
     let named = both_done (named word (fields_of layout))
-    (λ both. new_field draft both.0 >>= λ field. put draft field (number_of both.1)) e in
+    (λ both. new_field draft both.0 >>= λ field. put draft field (number_of both.1)) accepted in
     let new = both_done (new_field draft named.between.0) (λ field. put draft field (number_of named.between.1)) named.ended in
     let number = number_given draft new.between (number_of named.between.1) new.ended in
     let is = names_row word (fields_of layout) named.between named.began in
@@ -126,9 +126,9 @@ word_is_text layout draft word e =
 event_is_text : (layout : Layout) (draft : Draft) {next : Draft} (words : List (List ℕ)) → after_words layout draft words ≡ Ok next
     → list_all is_text words ≡ true
 unfolding after_words
-event_is_text layout draft [] e = refl
-event_is_text layout draft (word ∷ words) e =
-    let both = both_done (after_word layout draft word) (λ next. after_words layout next words) e in
+event_is_text layout draft [] accepted = refl
+event_is_text layout draft (word ∷ words) accepted =
+    let both = both_done (after_word layout draft word) (λ next. after_words layout next words) accepted in
     rw (word_is_text layout draft word both.began, event_is_text layout both.between words both.ended) refl
 
 -- ---- numbers
@@ -144,13 +144,13 @@ numbers_are_text (word ∷ words) (n ∷ numbers) e =
 
 pub two_numbers : (most first second : ℕ) (words : List (List ℕ)) → map number_of words ≡ Some first ∷ Some second ∷ []
     → first ≤ most → second ≤ 255 → packet_numbers most words ≡ Ok (first, second)
-two_numbers most first second [] e low high = cc
-two_numbers most first second (word ∷ []) e low high = cc
-two_numbers most first second (word ∷ next ∷ []) e low high =
+two_numbers most first second [] are low high = cc
+two_numbers most first second (word ∷ []) are low high = cc
+two_numbers most first second (word ∷ next ∷ []) are low high =
     let here : number_of word ≡ Some first = cc in
     let later : number_of next ≡ Some second = cc in
     rw (here, later, le-leb 0 first (omega arith), le-leb first most low, le-leb 0 second (omega arith), le-leb second 255 high) refl
-two_numbers most first second (word ∷ next ∷ more ∷ words) e low high = cc
+two_numbers most first second (word ∷ next ∷ more ∷ words) are low high = cc
 
 -- ---- a line that begins with a keyword and a space
 
@@ -161,8 +161,8 @@ pub record KeywordFirst (text name rest : List ℕ) : Type 0 where
 
 pub keyword_first : (text name rest : List ℕ) → list_all (λ byte. not (byte == 10)) name ≡ true
     → list_all (λ byte. not (byte == 32)) name ≡ true → 0 < length name → text ≡ name ++ 32 ∷ rest → KeywordFirst text name rest
-keyword_first text name rest none bare some e =
-    let begun = begins_signed (λ byte. byte == 10) text name 32 rest none refl e in
+keyword_first text name rest none bare some is =
+    let begun = begins_signed (λ byte. byte == 10) text name 32 rest none refl is in
     let line : first_line text ≡ name ++ 32 ∷ first_line rest = begun.before ∙ append_assoc name (32 ∷ []) (first_line rest) in
     let at : word_end (name ++ 32 ∷ first_line rest) ≡ length name
     = found_after (λ byte. byte == 32) name (32 ∷ first_line rest) bare ∙ omega arith in
@@ -181,19 +181,19 @@ usual_line : (parsed : ParsedScript) {next : ParsedScript} {text name rest : Lis
     length (first_line text) ≤ line_max → may_stand parsed keyword ≡ true
     → with_line parsed keyword (words_of (first_line rest)) ≡ Ok next → after_line parsed (first_line text) ≡ Ok next
 unfolding after_line
-usual_line parsed {text} {name} {rest} first named text_name text_rest short stands e =
+usual_line parsed {text} {name} {rest} first named text_name text_rest short stands says =
     let whole : is_text (first_line text) ≡ true = ap is_text first.line
     ∙ list_all-append is_text_byte name (32 ∷ first_line rest) ∙ rw (text_name, text_rest) refl in
     rw (le-ltb line_max (length (first_line text)) short, whole)
-    (ap (with_words parsed) first.words ∙ rw (named.mark, named.is, stands) e)
+    (ap (with_words parsed) first.words ∙ rw (named.mark, named.is, stands) says)
 
 -- the fields of an event are text
 fields_are_text : (parsed next : ParsedScript) (layout : Layout) (line : List ℕ)
     → with_event parsed layout (words_of line) ≡ Ok next → is_text line ≡ true
 unfolding event_of
-fields_are_text parsed next layout line e =
+fields_are_text parsed next layout line accepted =
     let draft = after_words layout blank (words_of line) in
-    let event = both_done (draft >>= λ d. Ok d.bytes) (λ bytes. Ok (with_bytes parsed bytes)) e in
+    let event = both_done (draft >>= λ d. Ok d.bytes) (λ bytes. Ok (with_bytes parsed bytes)) accepted in
     line_is_text line (event_is_text layout blank (words_of line) (both_done draft (λ d. Ok d.bytes) event.began).began)
 
 -- a line is taken if what follows its keyword and the space is

@@ -50,26 +50,27 @@ module _ (s : Waking) (more : ℕ) (given : Bool) where
 
 -- ---- each step keeps it
 
-keeps : (s : Waking) (step : Step) → is_sound s ≡ true → stays_sound (stepped s step) ≡ true
-keeps s Give h = change_keeps s (s.values + 1) s.asked h
-keeps s Ask h = change_keeps s s.values true h
-keeps s Notify h = grind arith
-keeps s Wake h = grind arith
-keeps s Look h = grind arith
-keeps s See h = grind arith
-keeps s Yield h = grind arith
-keeps s Park h = grind arith
-keeps s Try h = grind arith
-keeps s Doze h = grind arith
-keeps s Rouse h = grind arith
-keeps s Leave h = grind arith
+keeps : (state : Waking) (step : Step) → is_sound state ≡ true → stays_sound (stepped state step) ≡ true
+keeps state Give right = change_keeps state (state.values + 1) state.asked right
+keeps state Ask right = change_keeps state state.values true right
+keeps state Notify right = grind arith
+keeps state Wake right = grind arith
+keeps state Look right = grind arith
+keeps state See right = grind arith
+keeps state Yield right = grind arith
+keeps state Park right = grind arith
+keeps state Try right = grind arith
+keeps state Doze right = grind arith
+keeps state Rouse right = grind arith
+keeps state Leave right = grind arith
 
-all_keep : (s : Waking) (steps : List Step) → is_sound s ≡ true → is_sound (after_steps s steps) ≡ true
-all_keep s [] h = h
-all_keep s (step ∷ steps) h = all_keep (unwrap_or (stepped s step) s) steps (by (stepped s step) (keeps s step h))
+all_keep : (state : Waking) (steps : List Step) → is_sound state ≡ true → is_sound (after_steps state steps) ≡ true
+all_keep state [] right = right
+all_keep state (step ∷ steps) right =
+    all_keep (unwrap_or (stepped state step) state) steps (by (stepped state step) (keeps state step right))
   where
-    by : (after : Option Waking) → stays_sound after ≡ true → is_sound (unwrap_or after s) ≡ true
-    by None kept = h
+    by : (after : Option Waking) → stays_sound after ≡ true → is_sound (unwrap_or after state) ≡ true
+    by None kept = right
     by (Some next) kept = kept
 
 sound : (steps : List Step) → is_sound (after_steps opened steps) ≡ true
@@ -82,13 +83,13 @@ on_the_way : (s : Waking) → s.reader ≡ Sleeps → is_sound s ≡ true → (0
 on_the_way s sleeps h = grind arith
 
 pub no_wake_up_is_lost : NoWakeUpIsLost
-no_wake_up_is_lost steps sleeps what = by (on_the_way s sleeps (sound steps)) what
+no_wake_up_is_lost steps sleeps what = by (on_the_way state sleeps (sound steps)) what
   where
-    s : Waking
-    s = after_steps opened steps
+    state : Waking
+    state = after_steps opened steps
 
-    by : (0 < s.changed) ⊎ ((0 < s.waking) ⊎ IsIdle s) → (0 < s.values) ⊎ (s.asked ≡ true)
-        → (0 < s.changed) ⊎ (0 < s.waking)
+    by : (0 < state.changed) ⊎ ((0 < state.waking) ⊎ IsIdle state) → (0 < state.values) ⊎ (state.asked ≡ true)
+        → (0 < state.changed) ⊎ (0 < state.waking)
     by (inl changed) what = inl changed
     by (inr (inl waking)) what = inr waking
     by (inr (inr idle)) (inl some) = absurd (omega (arith, some, idle.values))
@@ -101,58 +102,58 @@ token_adds : (word : Word) (reader : Reader)
     → of_word Notified + of_reader reader Notified ≤ of_word word + of_reader reader word + 6
 token_adds word reader = grind arith
 
-notify_falls : (s next : Waking) (changed : ℕ) (word : Word) → s.changed ≡ changed → notify s changed word ≡ Some next
-    → steps_left next < steps_left s
-notify_falls s next zero word e leads = cc
-notify_falls s next (suc changed) Parked e leads =
-    omega (arith, e, token_adds s.word s.reader, ap (λ (after : Option Waking). steps_left (unwrap_or after s)) leads)
-notify_falls s next (suc changed) word e leads = grind (arith, token_adds)
+notify_falls : (state next : Waking) (changed : ℕ) (word : Word) → state.changed ≡ changed → notify state changed word ≡ Some next
+    → steps_left next < steps_left state
+notify_falls state next zero word is leads = cc
+notify_falls state next (suc changed) Parked is leads =
+    omega (arith, is, token_adds state.word state.reader, ap (λ (after : Option Waking). steps_left (unwrap_or after state)) leads)
+notify_falls state next (suc changed) word is leads = grind (arith, token_adds)
 
-wake_falls : (s next : Waking) (waking : ℕ) (reader : Reader) → s.waking ≡ waking → s.reader ≡ reader
-    → wake s waking reader ≡ Some next → steps_left next < steps_left s
-wake_falls s next zero reader e r leads = cc
-wake_falls s next (suc waking) Sleeps e r leads =
+wake_falls : (state next : Waking) (waking : ℕ) (reader : Reader) → state.waking ≡ waking → state.reader ≡ reader
+    → wake state waking reader ≡ Some next → steps_left next < steps_left state
+wake_falls state next zero reader waking_is reader_is leads = cc
+wake_falls state next (suc waking) Sleeps waking_is reader_is leads =
     omega (
       arith,
-      e,
-      ap (λ (reader : Reader). of_reader reader s.word) r,
-      ap (λ (after : Option Waking). steps_left (unwrap_or after s)) leads,
+      waking_is,
+      ap (λ (reader : Reader). of_reader reader state.word) reader_is,
+      ap (λ (after : Option Waking). steps_left (unwrap_or after state)) leads,
     )
-wake_falls s next (suc waking) reader e r leads = grind arith
+wake_falls state next (suc waking) reader waking_is reader_is leads = grind arith
 
-falls : (s next : Waking) (step : Step) → is_sound s ≡ true → leads_on step ≡ true → stepped s step ≡ Some next
-    → steps_left next < steps_left s
-falls s next Give h on leads = cc
-falls s next Ask h on leads = cc
-falls s next Notify h on leads = notify_falls s next s.changed s.word refl leads
-falls s next Wake h on leads = wake_falls s next s.waking s.reader refl refl leads
-falls s next Look h on leads = grind arith
-falls s next See h on leads = grind arith
-falls s next Yield h on leads = cc
-falls s next Park h on leads = grind arith
-falls s next Try h on leads = grind arith
-falls s next Doze h on leads = grind arith
-falls s next Rouse h on leads = cc
-falls s next Leave h on leads = cc
+falls : (state next : Waking) (step : Step) → is_sound state ≡ true → leads_on step ≡ true → stepped state step ≡ Some next
+    → steps_left next < steps_left state
+falls state next Give right on leads = cc
+falls state next Ask right on leads = cc
+falls state next Notify right on leads = notify_falls state next state.changed state.word refl leads
+falls state next Wake right on leads = wake_falls state next state.waking state.reader refl refl leads
+falls state next Look right on leads = grind arith
+falls state next See right on leads = grind arith
+falls state next Yield right on leads = cc
+falls state next Park right on leads = grind arith
+falls state next Try right on leads = grind arith
+falls state next Doze right on leads = grind arith
+falls state next Rouse right on leads = cc
+falls state next Leave right on leads = cc
 
 abbrev GoesOn : Waking → Type 0
 GoesOn s =
     (s.reader ≡ Left) ⊎ (((s.reader ≡ Sleeps) × IsIdle s)
     ⊎ ((step : Step) × (leads_on step ≡ true) × (is_some (stepped s step) ≡ true)))
 
-goes_on : (s : Waking) (reader : Reader) → s.reader ≡ reader → is_sound s ≡ true → GoesOn s
-goes_on s (Awake false going) r h = inr (inr (Look, refl, grind arith))
-goes_on s (Awake true false) r h = inr (inr (See, refl, grind arith))
-goes_on s (Awake true true) r h = inr (inr (Park, refl, grind arith))
-goes_on s Tries r h = inr (inr (Try, refl, grind arith))
-goes_on s Dozes r h = inr (inr (Doze, refl, grind arith))
-goes_on s Left r h = inl r
-goes_on s Sleeps r h = by (on_the_way s r h)
+goes_on : (state : Waking) (reader : Reader) → state.reader ≡ reader → is_sound state ≡ true → GoesOn state
+goes_on state (Awake false going) reader_is right = inr (inr (Look, refl, grind arith))
+goes_on state (Awake true false) reader_is right = inr (inr (See, refl, grind arith))
+goes_on state (Awake true true) reader_is right = inr (inr (Park, refl, grind arith))
+goes_on state Tries reader_is right = inr (inr (Try, refl, grind arith))
+goes_on state Dozes reader_is right = inr (inr (Doze, refl, grind arith))
+goes_on state Left reader_is right = inl reader_is
+goes_on state Sleeps reader_is right = by (on_the_way state reader_is right)
   where
-    by : (0 < s.changed) ⊎ ((0 < s.waking) ⊎ IsIdle s) → GoesOn s
+    by : (0 < state.changed) ⊎ ((0 < state.waking) ⊎ IsIdle state) → GoesOn state
     by (inl changed) = inr (inr (Notify, refl, grind arith))
     by (inr (inl waking)) = inr (inr (Wake, refl, grind arith))
-    by (inr (inr idle)) = inr (inl (r, idle))
+    by (inr (inr idle)) = inr (inl (reader_is, idle))
 
 pub waking_ends : WakingEnds
 waking_ends =

@@ -90,28 +90,28 @@ sent_ticket {queue} {applied} {front} {batches} refused ticket sent =
 
 -- a parcel goes to the batch ring, from those to push or as the group held
 sent_parcel : {queue : List Ticket} {applied : List Decision} {front : FrontState} {parcels others batches : List Parcel}
-    (held : List Numbered) (p : Parcel) → HasJobs p → AllHaveJobs others → IsClear (with_group front held) →
-    all_decisions_in parcels ++ held_by front ≡ decisions_in p ++ (all_decisions_in others ++ map Admitted held)
+    (held : List Numbered) (handed : Parcel) → HasJobs handed → AllHaveJobs others → IsClear (with_group front held) →
+    all_decisions_in parcels ++ held_by front ≡ decisions_in handed ++ (all_decisions_in others ++ map Admitted held)
     → AreSent queue applied front parcels batches
-    → AreSent queue applied (with_group front held) others (batches ++ p ∷ [])
-sent_parcel {front} {parcels} {others} {batches} held p has all clear list sent =
+    → AreSent queue applied (with_group front held) others (batches ++ handed ∷ [])
+sent_parcel {front} {parcels} {others} {batches} held handed has all clear list sent =
     let way : on_the_way front parcels batches ≡ on_the_way (with_group front held) others
-    (batches ++ p ∷ []) =
-    rw list (simp (flat_map-append decisions_in batches (p ∷ []), append-nil, append_assoc)) in
+    (batches ++ handed ∷ []) =
+    rw list (simp (flat_map-append decisions_in batches (handed ∷ []), append-nil, append_assoc)) in
     record {
       passes = rw way at sent.passes;
       clear = clear;
       parcel_jobs = all;
-      batch_jobs = all-push HasJobs batches p sent.batch_jobs has;
+      batch_jobs = all-push HasJobs batches handed sent.batch_jobs has;
     }
 
 sent_applied : {queue : List Ticket} {applied : List Decision} {front : FrontState} {parcels batches : List Parcel}
-    {p : Parcel} → AreSent queue applied front parcels (p ∷ batches)
-    → AreSent queue (applied ++ decisions_in p) front parcels batches
-sent_applied {queue} {applied} {front} {parcels} {batches} {p} sent =
+    {handed : Parcel} → AreSent queue applied front parcels (handed ∷ batches)
+    → AreSent queue (applied ++ decisions_in handed) front parcels batches
+sent_applied {queue} {applied} {front} {parcels} {batches} {handed} sent =
     let rest = all_decisions_in parcels ++ held_by front in
-    let list : applied ++ ((decisions_in p ++ all_decisions_in batches) ++ rest)
-    ≡ (applied ++ decisions_in p) ++ (all_decisions_in batches ++ rest) = simp append_assoc in
+    let list : applied ++ ((decisions_in handed ++ all_decisions_in batches) ++ rest)
+    ≡ (applied ++ decisions_in handed) ++ (all_decisions_in batches ++ rest) = simp append_assoc in
     record {
       passes = subst (AreDecisions (items_in queue) front.closed front.stopped) list sent.passes;
       clear = sent.clear;
@@ -123,8 +123,8 @@ replies_to-append : (submitter : ℕ) (xs ys : List ReplyValue)
     → replies_to (xs ++ ys) submitter ≡ replies_to xs submitter ++ replies_to ys submitter
 replies_to-append submitter xs ys = filter-append (λ (reply : ReplyValue). reply.packet.submitter == submitter) xs ys
 
-routed_more : {n : ℕ} {answers way : List ReplyValue} {mailboxes : List Mailbox} (more : List ReplyValue)
-    → AreRouted n answers mailboxes way → AreRouted n (answers ++ more) mailboxes (way ++ more)
+routed_more : {submitters : ℕ} {answers way : List ReplyValue} {mailboxes : List Mailbox} (more : List ReplyValue)
+    → AreRouted submitters answers mailboxes way → AreRouted submitters (answers ++ more) mailboxes (way ++ more)
 routed_more {answers} {way} more routed =
     record {
       long = routed.long;
@@ -143,19 +143,19 @@ left_replies outcomes.Last = refl
 
 -- the next parcel is applied without a stop if nothing was refused
 abbrev pub NextIsApplied : Type 0 → Bool → WorldState → Type 0
-NextIsApplied Unrefused refused w =
-    Unrefused → (p : Parcel) (batches : List Parcel) → w.batches ≡ p ∷ batches
-    → (apply_step refused w.ledger p).ledger.stopped ≡ false
+NextIsApplied Unrefused refused world =
+    Unrefused → (handed : Parcel) (batches : List Parcel) → world.batches ≡ handed ∷ batches
+    → (apply_step refused world.ledger handed).ledger.stopped ≡ false
 
 -- each step of a World of which that holds
-module _ {Unrefused : Type 0} {start : LedgerState} {n : ℕ} {pushed : List Ticket} {w : WorldState}
-    (h : Holds Unrefused start n pushed w) where
+module _ {Unrefused : Type 0} {start : LedgerState} {submitters : ℕ} {pushed : List Ticket} {world : WorldState}
+    (holds : Holds Unrefused start submitters pushed world) where
   -- ---- the batcher
 
   -- it hasn't stopped
   batched : {taken queue : List Ticket} {front : FrontState} {parcels batches : List Parcel} {last : Bool}
-      → pushed ≡ taken ++ queue → (Unrefused → front.stopped ≡ false) → AreSent taken h.applied front parcels batches
-      → Holds Unrefused start n pushed (record w {
+      → pushed ≡ taken ++ queue → (Unrefused → front.stopped ≡ false) → AreSent taken holds.applied front parcels batches
+      → Holds Unrefused start submitters pushed (record world {
         queue = queue;
         front = front;
         parcels = parcels;
@@ -165,85 +165,86 @@ module _ {Unrefused : Type 0} {start : LedgerState} {n : ℕ} {pushed : List Tic
   batched {taken} split goes sent =
       record {
         taken = taken;
-        applied = h.applied;
-        answers = h.answers;
+        applied = holds.applied;
+        answers = holds.answers;
         split = split;
-        counted = h.counted;
-        senders = h.senders;
+        counted = holds.counted;
+        senders = holds.senders;
         sent = sent;
-        commits = h.commits;
-        routed = h.routed;
-        goes = λ is. record { front = goes is; ledger = (h.goes is).ledger };
+        commits = holds.commits;
+        routed = holds.routed;
+        goes = λ is. record { front = goes is; ledger = (holds.goes is).ledger };
       }
 
-  pub pop_holds : (refused : Bool) (parcels : List Parcel) (queue : List Ticket) → w.parcels ≡ parcels
-      → w.queue ≡ queue → (Unrefused → refused ≡ false)
-      → Holds Unrefused start n pushed (unwrap_or (pop refused w parcels queue) w)
-  pop_holds refused (first ∷ parcels) queue p q u = h
-  pop_holds refused [] [] p q u = h
-  pop_holds refused [] (ticket ∷ queue) p q u =
-      batched (h.split ∙ ap (λ rest. h.taken ++ rest) q ∙ sym (append_assoc h.taken (ticket ∷ []) queue))
-      (λ is. goes_on HasJobs refused w.front ticket.sender ticket.item _
-      (stepped refused w.front ticket h.sent.clear) (u is) (h.goes is).front)
-      (sent_ticket refused ticket (subst (λ ps. AreSent h.taken h.applied w.front ps w.batches) p h.sent))
+  pub pop_holds : (refused : Bool) (parcels : List Parcel) (queue : List Ticket) → world.parcels ≡ parcels
+      → world.queue ≡ queue → (Unrefused → refused ≡ false)
+      → Holds Unrefused start submitters pushed (unwrap_or (pop refused world parcels queue) world)
+  pop_holds refused (first ∷ parcels) queue parcels_are queue_is unrefused = holds
+  pop_holds refused [] [] parcels_are queue_is unrefused = holds
+  pop_holds refused [] (ticket ∷ queue) parcels_are queue_is unrefused =
+      batched (holds.split ∙ ap (λ rest. holds.taken ++ rest) queue_is ∙ sym (append_assoc holds.taken (ticket ∷ []) queue))
+      (λ is. goes_on HasJobs refused world.front ticket.sender ticket.item _
+      (stepped refused world.front ticket holds.sent.clear) (unrefused is) (holds.goes is).front)
+      (sent_ticket refused ticket (subst (λ ps. AreSent holds.taken holds.applied world.front ps world.batches) parcels_are holds.sent))
 
-  pub batch_push_holds : (parcels : List Parcel) (held : List Numbered) → w.parcels ≡ parcels
-      → w.front.held ≡ held → Holds Unrefused start n pushed (unwrap_or (batch_push w parcels held) w)
-  batch_push_holds (p ∷ parcels) held e g =
-      let sent = subst (λ ps. AreSent h.taken h.applied w.front ps w.batches) e h.sent in
-      batched h.split (λ is. (h.goes is).front)
-      (sent_parcel w.front.held p sent.parcel_jobs.0 sent.parcel_jobs.1 sent.clear
-      (append_assoc (decisions_in p) (all_decisions_in parcels) (held_by w.front)) sent)
-  batch_push_holds [] (job ∷ jobs) e g =
+  pub batch_push_holds : (parcels : List Parcel) (held : List Numbered) → world.parcels ≡ parcels
+      → world.front.held ≡ held → Holds Unrefused start submitters pushed (unwrap_or (batch_push world parcels held) world)
+  batch_push_holds (handed ∷ parcels) held parcels_are held_is =
+      let sent = subst (λ ps. AreSent holds.taken holds.applied world.front ps world.batches) parcels_are holds.sent in
+      batched holds.split (λ is. (holds.goes is).front)
+      (sent_parcel world.front.held handed sent.parcel_jobs.0 sent.parcel_jobs.1 sent.clear
+      (append_assoc (decisions_in handed) (all_decisions_in parcels) (held_by world.front)) sent)
+  batch_push_holds [] (job ∷ jobs) parcels_are held_is =
       let group = parcel.Batch (job ∷ jobs) in
-      let list : all_decisions_in w.parcels ++ held_by w.front ≡ decisions_in group ++ (all_decisions_in w.parcels ++ []) =
-      ap (λ (ps : List Parcel). all_decisions_in ps ++ held_by w.front) e ∙ ap (map Admitted) g
+      let list : all_decisions_in world.parcels ++ held_by world.front ≡ decisions_in group ++ (all_decisions_in world.parcels ++ []) =
+      ap (λ (ps : List Parcel). all_decisions_in ps ++ held_by world.front) parcels_are ∙ ap (map Admitted) held_is
       ∙ sym (append-nil (decisions_in group)) ∙ ap (λ (ps : List Parcel). decisions_in group
-      ++ (all_decisions_in ps ++ [])) (sym e) in
-      batched h.split (λ is. (h.goes is).front)
-      (sent_parcel [] group (omega arith) h.sent.parcel_jobs (λ any. refl) list h.sent)
-  batch_push_holds [] [] e g = by (all_ended w.front && not w.last_sent)
+      ++ (all_decisions_in ps ++ [])) (sym parcels_are) in
+      batched holds.split (λ is. (holds.goes is).front)
+      (sent_parcel [] group (omega arith) holds.sent.parcel_jobs (λ any. refl) list holds.sent)
+  batch_push_holds [] [] parcels_are held_is = by (all_ended world.front && not world.last_sent)
     where
-      by : (b : Bool) → Holds Unrefused start n pushed
-          (unwrap_or (if b then Some (record w { last_sent = true; batches = w.batches ++ parcel.Last ∷ [] })
-          else None) w)
+      by : (is_last : Bool) → Holds Unrefused start submitters pushed
+          (unwrap_or (if is_last then Some (record world { last_sent = true; batches = world.batches ++ parcel.Last ∷ [] })
+          else None) world)
       by true =
-          batched h.split (λ is. (h.goes is).front)
-          (sent_parcel w.front.held parcel.Last tt h.sent.parcel_jobs h.sent.clear refl h.sent)
-      by false = h
+          batched holds.split (λ is. (holds.goes is).front)
+          (sent_parcel world.front.held parcel.Last tt holds.sent.parcel_jobs holds.sent.clear refl holds.sent)
+      by false = holds
 
   -- ---- the committer
 
-  pub batch_pop_holds : (refused : Bool) (outcome : Option Outcomes) (batches : List Parcel) → w.outcome ≡ outcome
-      → w.batches ≡ batches → NextIsApplied Unrefused refused w
-      → Holds Unrefused start n pushed (unwrap_or (batch_pop refused w outcome batches) w)
-  batch_pop_holds refused (Some outcome) batches o e goes = h
-  batch_pop_holds refused None [] o e goes = h
-  batch_pop_holds refused None (p ∷ batches) o e goes =
-      let sent = subst (λ ps. AreSent h.taken h.applied w.front w.parcels ps) e h.sent in
-      let next = apply_step refused w.ledger p in
+  pub batch_pop_holds : (refused : Bool) (outcome : Option Outcomes) (batches : List Parcel) → world.outcome ≡ outcome
+      → world.batches ≡ batches → NextIsApplied Unrefused refused world
+      → Holds Unrefused start submitters pushed (unwrap_or (batch_pop refused world outcome batches) world)
+  batch_pop_holds refused (Some outcome) batches outcome_is batches_are goes = holds
+  batch_pop_holds refused None [] outcome_is batches_are goes = holds
+  batch_pop_holds refused None (handed ∷ batches) outcome_is batches_are goes =
+      let sent = subst (λ ps. AreSent holds.taken holds.applied world.front world.parcels ps) batches_are holds.sent in
+      let next = apply_step refused world.ledger handed in
       let more = replies_in next.outcomes in
-      let way : unrouted w.replies w.outcomes None ++ more
-      ≡ unrouted w.replies w.outcomes (pending_of next.outcomes) =
+      let way : unrouted world.replies world.outcomes None ++ more
+      ≡ unrouted world.replies world.outcomes (pending_of next.outcomes) =
       rw left_replies (simp (append-nil, append_assoc)) in
       record {
-        taken = h.taken;
-        applied = h.applied ++ decisions_in p;
-        answers = h.answers ++ more;
-        split = h.split;
-        counted = h.counted;
-        senders = h.senders;
+        taken = holds.taken;
+        applied = holds.applied ++ decisions_in handed;
+        answers = holds.answers ++ more;
+        split = holds.split;
+        counted = holds.counted;
+        senders = holds.senders;
         sent = sent_applied sent;
-        commits = commits_more start h.applied w.ledger h.answers h.commits refused p sent.batch_jobs.0;
-        routed = subst (AreRouted n (h.answers ++ more) w.mailboxes) way (routed_more more
-            (subst (λ o. AreRouted n h.answers w.mailboxes (unrouted w.replies w.outcomes o)) o h.routed));
-        goes = λ is. record { front = (h.goes is).front; ledger = goes is p batches e };
+        commits = commits_more start holds.applied world.ledger holds.answers holds.commits refused handed sent.batch_jobs.0;
+        routed = subst (AreRouted submitters (holds.answers ++ more) world.mailboxes) way (routed_more more
+            (subst (λ pending. AreRouted submitters holds.answers world.mailboxes (unrouted world.replies world.outcomes pending))
+            outcome_is holds.routed));
+        goes = λ is. record { front = (holds.goes is).front; ledger = goes is handed batches batches_are };
       }
 
   -- the replies on the way are elsewhere, and the mailboxes may have changed
   rerouted : {replies : List ReplyValue} {outcomes : List Outcomes} {outcome : Option Outcomes}
-      {mailboxes : List Mailbox} → AreRouted n h.answers mailboxes (unrouted replies outcomes outcome)
-      → Holds Unrefused start n pushed (record w {
+      {mailboxes : List Mailbox} → AreRouted submitters holds.answers mailboxes (unrouted replies outcomes outcome)
+      → Holds Unrefused start submitters pushed (record world {
         replies = replies;
         outcomes = outcomes;
         outcome = outcome;
@@ -251,108 +252,110 @@ module _ {Unrefused : Type 0} {start : LedgerState} {n : ℕ} {pushed : List Tic
       })
   rerouted routed =
       record {
-        taken = h.taken;
-        applied = h.applied;
-        answers = h.answers;
-        split = h.split;
-        counted = h.counted;
-        senders = h.senders;
-        sent = h.sent;
-        commits = h.commits;
+        taken = holds.taken;
+        applied = holds.applied;
+        answers = holds.answers;
+        split = holds.split;
+        counted = holds.counted;
+        senders = holds.senders;
+        sent = holds.sent;
+        commits = holds.commits;
         routed = routed;
-        goes = h.goes;
+        goes = holds.goes;
       }
 
-  pub outcome_push_holds : (outcome : Option Outcomes) → w.outcome ≡ outcome
-      → Holds Unrefused start n pushed (unwrap_or (outcome_push w outcome) w)
-  outcome_push_holds None o = h
-  outcome_push_holds (Some outcome) o =
-      let way : unrouted w.replies w.outcomes (Some outcome)
-      ≡ unrouted w.replies (w.outcomes ++ outcome ∷ []) None =
-      simp (flat_map-append replies_in w.outcomes (outcome ∷ []), append-nil) in
-      rerouted (subst (AreRouted n h.answers w.mailboxes) (ap (unrouted w.replies w.outcomes) o ∙ way) h.routed)
+  pub outcome_push_holds : (outcome : Option Outcomes) → world.outcome ≡ outcome
+      → Holds Unrefused start submitters pushed (unwrap_or (outcome_push world outcome) world)
+  outcome_push_holds None is = holds
+  outcome_push_holds (Some outcome) is =
+      let way : unrouted world.replies world.outcomes (Some outcome)
+      ≡ unrouted world.replies (world.outcomes ++ outcome ∷ []) None =
+      simp (flat_map-append replies_in world.outcomes (outcome ∷ []), append-nil) in
+      rerouted (subst (AreRouted submitters holds.answers world.mailboxes) (ap (unrouted world.replies world.outcomes) is ∙ way)
+      holds.routed)
 
   -- ---- the demultiplexer
 
-  pub outcome_pop_holds : (replies : List ReplyValue) (outcomes : List Outcomes) → w.replies ≡ replies
-      → w.outcomes ≡ outcomes → Holds Unrefused start n pushed (unwrap_or (outcome_pop w replies outcomes) w)
-  outcome_pop_holds (reply ∷ replies) outcomes r o = h
-  outcome_pop_holds [] [] r o = h
-  outcome_pop_holds [] (outcome ∷ outcomes) r o =
-      rerouted (subst (AreRouted n h.answers w.mailboxes)
-      (ap (λ (rs : List ReplyValue). unrouted rs w.outcomes w.outcome) r
-      ∙ ap (λ (os : List Outcomes). unrouted [] os w.outcome) o
-      ∙ append_assoc (replies_in outcome) (of_all outcomes) (of_one w.outcome)) h.routed)
+  pub outcome_pop_holds : (replies : List ReplyValue) (outcomes : List Outcomes) → world.replies ≡ replies
+      → world.outcomes ≡ outcomes → Holds Unrefused start submitters pushed (unwrap_or (outcome_pop world replies outcomes) world)
+  outcome_pop_holds (reply ∷ replies) outcomes replies_are outcomes_are = holds
+  outcome_pop_holds [] [] replies_are outcomes_are = holds
+  outcome_pop_holds [] (outcome ∷ outcomes) replies_are outcomes_are =
+      rerouted (subst (AreRouted submitters holds.answers world.mailboxes)
+      (ap (λ (rs : List ReplyValue). unrouted rs world.outcomes world.outcome) replies_are
+      ∙ ap (λ (os : List Outcomes). unrouted [] os world.outcome) outcomes_are
+      ∙ append_assoc (replies_in outcome) (of_all outcomes) (of_one world.outcome)) holds.routed)
 
   -- one mailbox was replaced: its submitter has the same with what is on the way, and so has each other
   replaced : (own : ℕ) (new : Mailbox) (replies : List ReplyValue) →
-      (let old = unrouted w.replies w.outcomes w.outcome in let way = unrouted replies w.outcomes w.outcome in
-      shelved own w.mailboxes old ≡ new.received ++ (new.ring ++ replies_to way own) →
+      (let old = unrouted world.replies world.outcomes world.outcome in let way = unrouted replies world.outcomes world.outcome in
+      shelved own world.mailboxes old ≡ new.received ++ (new.ring ++ replies_to way own) →
       ((submitter : ℕ) → own ≢ submitter → replies_to old submitter ≡ replies_to way submitter)
-      → Holds Unrefused start n pushed (record w { replies = replies; mailboxes = set w.mailboxes own new }))
+      → Holds Unrefused start submitters pushed (record world { replies = replies; mailboxes = set world.mailboxes own new }))
   replaced own new replies here elsewhere =
-      let way = unrouted replies w.outcomes w.outcome in
-      let old = h.routed in
+      let way = unrouted replies world.outcomes world.outcome in
+      let old = holds.routed in
       rerouted (record {
-        long = length-set w.mailboxes own new ∙ old.long;
+        long = length-set world.mailboxes own new ∙ old.long;
         each = λ submitter among. old.each submitter among ∙ ⊎_elim
-            (λ (same : own ≡ submitter). subst (λ k. shelved k w.mailboxes (unrouted w.replies w.outcomes w.outcome)
-            ≡ shelved k (set w.mailboxes own new) way) same
+            (λ (same : own ≡ submitter). subst (λ k. shelved k world.mailboxes (unrouted world.replies world.outcomes world.outcome)
+            ≡ shelved k (set world.mailboxes own new) way) same
             (here ∙ ap (λ (s : Mailbox). s.received ++ (s.ring ++ replies_to way own))
-            (sym (get_or-set_same w.mailboxes own new empty_mailbox (omega (arith, old.long, same, among))))))
-            (λ (other : own ≢ submitter). ap (λ rs. (mailbox_at w.mailboxes submitter).received
-            ++ ((mailbox_at w.mailboxes submitter).ring ++ rs)) (elsewhere submitter other)
+            (sym (get_or-set_same world.mailboxes own new empty_mailbox (omega (arith, old.long, same, among))))))
+            (λ (other : own ≢ submitter). ap (λ rs. (mailbox_at world.mailboxes submitter).received
+            ++ ((mailbox_at world.mailboxes submitter).ring ++ rs)) (elsewhere submitter other)
             ∙ ap (λ (s : Mailbox). s.received ++ (s.ring ++ replies_to way submitter))
-            (sym (get_or-set_other w.mailboxes own submitter new empty_mailbox (λ same. other (sym same)))))
+            (sym (get_or-set_other world.mailboxes own submitter new empty_mailbox (λ same. other (sym same)))))
             (cases_eq own submitter);
       })
 
   -- a reply goes from the way to its submitter's ring
-  pub reply_push_holds : (replies : List ReplyValue) → w.replies ≡ replies
-      → Holds Unrefused start n pushed (unwrap_or (reply_push w replies) w)
-  reply_push_holds [] r = h
-  reply_push_holds (reply ∷ replies) r =
+  pub reply_push_holds : (replies : List ReplyValue) → world.replies ≡ replies
+      → Holds Unrefused start submitters pushed (unwrap_or (reply_push world replies) world)
+  reply_push_holds [] replies_are = holds
+  reply_push_holds (reply ∷ replies) replies_are =
       let own = reply.packet.submitter in
-      let mailbox = mailbox_at w.mailboxes own in
-      let way = unrouted replies w.outcomes w.outcome in
+      let mailbox = mailbox_at world.mailboxes own in
+      let way = unrouted replies world.outcomes world.outcome in
       replaced own (with_reply mailbox reply) replies
-      (ap (λ (rs : List ReplyValue). shelved own w.mailboxes (unrouted rs w.outcomes w.outcome)) r
+      (ap (λ (rs : List ReplyValue). shelved own world.mailboxes (unrouted rs world.outcomes world.outcome)) replies_are
       ∙ rw (eq-eqb own own refl) (ap (λ rs. mailbox.received ++ rs)
       (sym (append_assoc mailbox.ring (reply ∷ []) (replies_to way own)))))
-      (λ submitter other. ap (λ (rs : List ReplyValue). replies_to (unrouted rs w.outcomes w.outcome) submitter) r
+      (λ submitter other. ap (λ (rs : List ReplyValue). replies_to (unrouted rs world.outcomes world.outcome) submitter) replies_are
       ∙ rw (ne_eqb own submitter other) refl)
 
   -- ---- the submitters
 
-  pub reply_pop_holds : (own : ℕ) (ring : List ReplyValue) → (mailbox_at w.mailboxes own).ring ≡ ring
-      → Holds Unrefused start n pushed (unwrap_or (reply_pop w own (after_pop_of (mailbox_at w.mailboxes own) ring)) w)
-  reply_pop_holds own [] e = h
-  reply_pop_holds own (reply ∷ ring) e =
-      let received = (mailbox_at w.mailboxes own).received in
-      let others = replies_to (unrouted w.replies w.outcomes w.outcome) own in
-      replaced own (record { ring = ring; received = received ++ reply ∷ [] }) w.replies
-      (ap (λ rs. received ++ (rs ++ others)) e ∙ sym (append_assoc received (reply ∷ []) (ring ++ others)))
+  pub reply_pop_holds : (own : ℕ) (ring : List ReplyValue) →
+      (let mailbox = mailbox_at world.mailboxes own in mailbox.ring ≡ ring
+      → Holds Unrefused start submitters pushed (unwrap_or (reply_pop world own (after_pop_of mailbox ring)) world))
+  reply_pop_holds own [] ring_is = holds
+  reply_pop_holds own (reply ∷ ring) ring_is =
+      let received = (mailbox_at world.mailboxes own).received in
+      let others = replies_to (unrouted world.replies world.outcomes world.outcome) own in
+      replaced own (record { ring = ring; received = received ++ reply ∷ [] }) world.replies
+      (ap (λ rs. received ++ (rs ++ others)) ring_is ∙ sym (append_assoc received (reply ∷ []) (ring ++ others)))
       (λ submitter other. refl)
 
-  pub push_holds : (ticket : Ticket) (b : Bool) → is_lawful w ticket ≡ b →
-      Holds Unrefused start n (pushed ++ (if b then ticket ∷ [] else []))
-      (unwrap_or (if b then Some (record w {
-        senders = senders_after w.senders ticket;
-        queue = w.queue ++ ticket ∷ [];
-      }) else None) w)
-  push_holds ticket false is = rw append-nil h
+  pub push_holds : (ticket : Ticket) (lawful : Bool) → is_lawful world ticket ≡ lawful →
+      Holds Unrefused start submitters (pushed ++ (if lawful then ticket ∷ [] else []))
+      (unwrap_or (if lawful then Some (record world {
+        senders = senders_after world.senders ticket;
+        queue = world.queue ++ ticket ∷ [];
+      }) else None) world)
+  push_holds ticket false is = rw append-nil holds
   push_holds ticket true is =
       record {
-        taken = h.taken;
-        applied = h.applied;
-        answers = h.answers;
-        split = ap (λ l. l ++ ticket ∷ []) h.split ∙ append_assoc h.taken w.queue (ticket ∷ []);
-        senders = push_counted w.limit n pushed w.senders ticket
-            (subst (λ m. may_push w.limit m ticket.sender (sender_at w.senders ticket.sender) ticket.item ≡ true)
-            h.counted is) h.senders;
-        counted = h.counted;
-        sent = h.sent;
-        commits = h.commits;
-        routed = h.routed;
-        goes = h.goes;
+        taken = holds.taken;
+        applied = holds.applied;
+        answers = holds.answers;
+        split = ap (λ l. l ++ ticket ∷ []) holds.split ∙ append_assoc holds.taken world.queue (ticket ∷ []);
+        senders = push_counted world.limit submitters pushed world.senders ticket
+            (subst (λ m. may_push world.limit m ticket.sender (sender_at world.senders ticket.sender) ticket.item ≡ true)
+            holds.counted is) holds.senders;
+        counted = holds.counted;
+        sent = holds.sent;
+        commits = holds.commits;
+        routed = holds.routed;
+        goes = holds.goes;
       }

@@ -10,63 +10,63 @@ use Rattle.tb_world.proofs.orders.Runs.{GoesOn, all_holds}
 due-prefix : (clock : ℕ) (journal : List Input) (place : Place) (items others : List Item)
     → IsPrefix (all_due_from clock journal place items) (all_due_from clock journal place (items ++ others))
 due-prefix clock journal place [] others = (all_due_from clock journal place others, refl)
-due-prefix clock journal place (x ∷ items) others =
-    let first = reply_due (outcome_at clock journal place) x in
-    let more = due-prefix clock journal (next_place place x) items others in (
+due-prefix clock journal place (item ∷ items) others =
+    let first = reply_due (outcome_at clock journal place) item in
+    let more = due-prefix clock journal (next_place place item) items others in (
       more.0,
-      append_assoc first (all_due_from clock journal (next_place place x) items) more.0
+      append_assoc first (all_due_from clock journal (next_place place item) items) more.0
           ∙ ap (λ rs. first ++ rs) more.1,
     )
 
 -- ---- so far
 
-module _ {U : Type 0} {start : LedgerState} {n : ℕ} {pushed : List Ticket} {w : WorldState} (h : Holds U start n pushed w) where
+module _ {Unrefused : Type 0} {start : LedgerState} {submitters : ℕ} {pushed : List Ticket} {world : WorldState}
+    (holds : Holds Unrefused start submitters pushed world) where
   abbrev way : List Decision
-  way = on_the_way w.front w.parcels w.batches
+  way = on_the_way world.front world.parcels world.batches
 
-  far : SoFar start (items_in h.taken) w.front.stopped w.ledger h.answers way
-  far = so_far way h.sent.passes h.commits
+  far : SoFar start (items_in holds.taken) world.front.stopped world.ledger holds.answers way
+  far = so_far way holds.sent.passes holds.commits
 
-  items_are : items_in pushed ≡ items_in h.taken ++ items_in w.queue
-  items_are = ap items_in h.split ∙ map-append (λ (ticket : Ticket). ticket.item) h.taken w.queue
+  items_are : items_in pushed ≡ items_in holds.taken ++ items_in world.queue
+  items_are = ap items_in holds.split ∙ map-append (λ (ticket : Ticket). ticket.item) holds.taken world.queue
 
-  pub far_prefix : IsPrefix h.answers (all_due start.opening (length (inputs start)) (items_in pushed) (inputs w.ledger))
+  abbrev due_to : List Item → List ReplyValue
+  due_to items = all_due start.opening (length (inputs start)) items (inputs world.ledger)
+
+  pub far_prefix : IsPrefix holds.answers (due_to (items_in pushed))
   far_prefix =
-      let before = items_in h.taken in
-      let after = items_in w.queue in
-      let journal = inputs w.ledger in
-      rw items_are (is-prefix-trans h.answers (all_due start.opening (length (inputs start)) before journal) (all_due start.opening (length (inputs start)) (before ++ after) journal)
-      (far.later, far.due) (due-prefix start.opening journal (Ahead (length (inputs start))) before after))
+      let before = items_in holds.taken in
+      let after = items_in world.queue in
+      rw items_are (is-prefix-trans holds.answers (due_to before) (due_to (before ++ after)) (far.later, far.due)
+      (due-prefix start.opening (inputs world.ledger) (Ahead (length (inputs start))) before after))
 
-  is_lawful_so_far : IsLawfulSoFar start n pushed w
+  is_lawful_so_far : IsLawfulSoFar start submitters pushed world
   is_lawful_so_far =
-      let before = items_in h.taken in
-      let after = items_in w.queue in
-      let journal = inputs w.ledger in
+      let before = items_in holds.taken in
+      let after = items_in world.queue in
       record {
-        opening = h.commits.from;
-        continues = h.commits.continues;
-        submitted = h.senders.submitted;
-        numbered = numbered_by n pushed w.senders h.senders;
-        committed = rw items_are (is-prefix-trans (inputs_since start w.ledger) (ahead before) (ahead (before ++ after))
+        opening = holds.commits.from;
+        continues = holds.commits.continues;
+        submitted = holds.senders.submitted;
+        numbered = numbered_by submitters pushed world.senders holds.senders;
+        committed = rw items_are (is-prefix-trans (inputs_since start world.ledger) (ahead before) (ahead (before ++ after))
             (far.remainder, far.committed) (ahead-first before after));
         received = λ submitter among.
-            let mailbox = mailbox_at w.mailboxes submitter in
-            let others = mailbox.ring ++ replies_to (unrouted w.replies w.outcomes w.outcome) submitter in
-            let all = all_due start.opening (length (inputs start)) (before ++ after) journal in
-            let answers = is-prefix-trans h.answers (all_due start.opening (length (inputs start)) before journal) all (far.later, far.due)
-            (due-prefix start.opening journal (Ahead (length (inputs start))) before after) in
-            rw items_are (is-prefix-trans mailbox.received (replies_to h.answers submitter) (replies_to all submitter)
-            (others, sym (h.routed.each submitter among))
-            (prefix-filter (λ (reply : ReplyValue). reply.packet.submitter == submitter) h.answers all answers));
+            let mailbox = mailbox_at world.mailboxes submitter in
+            let others = mailbox.ring ++ replies_to (unrouted world.replies world.outcomes world.outcome) submitter in
+            is-prefix-trans mailbox.received (replies_to holds.answers submitter) (replies_to (due_to (items_in pushed)) submitter)
+            (others, sym (holds.routed.each submitter among))
+            (prefix-filter (λ (reply : ReplyValue). reply.packet.submitter == submitter) holds.answers
+            (due_to (items_in pushed)) far_prefix);
       }
 
-  none_stopped : Goes w.front w.ledger → NoneStopped n w
+  none_stopped : Goes world.front world.ledger → NoneStopped submitters world
   none_stopped goes = λ submitter among.
-      let mailbox = mailbox_at w.mailboxes submitter in
-      let others = mailbox.ring ++ replies_to (unrouted w.replies w.outcomes w.outcome) submitter in
-      none_of_first mailbox.received others (replies_to h.answers submitter) (sym (h.routed.each submitter among))
-      (none_among (λ (reply : ReplyValue). reply.packet.submitter == submitter) h.answers
+      let mailbox = mailbox_at world.mailboxes submitter in
+      let others = mailbox.ring ++ replies_to (unrouted world.replies world.outcomes world.outcome) submitter in
+      none_of_first mailbox.received others (replies_to holds.answers submitter) (sym (holds.routed.each submitter among))
+      (none_among (λ (reply : ReplyValue). reply.packet.submitter == submitter) holds.answers
       (far.no_stop_seen goes.front goes.ledger))
 
 -- ---- at rest
@@ -115,84 +115,84 @@ record IsEmpty (w : WorldState) : Type 0 where
   unrouted : unrouted w.replies w.outcomes w.outcome ≡ []
   rings : (own : ℕ) → (mailbox_at w.mailboxes own).ring ≡ []
 
-empty_at_rest : (w : WorldState) → IsAtRest w → IsEmpty w
-empty_at_rest w rest =
-    let batcher = no_parcels w w.parcels w.front.held (rest BatchPush refl) in
-    let outcome = no_outcome w w.outcome (rest OutcomePush refl) in
-    let replies = no_replies w w.replies (rest ReplyPush refl) in
-    let batches = no_batches w w.outcome w.batches outcome (rest (BatchPop false) refl) in
-    let outcomes = no_outcomes w w.replies w.outcomes replies (rest OutcomePop refl) in
+empty_at_rest : (world : WorldState) → IsAtRest world → IsEmpty world
+empty_at_rest world rest =
+    let batcher = no_parcels world world.parcels world.front.held (rest BatchPush refl) in
+    let outcome = no_outcome world world.outcome (rest OutcomePush refl) in
+    let replies = no_replies world world.replies (rest ReplyPush refl) in
+    let batches = no_batches world world.outcome world.batches outcome (rest (BatchPop false) refl) in
+    let outcomes = no_outcomes world world.replies world.outcomes replies (rest OutcomePop refl) in
     record {
-      queue = no_queue w w.parcels w.queue batcher.0 (rest (Pop false) refl);
-      way = ap (λ (l : List Parcel). all_decisions_in l ++ (all_decisions_in w.parcels ++ held_by w.front)) batches
-          ∙ ap (λ (l : List Parcel). all_decisions_in l ++ held_by w.front) batcher.0
+      queue = no_queue world world.parcels world.queue batcher.0 (rest (Pop false) refl);
+      way = ap (λ (l : List Parcel). all_decisions_in l ++ (all_decisions_in world.parcels ++ held_by world.front)) batches
+          ∙ ap (λ (l : List Parcel). all_decisions_in l ++ held_by world.front) batcher.0
           ∙ ap (λ (l : List Numbered). map Admitted l) batcher.1;
-      unrouted = ap (λ (l : List ReplyValue). l ++ (of_all w.outcomes ++ of_one w.outcome)) replies
-          ∙ ap (λ (l : List Outcomes). of_all l ++ of_one w.outcome) outcomes ∙ ap of_one outcome;
-      rings = λ own. no_ring w own (mailbox_at w.mailboxes own) (mailbox_at w.mailboxes own).ring (rest (ReplyPop own) refl);
+      unrouted = ap (λ (l : List ReplyValue). l ++ (of_all world.outcomes ++ of_one world.outcome)) replies
+          ∙ ap (λ (l : List Outcomes). of_all l ++ of_one world.outcome) outcomes ∙ ap of_one outcome;
+      rings = λ own. (let mailbox = mailbox_at world.mailboxes own in
+          no_ring world own mailbox mailbox.ring (rest (ReplyPop own) refl));
     }
 
-module _ {U : Type 0} {start : LedgerState} {n : ℕ} {pushed : List Ticket} {w : WorldState}
-    (h : Holds U start n pushed w) (e : IsEmpty w) where
-  taken_all : h.taken ≡ pushed
-  taken_all = sym (h.split ∙ ap (λ l. h.taken ++ l) e.queue ∙ append-nil h.taken)
+module _ {Unrefused : Type 0} {start : LedgerState} {submitters : ℕ} {pushed : List Ticket} {world : WorldState}
+    (holds : Holds Unrefused start submitters pushed world) (empty : IsEmpty world) where
+  taken_all : holds.taken ≡ pushed
+  taken_all = sym (holds.split ∙ ap (λ l. holds.taken ++ l) empty.queue ∙ append-nil holds.taken)
 
-  ran : Ran start (items_in pushed) w.ledger h.answers
+  ran : Ran start (items_in pushed) world.ledger holds.answers
   ran =
       record {
-        closed = w.front.closed;
-        stopped = w.front.stopped;
-        decisions = h.applied;
+        closed = world.front.closed;
+        stopped = world.front.stopped;
+        decisions = holds.applied;
         passed = subst (λ (queue : List Ticket). AreDecisions
-            (items_in queue) w.front.closed w.front.stopped h.applied) taken_all
-            (subst (AreDecisions (items_in h.taken) w.front.closed w.front.stopped)
-            (ap (λ l. h.applied ++ l) e.way ∙ append-nil h.applied) h.sent.passes);
-        commits = h.commits;
+            (items_in queue) world.front.closed world.front.stopped holds.applied) taken_all
+            (subst (AreDecisions (items_in holds.taken) world.front.closed world.front.stopped)
+            (ap (λ l. holds.applied ++ l) empty.way ∙ append-nil holds.applied) holds.sent.passes);
+        commits = holds.commits;
       }
 
-  received_all : (submitter : ℕ) → submitter < n → received_of w submitter ≡ replies_to h.answers submitter
+  received_all : (submitter : ℕ) → submitter < submitters → received_of world submitter ≡ replies_to holds.answers submitter
   received_all submitter among =
-      let received = received_of w submitter in
-      sym (h.routed.each submitter among ∙ ap (λ (way : List ReplyValue). shelved submitter w.mailboxes way) e.unrouted
-      ∙ ap (λ (ring : List ReplyValue). received ++ (ring ++ [])) (e.rings submitter) ∙ append-nil received)
+      let received = received_of world submitter in
+      sym (holds.routed.each submitter among ∙ ap (λ (way : List ReplyValue). shelved submitter world.mailboxes way) empty.unrouted
+      ∙ ap (λ (ring : List ReplyValue). received ++ (ring ++ [])) (empty.rings submitter) ∙ append-nil received)
 
-  rests : IsLawfulAtRest start n pushed w
+  rests : IsLawfulAtRest start submitters pushed world
   rests =
-      let all : h.answers ≡ all_due start.opening (length (inputs start)) (items_in pushed) (inputs w.ledger) =
-      (far h).replied e.way ∙ ap
-      (λ (queue : List Ticket). all_due start.opening (length (inputs start)) (items_in queue) (inputs w.ledger)) taken_all in
+      let all : holds.answers ≡ due_to holds (items_in pushed) =
+      (far holds).replied empty.way ∙ ap (λ (queue : List Ticket). due_to holds (items_in queue)) taken_all in
       record {
         received = λ submitter among. received_all submitter among ∙ ap (λ rs. replies_to rs submitter) all;
-        reports = λ over. run_is_lawful _ start h.answers
-            (queue_of_all n pushed w.senders h.senders over) refl ran received_all;
+        reports = λ over. run_is_lawful _ start holds.answers
+            (queue_of_all submitters pushed world.senders holds.senders over) refl ran received_all;
       }
 
-  whole : Goes w.front w.ledger → inputs_since start w.ledger ≡ ahead (items_in pushed)
+  whole : Goes world.front world.ledger → inputs_since start world.ledger ≡ ahead (items_in pushed)
   whole goes =
-      let is = far h in
-      sym (append-nil (inputs_since start w.ledger))
-      ∙ ap (λ (l : List Decision). inputs_since start w.ledger ++ inputs_in l) (sym e.way)
+      let is = far holds in
+      sym (append-nil (inputs_since start world.ledger))
+      ∙ ap (λ (l : List Decision). inputs_since start world.ledger ++ inputs_in l) (sym empty.way)
       ∙ is.whole goes.front goes.ledger ∙ ap (λ (queue : List Ticket). ahead (items_in queue)) taken_all
 
 -- ---- a list of events
 
-pub has_run : (start : LedgerState) (limit n : ℕ) (events : List Event) (world : WorldState) → Commits start [] start []
-    → world ≡ run (world_over start limit n) events → HasRun start limit n events world
-has_run start limit n events world began is = subst (HasRun start limit n events) (sym is) there
+pub has_run : (start : LedgerState) (limit submitters : ℕ) (events : List Event) (world : WorldState) → Commits start [] start []
+    → world ≡ run (world_over start limit submitters) events → HasRun start limit submitters events world
+has_run start limit submitters events world began is = subst (HasRun start limit submitters events) (sym is) there
   where
     pushed : List Ticket
-    pushed = history (world_over start limit n) events
+    pushed = history (world_over start limit submitters) events
 
-    U : Type 0
-    U = GoesOn start events pushed
+    Unrefused : Type 0
+    Unrefused = GoesOn start events pushed
 
     end : WorldState
-    end = run (world_over start limit n) events
+    end = run (world_over start limit submitters) events
 
-    holds : Holds U start n pushed end
-    holds = all_holds start limit n events began
+    holds : Holds Unrefused start submitters pushed end
+    holds = all_holds start limit submitters events began
 
-    there : HasRun start limit n events end
+    there : HasRun start limit submitters events end
     there =
         record {
           began = began;
@@ -209,9 +209,9 @@ run_more world [] ys = refl
 run_more world (x ∷ xs) ys = run_more (after_event world x) xs ys
 
 pub runs_go_on : RunsGoOn
-runs_go_on start limit n before events world ran =
-    has_run start limit n (before ++ events) (run world events) ran.began
-    (ap (λ (w : WorldState). run w events) ran.is ∙ sym (run_more (world_over start limit n) before events))
+runs_go_on start limit submitters before events world ran =
+    has_run start limit submitters (before ++ events) (run world events) ran.began
+    (ap (λ (w : WorldState). run w events) ran.is ∙ sym (run_more (world_over start limit submitters) before events))
 
 module _ (start : LedgerState) (submitters : ℕ) (queue : List Ticket) (first second : WorldState) (limit others : ℕ)
     (events : List Event) where

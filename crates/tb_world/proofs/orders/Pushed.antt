@@ -15,10 +15,10 @@ record MayPush (submitters number : ℕ) (sender : WorldSender) (x : Item) : Typ
   next : IsNext number sender.pushed x
   submitted : IsSubmitted submitters number x
 
-may : (limit submitters number : ℕ) (sender : WorldSender) (x : Item)
-    → may_push_item limit submitters number sender x ≡ true → MayPush submitters number sender x
-may limit submitters number sender (item.Packet job) h =
-    let below = and_parts (nat_lt number submitters) _ h in
+may : (limit submitters number : ℕ) (sender : WorldSender) (pushed : Item)
+    → may_push_item limit submitters number sender pushed ≡ true → MayPush submitters number sender pushed
+may limit submitters number sender (item.Packet job) lawful =
+    let below = and_parts (nat_lt number submitters) _ lawful in
     let own = and_parts (job.submitter == number) _ below.1 in
     let counted = and_parts (job.number == sender.pushed) _ own.1 in
     let few = ltb-true number submitters below.0 in
@@ -27,12 +27,12 @@ may limit submitters number sender (item.Packet job) h =
       next = (eqb-true job.submitter number own.0, eqb-true job.number sender.pushed counted.0);
       submitted = (eqb-true job.submitter number own.0, few);
     }
-may limit submitters number sender (item.Pulse moment) h = let is =
-    eqb-true number submitters h in record { among = omega (arith, is); next = tt; submitted = is }
-may limit submitters number sender item.End h =
-    record { among = leb-true number submitters h; next = tt; submitted = tt }
-may limit submitters number sender item.Close h = let is =
-    eqb-true number submitters h in record { among = omega (arith, is); next = tt; submitted = is }
+may limit submitters number sender (item.Pulse moment) lawful = let is =
+    eqb-true number submitters lawful in record { among = omega (arith, is); next = tt; submitted = is }
+may limit submitters number sender item.End lawful =
+    record { among = leb-true number submitters lawful; next = tt; submitted = tt }
+may limit submitters number sender item.Close lawful = let is =
+    eqb-true number submitters lawful in record { among = omega (arith, is); next = tt; submitted = is }
 
 -- ---- one sender
 
@@ -69,19 +69,19 @@ unended_push items x all goes =
 ended_by : (items : List Item) (x : Item) → IsUnended items → is_end x ≡ true → IsEnded (items ++ x ∷ [])
 ended_by items x all ends = record { body = items; last = x; parts = refl; unended = all; ends = ends }
 
-pushed_more : (number : ℕ) (sender : WorldSender) (items : List Item) (x : Item) → sender.ended ≡ false
-    → IsNext number sender.pushed x → HasPushed number sender items
-    → HasPushed number (sender_after sender x) (items ++ x ∷ [])
-pushed_more number sender items x goes next has =
-    by x (numbered_push number 0 items x has.numbered
-    (subst (λ n. IsNext number n x) (has.counted ∙ omega arith) next)) (packets_in-append items (x ∷ []))
+pushed_more : (number : ℕ) (sender : WorldSender) (items : List Item) (pushed : Item) → sender.ended ≡ false
+    → IsNext number sender.pushed pushed → HasPushed number sender items
+    → HasPushed number (sender_after sender pushed) (items ++ pushed ∷ [])
+pushed_more number sender items pushed goes next has =
+    by pushed (numbered_push number 0 items pushed has.numbered
+    (subst (λ n. IsNext number n pushed) (has.counted ∙ omega arith) next)) (packets_in-append items (pushed ∷ []))
   where
     unended : IsUnended items
     unended = has.goes_on goes
 
-    by : (x : Item) → AreNumbered number 0 (items ++ x ∷ [])
-        → packets_in (items ++ x ∷ []) ≡ packets_in items + packets_in (x ∷ [])
-        → HasPushed number (sender_after sender x) (items ++ x ∷ [])
+    by : (pushed : Item) → AreNumbered number 0 (items ++ pushed ∷ [])
+        → packets_in (items ++ pushed ∷ []) ≡ packets_in items + packets_in (pushed ∷ [])
+        → HasPushed number (sender_after sender pushed) (items ++ pushed ∷ [])
     by (item.Packet job) all count =
         record {
           numbered = all;

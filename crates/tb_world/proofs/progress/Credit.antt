@@ -13,28 +13,33 @@ use Rattle.tb_world.proofs.orders.Lawful.{far_prefix}
 -- ---- what is in flight stays within the credit
 
 abbrev InCredit : ℕ → WorldState → Type 0
-InCredit credit w = (s : ℕ) → (sender_at w.senders s).pushed ≤ length (received_of w s) + credit
+InCredit credit world = (s : ℕ) → (sender_at world.senders s).pushed ≤ length (received_of world s) + credit
 
-by_step : (credit : ℕ) (w : WorldState) (after : Option WorldState) → Steps w after → InCredit credit w
-    → InCredit credit (unwrap_or after w)
-by_step credit w None step h = h
-by_step credit w (Some next) step h =
-    λ s. omega (arith, h s, step.received s, ap (λ (all : List WorldSender). (sender_at all s).pushed) step.senders)
+by_step : (credit : ℕ) (world : WorldState) (after : Option WorldState) → Steps world after → InCredit credit world
+    → InCredit credit (unwrap_or after world)
+by_step credit world None step in_credit = in_credit
+by_step credit world (Some next) step in_credit =
+    λ sender. omega (
+      arith,
+      in_credit sender,
+      step.received sender,
+      ap (λ (all : List WorldSender). (sender_at all sender).pushed) step.senders,
+    )
 
 -- a sender has pushed at most one more
-pushed_more : (credit received : ℕ) (sender : WorldSender) (x : Item) → sender.pushed ≤ received + credit
-    → has_credit credit (sender.pushed - received) x ≡ true → (sender_after sender x).pushed ≤ received + credit
+pushed_more : (credit received : ℕ) (sender : WorldSender) (pushed : Item) → sender.pushed ≤ received + credit
+    → has_credit credit (sender.pushed - received) pushed ≡ true → (sender_after sender pushed).pushed ≤ received + credit
 pushed_more credit received sender (item.Packet job) few is =
     omega (arith, few, ltb-true (sender.pushed - received) credit is)
 pushed_more credit received sender (item.Pulse moment) few is = few
 pushed_more credit received sender item.End few is = few
 pushed_more credit received sender item.Close few is = few
 
-set_sender : (senders : List WorldSender) (own s most : ℕ) (new : WorldSender) → (own ≡ s → new.pushed ≤ most)
-    → (sender_at senders s).pushed ≤ most → (sender_at (set senders own new) s).pushed ≤ most
-set_sender senders own s most new here old =
+set_sender : (senders : List WorldSender) (own number most : ℕ) (new : WorldSender) → (own ≡ number → new.pushed ≤ most)
+    → (sender_at senders number).pushed ≤ most → (sender_at (set senders own new) number).pushed ≤ most
+set_sender senders own number most new here old =
     ⊎_elim
-    (λ (same : own ≡ s). ⊎_elim
+    (λ (same : own ≡ number). ⊎_elim
     (λ (among : own < length senders). omega (
       arith,
       here same,
@@ -43,55 +48,55 @@ set_sender senders own s most new here old =
           ∙ get_or-set_same senders own new newcomer among),
     ))
     (λ (past : length senders ≤ own).
-    omega (arith, old, ap (λ (all : List WorldSender). (sender_at all s).pushed) (set_past senders own new past)))
+    omega (arith, old, ap (λ (all : List WorldSender). (sender_at all number).pushed) (set_past senders own new past)))
     (cases_lt own (length senders)))
-    (λ (other : own ≢ s). omega (
+    (λ (other : own ≢ number). omega (
       arith,
       old,
       ap (λ (sender : WorldSender). sender.pushed)
-          (get_or-set_other senders own s new newcomer (λ same. other (sym same))),
+          (get_or-set_other senders own number new newcomer (λ same. other (sym same))),
     ))
-    (cases_eq own s)
+    (cases_eq own number)
 
-push_keeps : (credit : ℕ) (w : WorldState) (ticket : Ticket) (b : Bool)
-    → has_credit credit (in_flight w ticket.sender) ticket.item ≡ true → InCredit credit w
-    → InCredit credit (unwrap_or (if b then Some (record w {
-      senders = senders_after w.senders ticket;
-      queue = w.queue ++ ticket ∷ [];
-    }) else None) w)
-push_keeps credit w ticket false is h = h
-push_keeps credit w ticket true is h = λ s.
+push_keeps : (credit : ℕ) (world : WorldState) (ticket : Ticket) (lawful : Bool)
+    → has_credit credit (in_flight world ticket.sender) ticket.item ≡ true → InCredit credit world
+    → InCredit credit (unwrap_or (if lawful then Some (record world {
+      senders = senders_after world.senders ticket;
+      queue = world.queue ++ ticket ∷ [];
+    }) else None) world)
+push_keeps credit world ticket false is in_credit = in_credit
+push_keeps credit world ticket true is in_credit = λ sender.
     let own = ticket.sender in
-    let new = sender_after (sender_at w.senders own) ticket.item in
-    let most : new.pushed ≤ length (received_of w own) + credit =
-    pushed_more credit (length (received_of w own)) (sender_at w.senders own) ticket.item (h own) is in
-    set_sender w.senders own s (length (received_of w s) + credit) new
-    (λ same. subst (λ k. new.pushed ≤ length (received_of w k) + credit) same most) (h s)
+    let new = sender_after (sender_at world.senders own) ticket.item in
+    let most : new.pushed ≤ length (received_of world own) + credit =
+    pushed_more credit (length (received_of world own)) (sender_at world.senders own) ticket.item (in_credit own) is in
+    set_sender world.senders own sender (length (received_of world sender) + credit) new
+    (λ same. subst (λ k. new.pushed ≤ length (received_of world k) + credit) same most) (in_credit sender)
 
-event_keeps : (credit : ℕ) (w : WorldState) (event : Event) → uses_credit credit w event ≡ true → InCredit credit w
-    → InCredit credit (after_event w event)
-event_keeps credit w (Push ticket) is h = push_keeps credit w ticket (is_lawful w ticket) is h
-event_keeps credit w event is h = by_step credit w (moved w event) (steps w event refl) h
+event_keeps : (credit : ℕ) (world : WorldState) (event : Event) → uses_credit credit world event ≡ true → InCredit credit world
+    → InCredit credit (after_event world event)
+event_keeps credit world (Push ticket) is in_credit = push_keeps credit world ticket (is_lawful world ticket) is in_credit
+event_keeps credit world event is in_credit = by_step credit world (moved world event) (steps world event refl) in_credit
 
-run_keeps : (credit : ℕ) (w : WorldState) (events : List Event) → UseCredit credit w events → InCredit credit w
-    → InCredit credit (run w events)
-run_keeps credit w [] uses h = h
-run_keeps credit w (event ∷ events) uses h =
-    run_keeps credit (after_event w event) events uses.1 (event_keeps credit w event uses.0 h)
+run_keeps : (credit : ℕ) (world : WorldState) (events : List Event) → UseCredit credit world events → InCredit credit world
+    → InCredit credit (run world events)
+run_keeps credit world [] uses in_credit = in_credit
+run_keeps credit world (event ∷ events) uses in_credit =
+    run_keeps credit (after_event world event) events uses.1 (event_keeps credit world event uses.0 in_credit)
 
-new_keeps : (credit : ℕ) (start : LedgerState) (limit n : ℕ) → InCredit credit (world_over start limit n)
-new_keeps credit start limit n = λ s.
+new_keeps : (credit : ℕ) (start : LedgerState) (limit submitters : ℕ) → InCredit credit (world_over start limit submitters)
+new_keeps credit start limit submitters = λ number.
     ⊎_elim
-    (λ (among : s < n + 1). omega (
+    (λ (among : number < submitters + 1). omega (
       arith,
-      ap (λ (sender : WorldSender). sender.pushed) (get_or-replicate (n + 1) s newcomer newcomer among),
+      ap (λ (sender : WorldSender). sender.pushed) (get_or-replicate (submitters + 1) number newcomer newcomer among),
     ))
-    (λ (past : n + 1 ≤ s). omega (
+    (λ (past : submitters + 1 ≤ number). omega (
       arith,
-      ap (λ (sender : WorldSender). sender.pushed) (get_or_past (world_over start limit n).senders s newcomer
-          (omega (arith, past, length-replicate (n + 1) newcomer))),
+      ap (λ (sender : WorldSender). sender.pushed) (get_or_past (world_over start limit submitters).senders number newcomer
+          (omega (arith, past, length-replicate (submitters + 1) newcomer))),
     ))
-    (cases_lt s (n + 1))
+    (cases_lt number (submitters + 1))
 
 -- ---- one reply for each packet
 
@@ -100,15 +105,15 @@ counted [] = refl
 counted (item.Packet job ∷ items) = omega (arith, counted items)
 counted (x ∷ items) = counted items
 
-as_many : (clock before n s : ℕ) (journal : List Input) (queue : List Ticket) → AreSubmitted n queue
-    → length (replies_to (all_due clock before (items_in queue) journal) s) ≡ packets_in (items_from s queue)
-as_many clock before n s journal queue all =
-    let replies = replies_to (all_due clock before (items_in queue) journal) s in
+as_many : (clock before submitters submitter : ℕ) (journal : List Input) (queue : List Ticket) → AreSubmitted submitters queue
+    → length (replies_to (all_due clock before (items_in queue) journal) submitter) ≡ packets_in (items_from submitter queue)
+as_many clock before submitters submitter journal queue all =
+    let replies = replies_to (all_due clock before (items_in queue) journal) submitter in
     omega (
       arith,
       length-map replies (λ (reply : ReplyValue). reply.packet),
-      ap length (one-each clock s journal (Ahead before) (items_in queue) ∙ sym (jobs-part n s queue all)),
-      counted (items_from s queue),
+      ap length (one-each clock submitter journal (Ahead before) (items_in queue) ∙ sym (jobs-part submitters submitter queue all)),
+      counted (items_from submitter queue),
     )
 
 -- ---- the room
@@ -117,51 +122,51 @@ fewer : {X : Type 0} (xs ys : List X) → IsPrefix xs ys → length xs ≤ lengt
 fewer xs ys (rest, is) = omega (arith, length-append xs rest, ap length is)
 
 -- what a submitter received, what is in its ring, and its own of those on the way, are no more than it pushed
-unread_few : {U : Type 0} {start : LedgerState} {n : ℕ} {pushed : List Ticket} {w : WorldState}
-    → Holds U start n pushed w → (s : ℕ) → s < n →
-    length (received_of w s) + (unread (mailbox_at w.mailboxes s)
-    + length (replies_to (unrouted w.replies w.outcomes w.outcome) s)) ≤ (sender_at w.senders s).pushed
-unread_few {start} {n} {pushed} {w} h s among =
-    let mailbox = mailbox_at w.mailboxes s in
-    let way = replies_to (unrouted w.replies w.outcomes w.outcome) s in
-    let all = all_due start.opening (length (inputs start)) (items_in pushed) (inputs w.ledger) in
-    let mine : IsPrefix (replies_to h.answers s) (replies_to all s) =
-    prefix-filter (λ (reply : ReplyValue). reply.packet.submitter == s) h.answers all
-    (far_prefix h) in
+unread_few : {Unrefused : Type 0} {start : LedgerState} {submitters : ℕ} {pushed : List Ticket} {world : WorldState}
+    → Holds Unrefused start submitters pushed world → (submitter : ℕ) → submitter < submitters →
+    length (received_of world submitter) + (unread (mailbox_at world.mailboxes submitter)
+    + length (replies_to (unrouted world.replies world.outcomes world.outcome) submitter)) ≤ (sender_at world.senders submitter).pushed
+unread_few {start} {submitters} {pushed} {world} holds submitter among =
+    let mailbox = mailbox_at world.mailboxes submitter in
+    let way = replies_to (unrouted world.replies world.outcomes world.outcome) submitter in
+    let all = all_due start.opening (length (inputs start)) (items_in pushed) (inputs world.ledger) in
+    let mine : IsPrefix (replies_to holds.answers submitter) (replies_to all submitter) =
+    prefix-filter (λ (reply : ReplyValue). reply.packet.submitter == submitter) holds.answers all
+    (far_prefix holds) in
     omega (
       arith,
-      ap length (h.routed.each s among),
+      ap length (holds.routed.each submitter among),
       length-append mailbox.received (mailbox.ring ++ way),
       length-append mailbox.ring way,
-      fewer (replies_to h.answers s) (replies_to all s) mine,
-      as_many start.opening (length (inputs start)) n s (inputs w.ledger) pushed h.senders.submitted,
-      (h.senders.each s (omega (arith, among))).counted,
+      fewer (replies_to holds.answers submitter) (replies_to all submitter) mine,
+      as_many start.opening (length (inputs start)) submitters submitter (inputs world.ledger) pushed holds.senders.submitted,
+      (holds.senders.each submitter (omega (arith, among))).counted,
     )
 
-room_for : {U : Type 0} {start : LedgerState} {n : ℕ} {pushed : List Ticket} {w : WorldState}
-    → Holds U start n pushed w → (credit : ℕ) → InCredit credit w → 0 < credit → (replies : List ReplyValue)
-    → w.replies ≡ replies → has_reply_slot credit w replies ≡ true
-room_for h credit in_credit some [] r = refl
-room_for {n} {w} h credit in_credit some (reply ∷ replies) r =
-    let s = reply.packet.submitter in
-    let less : unread (mailbox_at w.mailboxes s) < credit =
+room_for : {Unrefused : Type 0} {start : LedgerState} {submitters : ℕ} {pushed : List Ticket} {world : WorldState}
+    → Holds Unrefused start submitters pushed world → (credit : ℕ) → InCredit credit world → 0 < credit → (replies : List ReplyValue)
+    → world.replies ≡ replies → has_reply_slot credit world replies ≡ true
+room_for holds credit in_credit some [] replies_are = refl
+room_for {submitters} {world} holds credit in_credit some (reply ∷ replies) replies_are =
+    let submitter = reply.packet.submitter in
+    let mailbox = mailbox_at world.mailboxes submitter in
+    let less : unread mailbox < credit =
     ⊎_elim
-    (λ (among : s < n). omega (arith, in_credit s, unread_few h s among, one_more))
-    (λ (past : n ≤ s). omega (
+    (λ (among : submitter < submitters). omega (arith, in_credit submitter, unread_few holds submitter among, one_more))
+    (λ (past : submitters ≤ submitter). omega (
       arith,
       some,
-      ap unread
-          (get_or_past w.mailboxes s empty_mailbox (omega (arith, past, h.routed.long))),
+      ap unread (get_or_past world.mailboxes submitter empty_mailbox (omega (arith, past, holds.routed.long))),
     ))
-    (cases_lt s n) in
-    let lt : nat_lt (unread (mailbox_at w.mailboxes s)) credit ≡ true = lt-ltb (unread (mailbox_at w.mailboxes s)) credit less in
+    (cases_lt submitter submitters) in
+    let lt : nat_lt (unread mailbox) credit ≡ true = lt-ltb (unread mailbox) credit less in
     rw lt refl
   where
-    one_more : 0 < length (replies_to (unrouted w.replies w.outcomes w.outcome) reply.packet.submitter)
+    one_more : 0 < length (replies_to (unrouted world.replies world.outcomes world.outcome) reply.packet.submitter)
     one_more =
-        let s = reply.packet.submitter in
-        let own : (s == s) ≡ true = eq-eqb s s refl in
-        rw (r, own) (omega arith)
+        let submitter = reply.packet.submitter in
+        let own : (submitter == submitter) ≡ true = eq-eqb submitter submitter refl in
+        rw (replies_are, own) (omega arith)
 
 module _ (start : LedgerState) (limit submitters credit slots : ℕ) (events : List Event) where
   abbrev begin : WorldState

@@ -8,22 +8,22 @@ use Rattle.tb_world.proofs.progress.Rounds.{rounds_rest}
 
 -- ---- one event
 
-falls : (w next : WorldState) (event : Event) → is_push event ≡ false → moved w event ≡ Some next → left next < left w
-falls w next event unpushed leads =
-    (subst (λ (after : Option WorldState). Steps w after) leads (steps w event unpushed)).fewer
+falls : (world next : WorldState) (event : Event) → is_push event ≡ false → moved world event ≡ Some next → left next < left world
+falls world next event unpushed leads =
+    (subst (λ (after : Option WorldState). Steps world after) leads (steps world event unpushed)).fewer
 
-push_adds : (w next : WorldState) (ticket : Ticket) → moved w (Push ticket) ≡ Some next → left next ≡ left w + 7
-push_adds w next ticket leads = by (is_lawful w ticket) leads
+push_adds : (world next : WorldState) (ticket : Ticket) → moved world (Push ticket) ≡ Some next → left next ≡ left world + 7
+push_adds world next ticket leads = by (is_lawful world ticket) leads
   where
-    by : (b : Bool) → (if b then Some (record w {
-      senders = senders_after w.senders ticket;
-      queue = w.queue ++ ticket ∷ [];
-    }) else None) ≡ Some next → left next ≡ left w + 7
+    by : (b : Bool) → (if b then Some (record world {
+      senders = senders_after world.senders ticket;
+      queue = world.queue ++ ticket ∷ [];
+    }) else None) ≡ Some next → left next ≡ left world + 7
     by true is =
         omega (
           arith,
-          ap (λ (after : Option WorldState). left (unwrap_or after w)) is,
-          length-append w.queue (ticket ∷ []),
+          ap (λ (after : Option WorldState). left (unwrap_or after world)) is,
+          length-append world.queue (ticket ∷ []),
         )
     by false is = cc
 
@@ -33,36 +33,36 @@ each_step_counts = record { falls = falls; adds = push_adds; rests = rests; ends
 -- ---- any events
 
 -- an event adds at most seven for a ticket that it pushes, and there are as many mailboxes
-record AddsSeven (w : WorldState) (pushed : List Ticket) (next : WorldState) : Type 0 where
-  few : left next ≤ left w + 7 * length pushed
-  long : length next.mailboxes ≡ length w.mailboxes
+record AddsSeven (world : WorldState) (pushed : List Ticket) (next : WorldState) : Type 0 where
+  few : left next ≤ left world + 7 * length pushed
+  long : length next.mailboxes ≡ length world.mailboxes
 
-after_one : (w : WorldState) (event : Event) → AddsSeven w (pushed_at w event) (after_event w event)
-after_one w (Push ticket) = by (is_lawful w ticket)
+after_one : (world : WorldState) (event : Event) → AddsSeven world (pushed_at world event) (after_event world event)
+after_one world (Push ticket) = by (is_lawful world ticket)
   where
-    by : (b : Bool) → AddsSeven w (if b then ticket ∷ [] else []) (unwrap_or (if b then Some (record w {
-      senders = senders_after w.senders ticket;
-      queue = w.queue ++ ticket ∷ [];
-    }) else None) w)
-    by true = record { few = omega (arith, length-append w.queue (ticket ∷ [])); long = refl }
+    by : (b : Bool) → AddsSeven world (if b then ticket ∷ [] else []) (unwrap_or (if b then Some (record world {
+      senders = senders_after world.senders ticket;
+      queue = world.queue ++ ticket ∷ [];
+    }) else None) world)
+    by true = record { few = omega (arith, length-append world.queue (ticket ∷ [])); long = refl }
     by false = record { few = omega arith; long = refl }
-after_one w event = by (moved w event) (steps w event refl)
+after_one world event = by (moved world event) (steps world event refl)
   where
-    by : (after : Option WorldState) → Steps w after → AddsSeven w [] (unwrap_or after w)
+    by : (after : Option WorldState) → Steps world after → AddsSeven world [] (unwrap_or after world)
     by None step = record { few = omega arith; long = refl }
     by (Some next) step = record { few = omega (arith, step.fewer); long = step.long }
 
-after_all : (w : WorldState) (events : List Event) → AddsSeven w (history w events) (run w events)
-after_all w [] = record { few = omega arith; long = refl }
-after_all w (event ∷ events) =
-    let first = after_one w event in
-    let others = after_all (after_event w event) events in
+after_all : (world : WorldState) (events : List Event) → AddsSeven world (history world events) (run world events)
+after_all world [] = record { few = omega arith; long = refl }
+after_all world (event ∷ events) =
+    let first = after_one world event in
+    let others = after_all (after_event world event) events in
     record {
       few = omega (
         arith,
         first.few,
         others.few,
-        length-append (pushed_at w event) (history (after_event w event) events),
+        length-append (pushed_at world event) (history (after_event world event) events),
       );
       long = others.long ∙ first.long;
     }
@@ -71,38 +71,38 @@ none_unread : (n : ℕ) → sum_by unread (replicate n empty_mailbox) ≡ 0
 none_unread zero = refl
 none_unread (suc n) = sum_by-cons unread empty_mailbox (replicate n empty_mailbox) ∙ omega (arith, none_unread n)
 
-new_left : (start : LedgerState) (limit n : ℕ) → left (world_over start limit n) ≡ 0
-new_left start limit n = omega (arith, none_unread n, last)
+new_left : (start : LedgerState) (limit submitters : ℕ) → left (world_over start limit submitters) ≡ 0
+new_left start limit submitters = omega (arith, none_unread submitters, last)
   where
-    last : left_of_last (all_ended (world_over start limit n).front && true) ≡ 0
+    last : left_of_last (all_ended (world_over start limit submitters).front && true) ≡ 0
     last = rw add-one refl
 
 pub left_is_bounded : LeftIsBounded
-left_is_bounded start limit n events =
-    omega (arith, new_left start limit n, (after_all (world_over start limit n) events).few)
+left_is_bounded start limit submitters events =
+    omega (arith, new_left start limit submitters, (after_all (world_over start limit submitters) events).few)
 
-history_more : (w : WorldState) (xs ys : List Event) → history w (xs ++ ys) ≡ history w xs ++ history (run w xs) ys
-history_more w [] ys = refl
-history_more w (x ∷ xs) ys =
-    ap (λ (tickets : List Ticket). pushed_at w x ++ tickets) (history_more (after_event w x) xs ys)
-    ∙ sym (append_assoc (pushed_at w x) (history (after_event w x) xs) (history (run (after_event w x) xs) ys))
+history_more : (world : WorldState) (xs ys : List Event) → history world (xs ++ ys) ≡ history world xs ++ history (run world xs) ys
+history_more world [] ys = refl
+history_more world (x ∷ xs) ys =
+    ap (λ (tickets : List Ticket). pushed_at world x ++ tickets) (history_more (after_event world x) xs ys)
+    ∙ sym (append_assoc (pushed_at world x) (history (after_event world x) xs) (history (run (after_event world x) xs) ys))
 
-none_pushed : (w : WorldState) (event : Event) → is_push event ≡ false → pushed_at w event ≡ []
-none_pushed w (Push ticket) unpushed = cc
-none_pushed w event unpushed = refl
+none_pushed : (world : WorldState) (event : Event) → is_push event ≡ false → pushed_at world event ≡ []
+none_pushed world (Push ticket) unpushed = cc
+none_pushed world event unpushed = refl
 
-no_history : (w : WorldState) (steps : List Event) → list_any is_push steps ≡ false → history w steps ≡ []
-no_history w [] unpushed = refl
-no_history w (event ∷ steps) unpushed =
+no_history : (world : WorldState) (steps : List Event) → list_any is_push steps ≡ false → history world steps ≡ []
+no_history world [] unpushed = refl
+no_history world (event ∷ steps) unpushed =
     let none = or_parts (is_push event) (list_any is_push steps) unpushed in
-    rw (none_pushed w event none.0, no_history (after_event w event) steps none.1) refl
+    rw (none_pushed world event none.0, no_history (after_event world event) steps none.1) refl
 
-history_same : (w : WorldState) (events steps : List Event) → list_any is_push steps ≡ false
-    → history w (events ++ steps) ≡ history w events
-history_same w events steps unpushed =
-    history_more w events steps
-    ∙ ap (λ (more : List Ticket). history w events ++ more) (no_history (run w events) steps unpushed)
-    ∙ append-nil (history w events)
+history_same : (world : WorldState) (events steps : List Event) → list_any is_push steps ≡ false
+    → history world (events ++ steps) ≡ history world events
+history_same world events steps unpushed =
+    history_more world events steps
+    ∙ ap (λ (more : List Ticket). history world events ++ more) (no_history (run world events) steps unpushed)
+    ∙ append-nil (history world events)
 
 -- ---- steps so far
 
@@ -113,13 +113,13 @@ pub record SoFar (old new : WorldState) : Type 0 where
   pub unrefused : list_any is_refused steps ≡ false
   pub few : length steps + left new ≤ left old
 
-pub none_so_far : (w : WorldState) → SoFar w w
-none_so_far w = record { steps = []; leads = refl; no_push = refl; unrefused = refl; few = omega arith }
+pub none_so_far : (world : WorldState) → SoFar world world
+none_so_far world = record { steps = []; leads = refl; no_push = refl; unrefused = refl; few = omega arith }
 
-pub moving_falls : (w : WorldState) (event : Event) → MayMove w event → left (after_event w event) < left w
-moving_falls w event may = by (moved w event) (steps w event may.no_push) may.moves
+pub moving_falls : (world : WorldState) (event : Event) → MayMove world event → left (after_event world event) < left world
+moving_falls world event may = by (moved world event) (steps world event may.no_push) may.moves
   where
-    by : (after : Option WorldState) → Steps w after → is_some after ≡ true → left (unwrap_or after w) < left w
+    by : (after : Option WorldState) → Steps world after → is_some after ≡ true → left (unwrap_or after world) < left world
     by None step some = cc
     by (Some next) step some = step.fewer
 
@@ -127,8 +127,8 @@ none_more : (test : Event → Bool) (steps : List Event) (event : Event) → lis
     → test event ≡ false → list_any test (steps ++ event ∷ []) ≡ false
 none_more test steps event none one = rw (list_any-append test steps (event ∷ []), none, one) refl
 
-pub one_more : (old w : WorldState) (event : Event) → SoFar old w → MayMove w event → SoFar old (after_event w event)
-one_more old w event far may =
+pub one_more : (old world : WorldState) (event : Event) → SoFar old world → MayMove world event → SoFar old (after_event world event)
+one_more old world event far may =
     record {
       steps = far.steps ++ event ∷ [];
       leads = ap (λ (world : WorldState). after_event world event) far.leads
@@ -138,7 +138,7 @@ one_more old w event far may =
       few = omega (
         arith,
         far.few,
-        moving_falls w event may,
+        moving_falls world event may,
         length-append far.steps (event ∷ []),
       );
     }
@@ -154,9 +154,9 @@ has_finished old new far none =
       rest = rests new none;
     }
 
-pub runs_out : (old w : WorldState) (event : Event) → SoFar old w → MayMove w event
-    → takes_memory w event ≡ true → RunsOut old w
-runs_out old w event far may takes =
+pub runs_out : (old world : WorldState) (event : Event) → SoFar old world → MayMove world event
+    → takes_memory world event ≡ true → RunsOut old world
+runs_out old world event far may takes =
     record {
       steps = far.steps;
       event = event;
@@ -170,25 +170,25 @@ runs_out old w event far may takes =
 -- ---- rounds
 
 abbrev always : WorldState → Event → Bool
-always w event = true
+always world event = true
 
-run_always : (w : WorldState) (events : List Event) → run_within always w events ≡ run w events
-run_always w [] = refl
-run_always w (event ∷ events) = run_always (after_event w event) events
+run_always : (world : WorldState) (events : List Event) → run_within always world events ≡ run world events
+run_always world [] = refl
+run_always world (event ∷ events) = run_always (after_event world event) events
 
-moves_always : (w : WorldState) → (left w ≡ 0) ⊎ MovesWithin always w
-moves_always w = by (moves_within 1 1 (omega arith) (omega arith) w)
+moves_always : (world : WorldState) → (left world ≡ 0) ⊎ MovesWithin always world
+moves_always world = by (moves_within 1 1 (omega arith) (omega arith) world)
   where
-    by : (left w ≡ 0) ⊎ MovesWithin (has_room 1 1) w → (left w ≡ 0) ⊎ MovesWithin always w
+    by : (left world ≡ 0) ⊎ MovesWithin (has_room 1 1) world → (left world ≡ 0) ⊎ MovesWithin always world
     by (inl none) = inl none
     by (inr moving) =
-        inr (moving.0, moving.1, (within_parts (has_room 1 1 w moving.0) (moved w moving.0) moving.2).1)
+        inr (moving.0, moving.1, (within_parts (has_room 1 1 world moving.0) (moved world moving.0) moving.2).1)
 
-rounds_push_nothing : (n : ℕ) (rounds : List (List Event)) → AllByRecursion (IsRound n) rounds
+rounds_push_nothing : (submitters : ℕ) (rounds : List (List Event)) → AllByRecursion (IsRound submitters) rounds
     → list_any is_push (all_of rounds) ≡ false
-rounds_push_nothing n [] all = refl
-rounds_push_nothing n (round ∷ rounds) all =
-    rw (list_any-append is_push round (all_of rounds), all.0.no_push, rounds_push_nothing n rounds all.1) refl
+rounds_push_nothing submitters [] all = refl
+rounds_push_nothing submitters (round ∷ rounds) all =
+    rw (list_any-append is_push round (all_of rounds), all.0.no_push, rounds_push_nothing submitters rounds all.1) refl
 
 -- ---- runs over a ledger
 
@@ -223,7 +223,7 @@ module _ (start : LedgerState) (limit submitters : ℕ) (events : List Event) wh
       let same : run_within always middle (all_of rounds) ≡ world =
       run_always middle (all_of rounds) ∙ sym (ran.is ∙ run_more begin events (all_of rounds)) in
       let rest : IsAtRest world =
-      subst IsAtRest same (rounds_rest always (λ w event other is. refl) moves_always submitters middle rounds long all
+      subst IsAtRest same (rounds_rest always (λ world event other is. refl) moves_always submitters middle rounds long all
       (omega (arith, enough, left_is_bounded start limit submitters events))) in
       subst (λ (queue : List Ticket). IsLawfulAtRest start submitters queue world)
       (history_same begin events (all_of rounds) (rounds_push_nothing submitters rounds all)) (ran.at_rest rest)

@@ -4,10 +4,10 @@ use Rattle.tb_world.proofs.Words.{if◌then◌else◌, nat_lt, cases_lt, get_or_
 use Rattle.tb_core.specs.declared.parcel.Parcel.TheVariants as parcel
 use Rattle.tb_world.proofs.progress.Steps.{Steps, steps}
 
-pub rests : (w : WorldState) → left w ≡ 0 → IsAtRest w
-rests w none = λ event unpushed. by (moved w event) (steps w event unpushed)
+pub rests : (world : WorldState) → left world ≡ 0 → IsAtRest world
+rests world none = λ event unpushed. by (moved world event) (steps world event unpushed)
   where
-    by : (after : Option WorldState) → Steps w after → after ≡ None
+    by : (after : Option WorldState) → Steps world after → after ≡ None
     by None step = refl
     by (Some next) step = absurd (omega (arith, none, step.fewer))
 
@@ -36,137 +36,137 @@ all_read mailboxes own none =
 -- ---- a step moves
 
 abbrev pub MovesWithin : (WorldState → Event → Bool) → WorldState → Type 0
-MovesWithin room w = (event : Event) × (is_push event ≡ false) × (is_some (moved_within room w event) ≡ true)
+MovesWithin room world = (event : Event) × (is_push event ≡ false) × (is_some (moved_within room world event) ≡ true)
 
 module _ (slots credit : ℕ) (some_slots : 0 < slots) (some_credit : 0 < credit) where
   abbrev Moves : WorldState → Type 0
-  Moves w = MovesWithin (has_room slots credit) w
+  Moves world = MovesWithin (has_room slots credit) world
 
   abbrev Step : ℕ → WorldState → Type 0
-  Step n w = (n ≡ 0) ⊎ Moves w
+  Step n world = (n ≡ 0) ⊎ Moves world
 
-  step_by : (w : WorldState) (event : Event) → is_push event ≡ false → has_room slots credit w event ≡ true
-      → is_some (moved w event) ≡ true → Moves w
-  step_by w event unpushed room is = (event, unpushed, rw room is)
+  step_by : (world : WorldState) (event : Event) → is_push event ≡ false → has_room slots credit world event ≡ true
+      → is_some (moved world event) ≡ true → Moves world
+  step_by world event unpushed room is = (event, unpushed, rw room is)
 
   -- a first step, or one that finds that there is none
-  and_then : (w : WorldState) (n m : ℕ) → Step n w → (n ≡ 0 → Step m w) → Step (n + m) w
-  and_then w n m (inr moves) second = inr moves
-  and_then w n m (inl none) second = by (second none)
+  and_then : (world : WorldState) (first others : ℕ) → Step first world → (first ≡ 0 → Step others world) → Step (first + others) world
+  and_then world first others (inr moves) second = inr moves
+  and_then world first others (inl none) second = by (second none)
     where
-      by : Step m w → Step (n + m) w
+      by : Step others world → Step (first + others) world
       by (inl nothing) = inl (omega (arith, none, nothing))
       by (inr moves) = inr moves
 
-  read_step : (w : WorldState) (own : ℕ) (ring : List ReplyValue) → (mailbox_at w.mailboxes own).ring ≡ ring
-      → 0 < length ring → Moves w
-  read_step w own [] e some = absurd (omega (arith, some))
-  read_step w own (reply ∷ ring) e some =
-      step_by w (ReplyPop own) refl refl
-      (ap (λ (ring : List ReplyValue). is_some (reply_pop w own (after_pop_of (mailbox_at w.mailboxes own) ring))) e)
+  read_step : (world : WorldState) (own : ℕ) (ring : List ReplyValue) → (mailbox_at world.mailboxes own).ring ≡ ring
+      → 0 < length ring → Moves world
+  read_step world own [] ring_is some = absurd (omega (arith, some))
+  read_step world own (reply ∷ ring) ring_is some =
+      step_by world (ReplyPop own) refl refl
+      (ap (λ (ring : List ReplyValue). is_some (reply_pop world own (after_pop_of (mailbox_at world.mailboxes own) ring))) ring_is)
 
-  reader : (w : WorldState) → Step (sum_by unread w.mailboxes) w
-  reader w = by (find_unread w.mailboxes)
+  reader : (world : WorldState) → Step (sum_by unread world.mailboxes) world
+  reader world = by (find_unread world.mailboxes)
     where
-      by : (sum_by unread w.mailboxes ≡ 0) ⊎ ((own : ℕ) × (0 < unread (mailbox_at w.mailboxes own)))
-          → Step (sum_by unread w.mailboxes) w
+      by : (sum_by unread world.mailboxes ≡ 0) ⊎ ((own : ℕ) × (0 < unread (mailbox_at world.mailboxes own)))
+          → Step (sum_by unread world.mailboxes) world
       by (inl none) = inl none
-      by (inr there) = inr (read_step w there.0 (mailbox_at w.mailboxes there.0).ring refl there.1)
+      by (inr there) = inr (read_step world there.0 (mailbox_at world.mailboxes there.0).ring refl there.1)
 
-  reply_room : (w : WorldState) (replies : List ReplyValue) → sum_by unread w.mailboxes ≡ 0 →
-      has_reply_slot credit w replies ≡ true
-  reply_room w [] none = refl
-  reply_room w (reply ∷ replies) none =
-      let lt : nat_lt (unread (mailbox_at w.mailboxes reply.packet.submitter)) credit ≡ true =
-      lt-ltb (unread (mailbox_at w.mailboxes reply.packet.submitter)) credit
-      (omega (arith, some_credit, all_read w.mailboxes reply.packet.submitter none)) in
+  reply_room : (world : WorldState) (replies : List ReplyValue) → sum_by unread world.mailboxes ≡ 0 →
+      has_reply_slot credit world replies ≡ true
+  reply_room world [] none = refl
+  reply_room world (reply ∷ replies) none =
+      let lt : nat_lt (unread (mailbox_at world.mailboxes reply.packet.submitter)) credit ≡ true =
+      lt-ltb (unread (mailbox_at world.mailboxes reply.packet.submitter)) credit
+      (omega (arith, some_credit, all_read world.mailboxes reply.packet.submitter none)) in
       rw lt refl
 
-  cutter : (w : WorldState) (replies : List ReplyValue) (outcomes : List Outcomes) → w.replies ≡ replies
-      → w.outcomes ≡ outcomes → sum_by unread w.mailboxes ≡ 0
-      → Step (length outcomes + (sum_by left_of_outcomes outcomes + 2 * length replies)) w
-  cutter w (reply ∷ replies) outcomes r o none =
-      inr (step_by w ReplyPush refl (reply_room w w.replies none)
-      (ap (λ (replies : List ReplyValue). is_some (reply_push w replies)) r))
-  cutter w [] [] r o none = inl refl
-  cutter w [] (outcome ∷ outcomes) r o none =
-      inr (step_by w OutcomePop refl refl
-      (ap (λ (replies : List ReplyValue). is_some (outcome_pop w replies w.outcomes)) r
-      ∙ ap (λ (outcomes : List Outcomes). is_some (outcome_pop w [] outcomes)) o))
+  cutter : (world : WorldState) (replies : List ReplyValue) (outcomes : List Outcomes) → world.replies ≡ replies
+      → world.outcomes ≡ outcomes → sum_by unread world.mailboxes ≡ 0
+      → Step (length outcomes + (sum_by left_of_outcomes outcomes + 2 * length replies)) world
+  cutter world (reply ∷ replies) outcomes replies_are outcomes_are none =
+      inr (step_by world ReplyPush refl (reply_room world world.replies none)
+      (ap (λ (replies : List ReplyValue). is_some (reply_push world replies)) replies_are))
+  cutter world [] [] replies_are outcomes_are none = inl refl
+  cutter world [] (outcome ∷ outcomes) replies_are outcomes_are none =
+      inr (step_by world OutcomePop refl refl
+      (ap (λ (replies : List ReplyValue). is_some (outcome_pop world replies world.outcomes)) replies_are
+      ∙ ap (λ (outcomes : List Outcomes). is_some (outcome_pop world [] outcomes)) outcomes_are))
 
-  committer : (w : WorldState) (outcome : Option Outcomes) (batches : List Parcel) → w.outcome ≡ outcome
-      → w.batches ≡ batches → length w.outcomes ≡ 0
-      → Step (length batches + (sum_by left_of_pushed batches + left_of_outcome outcome)) w
-  committer w (Some outcome) batches o e none =
-      inr (step_by w OutcomePush refl (lt-ltb _ slots (omega (arith, some_slots, none)))
-      (ap (λ (outcome : Option Outcomes). is_some (outcome_push w outcome)) o))
-  committer w None [] o e none = inl refl
-  committer w None (p ∷ batches) o e none =
-      inr (step_by w (BatchPop false) refl refl
-      (ap (λ (outcome : Option Outcomes). is_some (batch_pop false w outcome w.batches)) o
-      ∙ ap (λ (batches : List Parcel). is_some (batch_pop false w None batches)) e))
+  committer : (world : WorldState) (outcome : Option Outcomes) (batches : List Parcel) → world.outcome ≡ outcome
+      → world.batches ≡ batches → length world.outcomes ≡ 0
+      → Step (length batches + (sum_by left_of_pushed batches + left_of_outcome outcome)) world
+  committer world (Some outcome) batches outcome_is batches_are none =
+      inr (step_by world OutcomePush refl (lt-ltb _ slots (omega (arith, some_slots, none)))
+      (ap (λ (outcome : Option Outcomes). is_some (outcome_push world outcome)) outcome_is))
+  committer world None [] outcome_is batches_are none = inl refl
+  committer world None (handed ∷ batches) outcome_is batches_are none =
+      inr (step_by world (BatchPop false) refl refl
+      (ap (λ (outcome : Option Outcomes). is_some (batch_pop false world outcome world.batches)) outcome_is
+      ∙ ap (λ (batches : List Parcel). is_some (batch_pop false world None batches)) batches_are))
 
-  batcher : (w : WorldState) (parcels : List Parcel) (held : List Numbered) (queue : List Ticket) → w.parcels ≡ parcels
-      → w.front.held ≡ held → w.queue ≡ queue → length w.batches ≡ 0 →
+  batcher : (world : WorldState) (parcels : List Parcel) (held : List Numbered) (queue : List Ticket) → world.parcels ≡ parcels
+      → world.front.held ≡ held → world.queue ≡ queue → length world.batches ≡ 0 →
       Step (7 * length queue + (sum_by left_of_parcel parcels + (sum_by left_of_parcel (group_as_batch held)
-      + left_of_last (all_ended w.front && not w.last_sent)))) w
-  batcher w parcels held queue e g q none = by parcels held queue e g q
+      + left_of_last (all_ended world.front && not world.last_sent)))) world
+  batcher world parcels held queue parcels_are held_is queue_is none = by parcels held queue parcels_are held_is queue_is
     where
-      room : has_room slots credit w BatchPush ≡ true
+      room : has_room slots credit world BatchPush ≡ true
       room = lt-ltb _ slots (omega (arith, some_slots, none))
 
-      pushes : (parcels : List Parcel) (held : List Numbered) → w.parcels ≡ parcels → w.front.held ≡ held
-          → is_some (batch_push w parcels held) ≡ true → Moves w
-      pushes parcels held e g is =
-          step_by w BatchPush refl room
-          (ap (λ (parcels : List Parcel). is_some (batch_push w parcels w.front.held)) e
-          ∙ ap (λ (held : List Numbered). is_some (batch_push w parcels held)) g ∙ is)
+      pushes : (parcels : List Parcel) (held : List Numbered) → world.parcels ≡ parcels → world.front.held ≡ held
+          → is_some (batch_push world parcels held) ≡ true → Moves world
+      pushes parcels held parcels_are held_is is =
+          step_by world BatchPush refl room
+          (ap (λ (parcels : List Parcel). is_some (batch_push world parcels world.front.held)) parcels_are
+          ∙ ap (λ (held : List Numbered). is_some (batch_push world parcels held)) held_is ∙ is)
 
-      last : (b : Bool) → (all_ended w.front && not w.last_sent) ≡ b → w.parcels ≡ [] → w.front.held ≡ []
-          → Step (7 * 0 + (0 + (0 + left_of_last b))) w
-      last false is e g = inl refl
-      last true is e g =
-          inr (pushes [] [] e g
-          (ap (λ (b : Bool). is_some (if b then Some (record w { last_sent = true; batches = w.batches ++ parcel.Last ∷ [] })
-          else None)) is))
+      last : (is_last : Bool) → (all_ended world.front && not world.last_sent) ≡ is_last → world.parcels ≡ [] → world.front.held ≡ []
+          → Step (7 * 0 + (0 + (0 + left_of_last is_last))) world
+      last false is parcels_are held_is = inl refl
+      last true is parcels_are held_is =
+          inr (pushes [] [] parcels_are held_is
+          (ap (λ (is_last : Bool). is_some (if is_last
+          then Some (record world { last_sent = true; batches = world.batches ++ parcel.Last ∷ [] }) else None)) is))
 
-      by : (parcels : List Parcel) (held : List Numbered) (queue : List Ticket) → w.parcels ≡ parcels
-          → w.front.held ≡ held → w.queue ≡ queue →
+      by : (parcels : List Parcel) (held : List Numbered) (queue : List Ticket) → world.parcels ≡ parcels
+          → world.front.held ≡ held → world.queue ≡ queue →
           Step (7 * length queue + (sum_by left_of_parcel parcels + (sum_by left_of_parcel (group_as_batch held)
-          + left_of_last (all_ended w.front && not w.last_sent)))) w
-      by (p ∷ parcels) held queue e g q = inr (pushes (p ∷ parcels) held e g refl)
-      by [] (job ∷ jobs) queue e g q = inr (pushes [] (job ∷ jobs) e g refl)
-      by [] [] (ticket ∷ queue) e g q =
-          inr (step_by w (Pop false) refl refl
-          (ap (λ (parcels : List Parcel). is_some (pop false w parcels w.queue)) e
-          ∙ ap (λ (queue : List Ticket). is_some (pop false w [] queue)) q))
-      by [] [] [] e g q = last (all_ended w.front && not w.last_sent) refl e g
+          + left_of_last (all_ended world.front && not world.last_sent)))) world
+      by (handed ∷ parcels) held queue parcels_are held_is queue_is = inr (pushes (handed ∷ parcels) held parcels_are held_is refl)
+      by [] (job ∷ jobs) queue parcels_are held_is queue_is = inr (pushes [] (job ∷ jobs) parcels_are held_is refl)
+      by [] [] (ticket ∷ queue) parcels_are held_is queue_is =
+          inr (step_by world (Pop false) refl refl
+          (ap (λ (parcels : List Parcel). is_some (pop false world parcels world.queue)) parcels_are
+          ∙ ap (λ (queue : List Ticket). is_some (pop false world [] queue)) queue_is))
+      by [] [] [] parcels_are held_is queue_is = last (all_ended world.front && not world.last_sent) refl parcels_are held_is
 
   abbrev later_steps : WorldState → ℕ
-  later_steps w =
-      (length w.batches + (sum_by left_of_pushed w.batches + left_of_outcome w.outcome))
-      + (7 * length w.queue + (sum_by left_of_parcel w.parcels + (sum_by left_of_parcel (group_as_batch w.front.held)
-      + left_of_last (all_ended w.front && not w.last_sent))))
+  later_steps world =
+      (length world.batches + (sum_by left_of_pushed world.batches + left_of_outcome world.outcome))
+      + (7 * length world.queue + (sum_by left_of_parcel world.parcels + (sum_by left_of_parcel (group_as_batch world.front.held)
+      + left_of_last (all_ended world.front && not world.last_sent))))
 
   abbrev cut_steps : WorldState → ℕ
-  cut_steps w = length w.outcomes + (sum_by left_of_outcomes w.outcomes + 2 * length w.replies)
+  cut_steps world = length world.outcomes + (sum_by left_of_outcomes world.outcomes + 2 * length world.replies)
 
-  pub moves_within : (w : WorldState) → (left w ≡ 0) ⊎ Moves w
-  moves_within w =
-      by (and_then w (sum_by unread w.mailboxes) (cut_steps w + later_steps w) (reader w)
-      (λ read. and_then w (cut_steps w) (later_steps w) (cutter w w.replies w.outcomes refl refl read)
-      (λ cut. and_then w _ _ (committer w w.outcome w.batches refl refl (omega (arith, cut)))
-      (λ committed. batcher w w.parcels w.front.held w.queue refl refl refl (omega (arith, committed))))))
+  pub moves_within : (world : WorldState) → (left world ≡ 0) ⊎ Moves world
+  moves_within world =
+      by (and_then world (sum_by unread world.mailboxes) (cut_steps world + later_steps world) (reader world)
+      (λ read. and_then world (cut_steps world) (later_steps world) (cutter world world.replies world.outcomes refl refl read)
+      (λ cut. and_then world _ _ (committer world world.outcome world.batches refl refl (omega (arith, cut)))
+      (λ committed. batcher world world.parcels world.front.held world.queue refl refl refl (omega (arith, committed))))))
     where
-      by : Step (sum_by unread w.mailboxes + (cut_steps w + later_steps w)) w → (left w ≡ 0) ⊎ Moves w
+      by : Step (sum_by unread world.mailboxes + (cut_steps world + later_steps world)) world → (left world ≡ 0) ⊎ Moves world
       by (inl none) = inl (omega (arith, none))
       by (inr moves) = inr moves
 
-  pub none_is_stuck : (w : WorldState) → IsAtRest w ⊎ Moves w
-  none_is_stuck w = by (moves_within w)
+  pub none_is_stuck : (world : WorldState) → IsAtRest world ⊎ Moves world
+  none_is_stuck world = by (moves_within world)
     where
-      by : (left w ≡ 0) ⊎ Moves w → IsAtRest w ⊎ Moves w
-      by (inl none) = inl (rests w none)
+      by : (left world ≡ 0) ⊎ Moves world → IsAtRest world ⊎ Moves world
+      by (inl none) = inl (rests world none)
       by (inr moves) = inr moves
 
 -- the parts of a step that found room and moved
@@ -175,12 +175,12 @@ pub within_parts : (b : Bool) (after : Option WorldState) → is_some (if b then
 within_parts true after is = (refl, is)
 within_parts false after is = cc
 
-pub ends : (w : WorldState) → IsAtRest w → left w ≡ 0
-ends w rest = by (moves_within 1 1 (omega arith) (omega arith) w)
+pub ends : (world : WorldState) → IsAtRest world → left world ≡ 0
+ends world rest = by (moves_within 1 1 (omega arith) (omega arith) world)
   where
-    by : (left w ≡ 0) ⊎ MovesWithin (has_room 1 1) w → left w ≡ 0
+    by : (left world ≡ 0) ⊎ MovesWithin (has_room 1 1) world → left world ≡ 0
     by (inl none) = none
     by (inr (event, unpushed, moves)) =
-        let parts = within_parts (has_room 1 1 w event) (moved w event) moves in
-        let stays : is_some (moved w event) ≡ false = ap (λ (after : Option WorldState). is_some after) (rest event unpushed) in
+        let parts = within_parts (has_room 1 1 world event) (moved world event) moves in
+        let stays : is_some (moved world event) ≡ false = ap (λ (after : Option WorldState). is_some after) (rest event unpushed) in
         cc

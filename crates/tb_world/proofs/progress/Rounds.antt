@@ -6,160 +6,160 @@ use Rattle.tb_world.proofs.progress.Rests.{MovesWithin, within_parts, moves_with
 
 -- ---- the same actor moves too
 
-pop_either : (refused other : Bool) (w : WorldState) (parcels : List Parcel) (queue : List Ticket)
-    → is_some (pop refused w parcels queue) ≡ true → is_some (pop other w parcels queue) ≡ true
-pop_either refused other w [] (ticket ∷ queue) is = refl
-pop_either refused other w [] [] is = cc
-pop_either refused other w (p ∷ parcels) queue is = cc
+pop_either : (refused other : Bool) (world : WorldState) (parcels : List Parcel) (queue : List Ticket)
+    → is_some (pop refused world parcels queue) ≡ true → is_some (pop other world parcels queue) ≡ true
+pop_either refused other world [] (ticket ∷ queue) is = refl
+pop_either refused other world [] [] is = cc
+pop_either refused other world (handed ∷ parcels) queue is = cc
 
-batch_pop_either : (refused other : Bool) (w : WorldState) (outcome : Option Outcomes) (batches : List Parcel)
-    → is_some (batch_pop refused w outcome batches) ≡ true → is_some (batch_pop other w outcome batches) ≡ true
-batch_pop_either refused other w None (p ∷ batches) is = refl
-batch_pop_either refused other w None [] is = cc
-batch_pop_either refused other w (Some outcome) batches is = cc
+batch_pop_either : (refused other : Bool) (world : WorldState) (outcome : Option Outcomes) (batches : List Parcel)
+    → is_some (batch_pop refused world outcome batches) ≡ true → is_some (batch_pop other world outcome batches) ≡ true
+batch_pop_either refused other world None (handed ∷ batches) is = refl
+batch_pop_either refused other world None [] is = cc
+batch_pop_either refused other world (Some outcome) batches is = cc
 
-same_moves : (w : WorldState) (event other : Event) → is_same_step event other ≡ true
-    → is_some (moved w event) ≡ true → is_some (moved w other) ≡ true
-same_moves w (Pop refused) (Pop other) same is = pop_either refused other w w.parcels w.queue is
-same_moves w BatchPush BatchPush same is = is
-same_moves w (BatchPop refused) (BatchPop other) same is = batch_pop_either refused other w w.outcome w.batches is
-same_moves w OutcomePush OutcomePush same is = is
-same_moves w OutcomePop OutcomePop same is = is
-same_moves w ReplyPush ReplyPush same is = is
-same_moves w (ReplyPop own) (ReplyPop other) same is =
-    subst (λ k. is_some (moved w (ReplyPop k)) ≡ true) (eqb-true own other same) is
-same_moves w event other same is = cc
+same_moves : (world : WorldState) (event other : Event) → is_same_step event other ≡ true
+    → is_some (moved world event) ≡ true → is_some (moved world other) ≡ true
+same_moves world (Pop refused) (Pop other) same is = pop_either refused other world world.parcels world.queue is
+same_moves world BatchPush BatchPush same is = is
+same_moves world (BatchPop refused) (BatchPop other) same is = batch_pop_either refused other world world.outcome world.batches is
+same_moves world OutcomePush OutcomePush same is = is
+same_moves world OutcomePop OutcomePop same is = is
+same_moves world ReplyPush ReplyPush same is = is
+same_moves world (ReplyPop own) (ReplyPop other) same is =
+    subst (λ k. is_some (moved world (ReplyPop k)) ≡ true) (eqb-true own other same) is
+same_moves world event other same is = cc
 
 -- a step that moves is one of a stage, or of a submitter that there is
-a_step : (n : ℕ) (w : WorldState) (event : Event) → length w.mailboxes ≤ n → is_push event ≡ false
-    → is_some (moved w event) ≡ true → is_step_of n event ≡ true
-a_step n w (Push ticket) few unpushed is = cc
-a_step n w (ReplyPop own) few unpushed is = by (mailbox_at w.mailboxes own).ring refl is
+a_step : (submitters : ℕ) (world : WorldState) (event : Event) → length world.mailboxes ≤ submitters → is_push event ≡ false
+    → is_some (moved world event) ≡ true → is_step_of submitters event ≡ true
+a_step submitters world (Push ticket) few unpushed is = cc
+a_step submitters world (ReplyPop own) few unpushed is = by (mailbox_at world.mailboxes own).ring refl is
   where
-    by : (ring : List ReplyValue) → (mailbox_at w.mailboxes own).ring ≡ ring →
-        is_some (reply_pop w own (after_pop_of (mailbox_at w.mailboxes own) ring)) ≡ true
-        → is_step_of n (ReplyPop own) ≡ true
-    by [] e is = cc
-    by (reply ∷ ring) e is =
-        lt-ltb _ n (omega (arith, few, is_among w.mailboxes own (omega (arith, ap length e))))
-a_step n w event few unpushed is = refl
+    by : (ring : List ReplyValue) → (mailbox_at world.mailboxes own).ring ≡ ring →
+        is_some (reply_pop world own (after_pop_of (mailbox_at world.mailboxes own) ring)) ≡ true
+        → is_step_of submitters (ReplyPop own) ≡ true
+    by [] ring_is is = cc
+    by (reply ∷ ring) ring_is is =
+        lt-ltb _ submitters (omega (arith, few, is_among world.mailboxes own (omega (arith, ap length ring_is))))
+a_step submitters world event few unpushed is = refl
 
 -- ---- whatever the room that steps find
 
 module _ (room : WorldState → Event → Bool)
-    (same_room : (w : WorldState) (event other : Event) → is_same_step event other ≡ true
-    → room w event ≡ room w other)
-    (moves : (w : WorldState) → (left w ≡ 0) ⊎ MovesWithin room w) where
-  same_within : (w : WorldState) (event other : Event) → is_same_step event other ≡ true
-      → is_some (moved_within room w event) ≡ true → is_some (moved_within room w other) ≡ true
-  same_within w event other same is =
-      let parts = within_parts (room w event) (moved w event) is in
-      let has : room w other ≡ true = sym (same_room w event other same) ∙ parts.0 in
-      rw has (same_moves w event other same parts.1)
+    (same_room : (world : WorldState) (event other : Event) → is_same_step event other ≡ true
+    → room world event ≡ room world other)
+    (moves : (world : WorldState) → (left world ≡ 0) ⊎ MovesWithin room world) where
+  same_within : (world : WorldState) (event other : Event) → is_same_step event other ≡ true
+      → is_some (moved_within room world event) ≡ true → is_some (moved_within room world other) ≡ true
+  same_within world event other same is =
+      let parts = within_parts (room world event) (moved world event) is in
+      let has : room world other ≡ true = sym (same_room world event other same) ∙ parts.0 in
+      rw has (same_moves world event other same parts.1)
 
-  steps_within : (w : WorldState) (event : Event) → is_push event ≡ false → Steps w (moved_within room w event)
-  steps_within w event unpushed = by (room w event)
+  steps_within : (world : WorldState) (event : Event) → is_push event ≡ false → Steps world (moved_within room world event)
+  steps_within world event unpushed = by (room world event)
     where
-      by : (b : Bool) → Steps w (if b then moved w event else None)
-      by true = steps w event unpushed
+      by : (b : Bool) → Steps world (if b then moved world event else None)
+      by true = steps world event unpushed
       by false = tt
 
   -- no more is left, and there are as many mailboxes
-  record NoMore (w next : WorldState) : Type 0 where
-    few : left next ≤ left w
-    long : length next.mailboxes ≡ length w.mailboxes
+  record NoMore (world next : WorldState) : Type 0 where
+    few : left next ≤ left world
+    long : length next.mailboxes ≡ length world.mailboxes
 
-  after_step : (w : WorldState) (after : Option WorldState) → Steps w after → NoMore w (unwrap_or after w)
-  after_step w None step = record { few = omega arith; long = refl }
-  after_step w (Some next) step = record { few = omega (arith, step.fewer); long = step.long }
+  after_step : (world : WorldState) (after : Option WorldState) → Steps world after → NoMore world (unwrap_or after world)
+  after_step world None step = record { few = omega arith; long = refl }
+  after_step world (Some next) step = record { few = omega (arith, step.fewer); long = step.long }
 
-  never_more : (w : WorldState) (events : List Event) → list_any is_push events ≡ false
-      → NoMore w (run_within room w events)
-  never_more w [] unpushed = record { few = omega arith; long = refl }
-  never_more w (event ∷ events) unpushed =
+  never_more : (world : WorldState) (events : List Event) → list_any is_push events ≡ false
+      → NoMore world (run_within room world events)
+  never_more world [] unpushed = record { few = omega arith; long = refl }
+  never_more world (event ∷ events) unpushed =
       let none = or_parts (is_push event) (list_any is_push events) unpushed in
-      let after = moved_within room w event in
-      let first = after_step w after (steps_within w event none.0) in
-      let others = never_more (unwrap_or after w) events none.1 in
+      let after = moved_within room world event in
+      let first = after_step world after (steps_within world event none.0) in
+      let others = never_more (unwrap_or after world) events none.1 in
       record { few = omega (arith, first.few, others.few); long = others.long ∙ first.long }
 
   -- an event that moves still does after one of another actor that doesn't
-  later : {b : Bool} (w : WorldState) (event x : Event) (events : List Event)
-      → is_some (moved_within room w event) ≡ true → is_same_step event x ≡ b
-      → moved_within room w x ≡ None → (b || list_any (is_same_step event) events) ≡ true
+  later : {same : Bool} (world : WorldState) (event other : Event) (events : List Event)
+      → is_some (moved_within room world event) ≡ true → is_same_step event other ≡ same
+      → moved_within room world other ≡ None → (same || list_any (is_same_step event) events) ≡ true
       → list_any (is_same_step event) events ≡ true
-  later {b = false} w event x events moves is stays among = among
-  later {b = true} w event x events moves is stays among =
-      let moves_too : is_some (moved_within room w x) ≡ true = same_within w event x is moves in
-      let stays_too : is_some (moved_within room w x) ≡ false =
+  later {same = false} world event other events moves is stays among = among
+  later {same = true} world event other events moves is stays among =
+      let moves_too : is_some (moved_within room world other) ≡ true = same_within world event other is moves in
+      let stays_too : is_some (moved_within room world other) ≡ false =
       ap (λ (after : Option WorldState). is_some after) stays in
       cc
 
   -- the first event of a round moves, or the others lead on from the same World
-  first_of_round : (w : WorldState) (x : Event) (events : List Event) (after : Option WorldState)
-      → moved_within room w x ≡ after → Steps w after → list_any is_push events ≡ false
-      → (moved_within room w x ≡ None → left (run_within room w events) < left w)
-      → left (run_within room (unwrap_or after w) events) < left w
-  first_of_round w x events (Some next) is step unpushed others =
+  first_of_round : (world : WorldState) (first : Event) (events : List Event) (after : Option WorldState)
+      → moved_within room world first ≡ after → Steps world after → list_any is_push events ≡ false
+      → (moved_within room world first ≡ None → left (run_within room world events) < left world)
+      → left (run_within room (unwrap_or after world) events) < left world
+  first_of_round world first events (Some next) is step unpushed others =
       omega (arith, step.fewer, (never_more next events unpushed).few)
-  first_of_round w x events None is step unpushed others = others is
+  first_of_round world first events None is step unpushed others = others is
 
-  round_falls : (w : WorldState) (event : Event) (events : List Event) → list_any is_push events ≡ false
-      → is_some (moved_within room w event) ≡ true → list_any (is_same_step event) events ≡ true
-      → left (run_within room w events) < left w
-  round_falls w event [] unpushed moves among = cc
-  round_falls w event (x ∷ events) unpushed moves among =
-      let none = or_parts (is_push x) (list_any is_push events) unpushed in
-      first_of_round w x events (moved_within room w x) refl (steps_within w x none.0) none.1
-      (λ stays. round_falls w event events none.1 moves
-      (later w event x events moves refl stays among))
+  round_falls : (world : WorldState) (event : Event) (events : List Event) → list_any is_push events ≡ false
+      → is_some (moved_within room world event) ≡ true → list_any (is_same_step event) events ≡ true
+      → left (run_within room world events) < left world
+  round_falls world event [] unpushed moves among = cc
+  round_falls world event (first ∷ events) unpushed moves among =
+      let none = or_parts (is_push first) (list_any is_push events) unpushed in
+      first_of_round world first events (moved_within room world first) refl (steps_within world first none.0) none.1
+      (λ stays. round_falls world event events none.1 moves
+      (later world event first events moves refl stays among))
 
-  run_more : (w : WorldState) (xs ys : List Event) → run_within room w (xs ++ ys)
-      ≡ run_within room (run_within room w xs) ys
-  run_more w [] ys = refl
-  run_more w (x ∷ xs) ys = run_more (unwrap_or (moved_within room w x) w) xs ys
+  run_more : (world : WorldState) (xs ys : List Event) → run_within room world (xs ++ ys)
+      ≡ run_within room (run_within room world xs) ys
+  run_more world [] ys = refl
+  run_more world (x ∷ xs) ys = run_more (unwrap_or (moved_within room world x) world) xs ys
 
-  rounds_fall : (n : ℕ) (w : WorldState) (rounds : List (List Event)) → length w.mailboxes ≤ n
-      → AllByRecursion (IsRound n) rounds → left w ≤ length rounds → left (run_within room w (all_of rounds)) ≡ 0
-  rounds_fall n w [] few all enough = omega (arith, enough)
-  rounds_fall n w (round ∷ rounds) few all enough =
-      let others = never_more w round all.0.no_push in
-      ap left (run_more w round (all_of rounds))
-      ∙ rounds_fall n (run_within room w round) rounds (omega (arith, few, others.long)) all.1 (by (moves w))
+  rounds_fall : (submitters : ℕ) (world : WorldState) (rounds : List (List Event)) → length world.mailboxes ≤ submitters
+      → AllByRecursion (IsRound submitters) rounds → left world ≤ length rounds → left (run_within room world (all_of rounds)) ≡ 0
+  rounds_fall submitters world [] few all enough = omega (arith, enough)
+  rounds_fall submitters world (round ∷ rounds) few all enough =
+      let others = never_more world round all.0.no_push in
+      ap left (run_more world round (all_of rounds))
+      ∙ rounds_fall submitters (run_within room world round) rounds (omega (arith, few, others.long)) all.1 (by (moves world))
     where
-      by : (left w ≡ 0) ⊎ MovesWithin room w → left (run_within room w round) ≤ length rounds
-      by (inl none) = omega (arith, none, (never_more w round all.0.no_push).few)
+      by : (left world ≡ 0) ⊎ MovesWithin room world → left (run_within room world round) ≤ length rounds
+      by (inl none) = omega (arith, none, (never_more world round all.0.no_push).few)
       by (inr moving) =
-          let parts = within_parts (room w moving.0) (moved w moving.0) moving.2 in
+          let parts = within_parts (room world moving.0) (moved world moving.0) moving.2 in
           omega (
             arith,
             enough,
-            round_falls w moving.0 round all.0.no_push moving.2
-                (all.0.all moving.0 (a_step n w moving.0 few moving.1 parts.1)),
+            round_falls world moving.0 round all.0.no_push moving.2
+                (all.0.all moving.0 (a_step submitters world moving.0 few moving.1 parts.1)),
           )
 
-  pub rounds_rest : (n : ℕ) (w : WorldState) (rounds : List (List Event)) → length w.mailboxes ≤ n
-      → AllByRecursion (IsRound n) rounds → left w ≤ length rounds → IsAtRest (run_within room w (all_of rounds))
-  rounds_rest n w rounds few all enough =
-      rests (run_within room w (all_of rounds)) (rounds_fall n w rounds few all enough)
+  pub rounds_rest : (submitters : ℕ) (world : WorldState) (rounds : List (List Event)) → length world.mailboxes ≤ submitters
+      → AllByRecursion (IsRound submitters) rounds → left world ≤ length rounds → IsAtRest (run_within room world (all_of rounds))
+  rounds_rest submitters world rounds few all enough =
+      rests (run_within room world (all_of rounds)) (rounds_fall submitters world rounds few all enough)
 
 -- ---- rings with bounds
 
-same_room : (slots credit : ℕ) (w : WorldState) (event other : Event) → is_same_step event other ≡ true
-    → has_room slots credit w event ≡ has_room slots credit w other
-same_room slots credit w (Pop refused) (Pop other) same = refl
-same_room slots credit w BatchPush BatchPush same = refl
-same_room slots credit w (BatchPop refused) (BatchPop other) same = refl
-same_room slots credit w OutcomePush OutcomePush same = refl
-same_room slots credit w OutcomePop OutcomePop same = refl
-same_room slots credit w ReplyPush ReplyPush same = refl
-same_room slots credit w (ReplyPop own) (ReplyPop other) same = refl
-same_room slots credit w event other same = cc
+same_room : (slots credit : ℕ) (world : WorldState) (event other : Event) → is_same_step event other ≡ true
+    → has_room slots credit world event ≡ has_room slots credit world other
+same_room slots credit world (Pop refused) (Pop other) same = refl
+same_room slots credit world BatchPush BatchPush same = refl
+same_room slots credit world (BatchPop refused) (BatchPop other) same = refl
+same_room slots credit world OutcomePush OutcomePush same = refl
+same_room slots credit world OutcomePop OutcomePop same = refl
+same_room slots credit world ReplyPush ReplyPush same = refl
+same_room slots credit world (ReplyPop own) (ReplyPop other) same = refl
+same_room slots credit world event other same = cc
 
 pub fair_lists_rest : FairListsRest
-fair_lists_rest slots credit n w rounds some_slots some_credit =
+fair_lists_rest slots credit submitters world rounds some_slots some_credit =
     rounds_rest (has_room slots credit) (same_room slots credit)
-    (λ world. moves_within slots credit some_slots some_credit world) n w rounds
+    (moves_within slots credit some_slots some_credit) submitters world rounds
 
 -- ---- there are rounds
 
@@ -174,15 +174,16 @@ no_push : (n : ℕ) → list_any is_push (readers n) ≡ false
 no_push zero = refl
 no_push (suc n) = no_push n
 
-among : (n : ℕ) (event : Event) → is_step_of n event ≡ true → list_any (is_same_step event) (one_round n) ≡ true
-among n (Push ticket) is = cc
-among n (Pop refused) is = refl
-among n BatchPush is = refl
-among n (BatchPop refused) is = refl
-among n OutcomePush is = refl
-among n OutcomePop is = refl
-among n ReplyPush is = refl
-among n (ReplyPop own) is = reads n own (omega (arith, ltb-true _ n is))
+among : (submitters : ℕ) (event : Event) → is_step_of submitters event ≡ true
+    → list_any (is_same_step event) (one_round submitters) ≡ true
+among submitters (Push ticket) is = cc
+among submitters (Pop refused) is = refl
+among submitters BatchPush is = refl
+among submitters (BatchPop refused) is = refl
+among submitters OutcomePush is = refl
+among submitters OutcomePop is = refl
+among submitters ReplyPush is = refl
+among submitters (ReplyPop own) is = reads submitters own (omega (arith, ltb-true _ submitters is))
 
 pub one_round_is_a_round : OneRoundIsARound
-one_round_is_a_round n = record { all = among n; no_push = no_push n }
+one_round_is_a_round submitters = record { all = among submitters; no_push = no_push submitters }

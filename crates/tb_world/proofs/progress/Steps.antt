@@ -11,25 +11,25 @@ use Rattle.tb_core.specs.declared.parcel.Parcel.TheVariants as parcel
 use Rattle.tb_layout.specs.claim.Events as input
 
 -- a step that is no push: less is left, who pushed what stays, and no submitter has received less
-pub record IsStep (w next : WorldState) : Type 0 where
-  pub fewer : left next < left w
-  pub senders : next.senders ≡ w.senders
-  pub long : length next.mailboxes ≡ length w.mailboxes
-  pub received : (s : ℕ) → length (received_of w s) ≤ length (received_of next s)
+pub record IsStep (world next : WorldState) : Type 0 where
+  pub fewer : left next < left world
+  pub senders : next.senders ≡ world.senders
+  pub long : length next.mailboxes ≡ length world.mailboxes
+  pub received : (s : ℕ) → length (received_of world s) ≤ length (received_of next s)
 
 -- if the World moved, it did by such a step
 abbrev pub Steps : WorldState → Option WorldState → Type 0
-Steps w after = IfSome after (λ next. IsStep w next)
+Steps world after = IfSome after (λ next. IsStep world next)
 
 -- a stage leaves senders and mailboxes as they are
-of_stage : (w next : WorldState) → next.senders ≡ w.senders → next.mailboxes ≡ w.mailboxes → left next < left w
-    → IsStep w next
-of_stage w next senders mailboxes fewer =
+of_stage : (world next : WorldState) → next.senders ≡ world.senders → next.mailboxes ≡ world.mailboxes → left next < left world
+    → IsStep world next
+of_stage world next senders mailboxes fewer =
     record {
       fewer = fewer;
       senders = senders;
       long = ap (λ (all : List Mailbox). length all) mailboxes;
-      received = λ s. omega (arith, ap (λ (all : List Mailbox). length (mailbox_at all s).received) mailboxes);
+      received = λ submitter. omega (arith, ap (λ (all : List Mailbox). length (mailbox_at all submitter).received) mailboxes);
     }
 
 -- ---- the batcher
@@ -72,8 +72,8 @@ end : (all : Bool) (front : FrontState) (sender : ℕ) (sent : Bool) →
 end true front sender sent = omega (arith, last_few (all_ended (with_end front sender) && not sent))
 end false front sender sent = omega (arith, last_few (all_ended (with_end front sender) && not sent))
 
-taken_left : (refused : Bool) (front : FrontState) (sender : ℕ) (x : Item) (sent : Bool) →
-    left_then (take_step refused front sender x) sent
+taken_left : (refused : Bool) (front : FrontState) (sender : ℕ) (taken : Item) (sent : Bool) →
+    left_then (take_step refused front sender taken) sent
     ≤ 6 + left_of_batcher [] front.held (all_ended front && not sent)
 taken_left refused front sender (item.Packet job) sent =
     packet refused front job sent
@@ -83,51 +83,51 @@ taken_left refused front sender item.End sent = end (all_ended (with_end front s
 taken_left refused front sender item.Close sent =
     omega (arith, last_few (all_ended (with_end front sender) && not sent))
 
-popped : (w : WorldState) (ticket : Ticket) (queue : List Ticket) (next : Taken) → w.parcels ≡ []
-    → w.queue ≡ ticket ∷ queue →
-    left_then next w.last_sent ≤ 6 + left_of_batcher [] w.front.held (all_ended w.front && not w.last_sent)
-    → IsStep w (record w { queue = queue; front = next.front; parcels = next.parcels })
-popped w ticket queue next p q few =
-    of_stage w _ refl refl
-    (omega (arith, few, ap length q, ap (λ (parcels : List Parcel). sum_by left_of_parcel parcels) p))
+popped : (world : WorldState) (ticket : Ticket) (queue : List Ticket) (next : Taken) → world.parcels ≡ []
+    → world.queue ≡ ticket ∷ queue →
+    left_then next world.last_sent ≤ 6 + left_of_batcher [] world.front.held (all_ended world.front && not world.last_sent)
+    → IsStep world (record world { queue = queue; front = next.front; parcels = next.parcels })
+popped world ticket queue next parcels_are queue_is few =
+    of_stage world _ refl refl
+    (omega (arith, few, ap length queue_is, ap (λ (parcels : List Parcel). sum_by left_of_parcel parcels) parcels_are))
 
-pop_steps : (refused : Bool) (w : WorldState) (parcels : List Parcel) (queue : List Ticket) → w.parcels ≡ parcels
-    → w.queue ≡ queue → Steps w (pop refused w parcels queue)
-pop_steps refused w [] (ticket ∷ queue) p q =
-    popped w ticket queue (take_step refused w.front ticket.sender ticket.item) p q
-    (taken_left refused w.front ticket.sender ticket.item w.last_sent)
-pop_steps refused w [] [] p q = tt
-pop_steps refused w (parcel ∷ parcels) queue p q = tt
+pop_steps : (refused : Bool) (world : WorldState) (parcels : List Parcel) (queue : List Ticket) → world.parcels ≡ parcels
+    → world.queue ≡ queue → Steps world (pop refused world parcels queue)
+pop_steps refused world [] (ticket ∷ queue) parcels_are queue_is =
+    popped world ticket queue (take_step refused world.front ticket.sender ticket.item) parcels_are queue_is
+    (taken_left refused world.front ticket.sender ticket.item world.last_sent)
+pop_steps refused world [] [] parcels_are queue_is = tt
+pop_steps refused world (parcel ∷ parcels) queue parcels_are queue_is = tt
 
 none_due : (b : Bool) → left_of_last (b && false) ≡ 0
 none_due true = refl
 none_due false = refl
 
-batch_push_steps : (w : WorldState) (parcels : List Parcel) (held : List Numbered) → w.parcels ≡ parcels
-    → w.front.held ≡ held → Steps w (batch_push w parcels held)
-batch_push_steps w (p ∷ parcels) held e g =
-    of_stage w _ refl refl (omega (
+batch_push_steps : (world : WorldState) (parcels : List Parcel) (held : List Numbered) → world.parcels ≡ parcels
+    → world.front.held ≡ held → Steps world (batch_push world parcels held)
+batch_push_steps world (handed ∷ parcels) held parcels_are held_is =
+    of_stage world _ refl refl (omega (
       arith,
-      ap (λ (parcels : List Parcel). sum_by left_of_parcel parcels) e,
-      sum_by-cons left_of_parcel p parcels,
-      sum_by-append left_of_pushed w.batches (p ∷ []),
+      ap (λ (parcels : List Parcel). sum_by left_of_parcel parcels) parcels_are,
+      sum_by-cons left_of_parcel handed parcels,
+      sum_by-append left_of_pushed world.batches (handed ∷ []),
     ))
-batch_push_steps w [] (job ∷ jobs) e g =
-    of_stage w _ refl refl (omega (
+batch_push_steps world [] (job ∷ jobs) parcels_are held_is =
+    of_stage world _ refl refl (omega (
       arith,
-      ap (λ (held : List Numbered). sum_by left_of_parcel (group_as_batch held)) g,
-      sum_by-append left_of_pushed w.batches (parcel.Batch (job ∷ jobs) ∷ []),
+      ap (λ (held : List Numbered). sum_by left_of_parcel (group_as_batch held)) held_is,
+      sum_by-append left_of_pushed world.batches (parcel.Batch (job ∷ jobs) ∷ []),
     ))
-batch_push_steps w [] [] e g = by (all_ended w.front && not w.last_sent) refl
+batch_push_steps world [] [] parcels_are held_is = by (all_ended world.front && not world.last_sent) refl
   where
-    by : (b : Bool) → (all_ended w.front && not w.last_sent) ≡ b → Steps w
-        (if b then Some (record w { last_sent = true; batches = w.batches ++ parcel.Last ∷ [] }) else None)
+    by : (is_last : Bool) → (all_ended world.front && not world.last_sent) ≡ is_last → Steps world
+        (if is_last then Some (record world { last_sent = true; batches = world.batches ++ parcel.Last ∷ [] }) else None)
     by true is =
-        of_stage w (record w { last_sent = true; batches = w.batches ++ parcel.Last ∷ [] }) refl refl (omega (
+        of_stage world (record world { last_sent = true; batches = world.batches ++ parcel.Last ∷ [] }) refl refl (omega (
           arith,
           ap left_of_last is,
-          none_due (all_ended w.front),
-          sum_by-append left_of_pushed w.batches (parcel.Last ∷ []),
+          none_due (all_ended world.front),
+          sum_by-append left_of_pushed world.batches (parcel.Last ∷ []),
         ))
     by false is = tt
 
@@ -145,11 +145,11 @@ length-replies clock journal place [] = refl
 length-replies clock journal place (job ∷ jobs) =
     omega (arith, length-replies clock journal (place + 1) jobs)
 
-answered : (refused : Bool) (ledger : LedgerState) (p : Parcel)
-    → length (replies_in (apply_step refused ledger p).outcomes) ≤ owed p
+answered : (refused : Bool) (ledger : LedgerState) (handed : Parcel)
+    → length (replies_in (apply_step refused ledger handed).outcomes) ≤ owed handed
 answered refused ledger (parcel.Batch jobs) = by (must_stop refused ledger (length jobs))
   where
-    by : (b : Bool) → length (replies_in (if b then apply_result (with_stop ledger)
+    by : (stops : Bool) → length (replies_in (if stops then apply_result (with_stop ledger)
         (outcomes.Cut (map (reply_with outcome.Stopped) jobs)) else step_of_batch ledger jobs).outcomes) ≤ length jobs
     by true = omega (arith, length-map jobs (reply_with outcome.Stopped))
     by false =
@@ -161,52 +161,53 @@ answered refused ledger (parcel.Batch jobs) = by (must_stop refused ledger (leng
 answered refused ledger (parcel.Pulse moment) =
     by (must_stop refused ledger 1) (with_stop ledger) (with_entry ledger (input.Pulse moment ∷ []))
   where
-    by : (b : Bool) (x y : LedgerState) → length (replies_in (if b then apply_result x outcomes.Nothing
+    by : (stops : Bool) (x y : LedgerState) → length (replies_in (if stops then apply_result x outcomes.Nothing
         else apply_result y outcomes.Nothing).outcomes) ≤ 0
     by true x y = omega arith
     by false x y = omega arith
 answered refused ledger (parcel.Return job cause) = omega arith
 answered refused ledger parcel.Last = omega arith
 
-applied : (w : WorldState) (p : Parcel) (batches : List Parcel) (next : Applied) → w.outcome ≡ None
-    → w.batches ≡ p ∷ batches → length (replies_in next.outcomes) ≤ owed p →
-    IsStep w (record w { batches = batches; ledger = next.ledger; outcome = pending_of next.outcomes })
-applied w p batches next o e few =
-    of_stage w _ refl refl (omega (
+applied : (world : WorldState) (handed : Parcel) (batches : List Parcel) (next : Applied) → world.outcome ≡ None
+    → world.batches ≡ handed ∷ batches → length (replies_in next.outcomes) ≤ owed handed →
+    IsStep world (record world { batches = batches; ledger = next.ledger; outcome = pending_of next.outcomes })
+applied world handed batches next outcome_is batches_are few =
+    of_stage world _ refl refl (omega (
       arith,
       few,
       kept_left next.outcomes,
-      ap left_of_outcome o,
-      ap (λ (batches : List Parcel). sum_by left_of_pushed batches) e,
-      sum_by-cons left_of_pushed p batches,
+      ap left_of_outcome outcome_is,
+      ap (λ (batches : List Parcel). sum_by left_of_pushed batches) batches_are,
+      sum_by-cons left_of_pushed handed batches,
     ))
 
-batch_pop_steps : (refused : Bool) (w : WorldState) (outcome : Option Outcomes) (batches : List Parcel)
-    → w.outcome ≡ outcome → w.batches ≡ batches → Steps w (batch_pop refused w outcome batches)
-batch_pop_steps refused w None (p ∷ batches) o e =
-    applied w p batches (apply_step refused w.ledger p) o e (answered refused w.ledger p)
-batch_pop_steps refused w None [] o e = tt
-batch_pop_steps refused w (Some outcome) batches o e = tt
+batch_pop_steps : (refused : Bool) (world : WorldState) (outcome : Option Outcomes) (batches : List Parcel)
+    → world.outcome ≡ outcome → world.batches ≡ batches → Steps world (batch_pop refused world outcome batches)
+batch_pop_steps refused world None (handed ∷ batches) outcome_is batches_are =
+    applied world handed batches (apply_step refused world.ledger handed) outcome_is batches_are (answered refused world.ledger handed)
+batch_pop_steps refused world None [] outcome_is batches_are = tt
+batch_pop_steps refused world (Some outcome) batches outcome_is batches_are = tt
 
-outcome_push_steps : (w : WorldState) (outcome : Option Outcomes) → w.outcome ≡ outcome
-    → Steps w (outcome_push w outcome)
-outcome_push_steps w None o = tt
-outcome_push_steps w (Some outcome) o =
-    of_stage w _ refl refl (omega (arith, ap left_of_outcome o, sum_by-append left_of_outcomes w.outcomes (outcome ∷ [])))
+outcome_push_steps : (world : WorldState) (outcome : Option Outcomes) → world.outcome ≡ outcome
+    → Steps world (outcome_push world outcome)
+outcome_push_steps world None outcome_is = tt
+outcome_push_steps world (Some outcome) outcome_is =
+    of_stage world _ refl refl
+    (omega (arith, ap left_of_outcome outcome_is, sum_by-append left_of_outcomes world.outcomes (outcome ∷ [])))
 
 -- ---- the demultiplexer
 
-outcome_pop_steps : (w : WorldState) (replies : List ReplyValue) (outcomes : List Outcomes) → w.replies ≡ replies
-    → w.outcomes ≡ outcomes → Steps w (outcome_pop w replies outcomes)
-outcome_pop_steps w [] (outcome ∷ outcomes) r o =
-    of_stage w _ refl refl (omega (
+outcome_pop_steps : (world : WorldState) (replies : List ReplyValue) (outcomes : List Outcomes) → world.replies ≡ replies
+    → world.outcomes ≡ outcomes → Steps world (outcome_pop world replies outcomes)
+outcome_pop_steps world [] (outcome ∷ outcomes) replies_are outcomes_are =
+    of_stage world _ refl refl (omega (
       arith,
-      ap length r,
-      ap (λ (outcomes : List Outcomes). sum_by left_of_outcomes outcomes) o,
+      ap length replies_are,
+      ap (λ (outcomes : List Outcomes). sum_by left_of_outcomes outcomes) outcomes_are,
       sum_by-cons left_of_outcomes outcome outcomes,
     ))
-outcome_pop_steps w [] [] r o = tt
-outcome_pop_steps w (reply ∷ replies) outcomes r o = tt
+outcome_pop_steps world [] [] replies_are outcomes_are = tt
+outcome_pop_steps world (reply ∷ replies) outcomes replies_are outcomes_are = tt
 
 unread_more : (mailboxes : List Mailbox) (reply : ReplyValue)
     → sum_by unread (mailboxes_with mailboxes reply) ≤ sum_by unread mailboxes + 1
@@ -225,19 +226,19 @@ unread_more mailboxes reply =
     (cases_lt own (length mailboxes))
 
 -- no submitter has received less once a mailbox was replaced by one that received as much
-received_after : (mailboxes : List Mailbox) (own s : ℕ) (new : Mailbox)
+received_after : (mailboxes : List Mailbox) (own submitter : ℕ) (new : Mailbox)
     → length (mailbox_at mailboxes own).received ≤ length new.received
-    → length (mailbox_at mailboxes s).received ≤ length (mailbox_at (set mailboxes own new) s).received
-received_after mailboxes own s new more =
+    → length (mailbox_at mailboxes submitter).received ≤ length (mailbox_at (set mailboxes own new) submitter).received
+received_after mailboxes own submitter new more =
     ⊎_elim
-    (λ (same : own ≡ s). subst (λ k. length (mailbox_at mailboxes k).received
+    (λ (same : own ≡ submitter). subst (λ k. length (mailbox_at mailboxes k).received
     ≤ length (mailbox_at (set mailboxes own new) k).received) same here)
-    (λ (other : own ≢ s). omega (
+    (λ (other : own ≢ submitter). omega (
       arith,
       ap (λ (mailbox : Mailbox). length mailbox.received)
-          (get_or-set_other mailboxes own s new empty_mailbox (λ same. other (sym same))),
+          (get_or-set_other mailboxes own submitter new empty_mailbox (λ same. other (sym same))),
     ))
-    (cases_eq own s)
+    (cases_eq own submitter)
   where
     here : length (mailbox_at mailboxes own).received ≤ length (mailbox_at (set mailboxes own new) own).received
     here =
@@ -254,17 +255,17 @@ received_after mailboxes own s new more =
         ))
         (cases_lt own (length mailboxes))
 
-reply_push_steps : (w : WorldState) (replies : List ReplyValue) → w.replies ≡ replies
-    → Steps w (reply_push w replies)
-reply_push_steps w [] r = tt
-reply_push_steps w (reply ∷ replies) r =
+reply_push_steps : (world : WorldState) (replies : List ReplyValue) → world.replies ≡ replies
+    → Steps world (reply_push world replies)
+reply_push_steps world [] replies_are = tt
+reply_push_steps world (reply ∷ replies) replies_are =
     let own = reply.packet.submitter in
-    let new = with_reply (mailbox_at w.mailboxes own) reply in
+    let new = with_reply (mailbox_at world.mailboxes own) reply in
     record {
-      fewer = omega (arith, ap length r, unread_more w.mailboxes reply);
+      fewer = omega (arith, ap length replies_are, unread_more world.mailboxes reply);
       senders = refl;
-      long = length-set w.mailboxes own new;
-      received = λ s. received_after w.mailboxes own s new (omega arith);
+      long = length-set world.mailboxes own new;
+      received = λ submitter. received_after world.mailboxes own submitter new (omega arith);
     }
 
 -- ---- the submitters
@@ -282,28 +283,28 @@ unread_less mailboxes own new one =
     let among : own < length mailboxes = is_among mailboxes own (omega (arith, one)) in
     omega (arith, one, sum_by-set unread mailboxes own new empty_mailbox among)
 
-reply_pop_steps : (w : WorldState) (own : ℕ) (ring : List ReplyValue) → (mailbox_at w.mailboxes own).ring ≡ ring
-    → Steps w (reply_pop w own (after_pop_of (mailbox_at w.mailboxes own) ring))
-reply_pop_steps w own [] e = tt
-reply_pop_steps w own (reply ∷ ring) e =
-    let received = (mailbox_at w.mailboxes own).received in
+reply_pop_steps : (world : WorldState) (own : ℕ) (ring : List ReplyValue) → (mailbox_at world.mailboxes own).ring ≡ ring
+    → Steps world (reply_pop world own (after_pop_of (mailbox_at world.mailboxes own) ring))
+reply_pop_steps world own [] ring_is = tt
+reply_pop_steps world own (reply ∷ ring) ring_is =
+    let received = (mailbox_at world.mailboxes own).received in
     let new : Mailbox = record { ring = ring; received = received ++ reply ∷ [] } in
-    let one : unread (mailbox_at w.mailboxes own) ≡ unread new + 1 = omega (arith, ap length e) in
+    let one : unread (mailbox_at world.mailboxes own) ≡ unread new + 1 = omega (arith, ap length ring_is) in
     record {
-      fewer = omega (arith, unread_less w.mailboxes own new one);
+      fewer = omega (arith, unread_less world.mailboxes own new one);
       senders = refl;
-      long = length-set w.mailboxes own new;
-      received = λ s. received_after w.mailboxes own s new (omega (arith, length-append received (reply ∷ [])));
+      long = length-set world.mailboxes own new;
+      received = λ submitter. received_after world.mailboxes own submitter new (omega (arith, length-append received (reply ∷ [])));
     }
 
 -- ---- any step
 
-pub steps : (w : WorldState) (event : Event) → is_push event ≡ false → Steps w (moved w event)
-steps w (Push ticket) unpushed = cc
-steps w (Pop refused) unpushed = pop_steps refused w w.parcels w.queue refl refl
-steps w BatchPush unpushed = batch_push_steps w w.parcels w.front.held refl refl
-steps w (BatchPop refused) unpushed = batch_pop_steps refused w w.outcome w.batches refl refl
-steps w OutcomePush unpushed = outcome_push_steps w w.outcome refl
-steps w OutcomePop unpushed = outcome_pop_steps w w.replies w.outcomes refl refl
-steps w ReplyPush unpushed = reply_push_steps w w.replies refl
-steps w (ReplyPop own) unpushed = reply_pop_steps w own (mailbox_at w.mailboxes own).ring refl
+pub steps : (world : WorldState) (event : Event) → is_push event ≡ false → Steps world (moved world event)
+steps world (Push ticket) unpushed = cc
+steps world (Pop refused) unpushed = pop_steps refused world world.parcels world.queue refl refl
+steps world BatchPush unpushed = batch_push_steps world world.parcels world.front.held refl refl
+steps world (BatchPop refused) unpushed = batch_pop_steps refused world world.outcome world.batches refl refl
+steps world OutcomePush unpushed = outcome_push_steps world world.outcome refl
+steps world OutcomePop unpushed = outcome_pop_steps world world.replies world.outcomes refl refl
+steps world ReplyPush unpushed = reply_push_steps world world.replies refl
+steps world (ReplyPop own) unpushed = reply_pop_steps world own (mailbox_at world.mailboxes own).ring refl
