@@ -24,12 +24,12 @@ pub prepared : {before mid now : View} → IsRolledBack before mid → doubt bef
 prepared {before} {mid} {now} back before_clean mid_clean clean opened (inl (same, one)) =
     let is_open = ap (λ (v : View). v.is_open) (sym same) ∙ opened in
     let was : IsClean mid = omega (arith, mid_clean, clean) in
+    let found = ap (λ (v : View). v.committed) same ∙ (back.kept was).committed is_open in
+    let listed = subst (λ trees. IsLedger (objects_in trees)) (back.undone is_open).0 one in
     record {
       clean = omega (arith, before_clean, was);
-      kept = inl (
-        ap (λ (v : View). v.committed) same ∙ (back.kept was).committed is_open,
-        subst (λ trees. IsLedger (objects_in trees)) (back.undone is_open).0 one,
-      );
+      kept = inl (found, listed);
+      table = subst (λ trees. IsLedger (objects_in trees)) (sym found) listed;
     }
 prepared {before} {mid} {now} back before_clean mid_clean clean opened (inr made) =
     let is_open = sym made.1.is_open ∙ opened in
@@ -37,6 +37,7 @@ prepared {before} {mid} {now} back before_clean mid_clean clean opened (inr made
     record {
       clean = omega (arith, before_clean, was);
       kept = inr (ap (λ (t : Trees). t catalog_tree) (sym (back.undone is_open).0) ∙ made.0, made.1.empty);
+      table = made.1.listed;
     }
 
 pub if_ok : {A E : Type 0} {P Q : A → Type 0} (result : Result A E) → ((a : A) → P a → Q a) → IfOk result P → IfOk result Q

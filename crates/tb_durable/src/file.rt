@@ -1,6 +1,6 @@
 //! A store at a path.
 
-ghost use Rattle.std.specs.Prelude.{◌≡◌, ◌⊎◌, ◌≤◌, [], ℕ, List, codes, true, false, map, take, IsTrue, IfOk, OnOk, ◌∷◌};
+ghost use Rattle.std.specs.Prelude.{◌≡◌, ◌⊎◌, ◌≤◌, [], ℕ, List, codes, true, false, map, take, IsTrue, IfOk, IfErr, OnOk, ◌∷◌};
 ghost use Rattle.sqlite_std_file.specs.File.{file_is_usable, IsFresh};
 ghost use Rattle.sqlite_store.specs.FileStore as file;
 ghost use Rattle.sqlite_trees.specs.View.{IsClean, doubt};
@@ -8,7 +8,8 @@ ghost use Rattle.sqlite_trees.specs.Objects.{catalog_tree};
 ghost use Rattle.sqlite.specs.State.{HasCleanDisk};
 ghost use Rattle.sqlite.specs.Start.{FindsIn};
 ghost use Rattle.sqlite.specs.Files.{file_state, IsOpened};
-ghost use Rattle.tb_durable.specs.clauses.Opened.{IsLedger, IsOpenedOn, IsPrepared, MakesTable, objects_in};
+ghost use Rattle.tb_durable.specs.clauses.Opened.{IsLedger, IsOpenedOn, IsPrepared, IsRefusal, MakesTable, objects_in};
+ghost use Rattle.tb_durable.specs.declared.fault.OpenFault.TheVariants.{NoMemory as NoMemoryFault};
 
 use crate::fault::OpenFault;
 use sqlite::{Connection, Error, ErrorCode, File, FileFrom, FileStore, Options, Start, Unknown};
@@ -39,7 +40,8 @@ const ENTRIES: u32 = 0;
 
 /// Returns whether the database has a ledger's table, and nothing else.
 fn is_ledger(objects: &[Row]) -> bool
-    ensures { result ≡ true → IsLedger objects.now }
+    ensures ledger { result ≡ true → IsLedger objects.now }
+    ensures refused { result ≡ false → ¬ IsLedger objects.now }
 {
     let [table] = objects else {
         return false;
@@ -156,7 +158,8 @@ fn store_of<S: Alter + Drop>(alloc: Global, conn: Connection<S>) -> Result<S, Op
 
 /// Returns the rows of the catalog, one for each table, index or view.
 fn objects_of<S: Alter>(alloc: Global, store: &S) -> Result<Vec<Row>, OpenFault>
-    ensures { IfOk result (λ rows. IsClean (S.Store.view store.now) → rows.items ≡ map (take 5) ((S.Store.view store.now).trees catalog_tree)) }
+    ensures objects { IfOk result (λ rows. IsClean (S.Store.view store.now) → rows.items ≡ map (take 5) ((S.Store.view store.now).trees catalog_tree)) }
+    ensures fault { IfErr result (λ fault. fault ≡ NoMemoryFault) }
 {
     match store.objects(alloc) {
         Ok(objects) => Ok(objects),
@@ -170,6 +173,7 @@ fn prepare<S: Alter>(alloc: Global, store: &mut S) -> Result<(), OpenFault>
     ensures kept { OnOk result (IsClean (S.Store.view store.new)
         → ((S.Store.view store.new ≡ S.Store.view store.old) × IsLedger (objects_in (S.Store.view store.old).trees))
         ⊎ (((S.Store.view store.old).trees catalog_tree ≡ []) × MakesTable (S.Store.view store.old) (S.Store.view store.new))) }
+    ensures refused { IsClean (S.Store.view store.old) → IfErr result (IsRefusal (S.Store.view store.old).trees) }
     ensures clean { doubt (S.Store.view store.old).is_clean ≤ doubt (S.Store.view store.new).is_clean }
 {
     let objects = objects_of(alloc, store)?;

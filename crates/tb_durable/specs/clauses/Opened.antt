@@ -1,11 +1,13 @@
 -- Which store is opened at a path.
-use Rattle.std.specs.Prelude.{◌≡◌, ◌⊎◌, ℕ, [], ◌∷◌, List, codes, map, take}
+use Rattle.std.specs.Prelude.{◌≡◌, ◌⊎◌, ℕ, [], ◌∷◌, List, codes, map, take, ⊤}
 use Rattle.sqlite_value.specs.Order.{Row, column}
 use Rattle.sqlite_value.specs.declared.value.Value.TheVariants.{Text}
 use Rattle.sqlite_trees.specs.Tree.{Trees}
 use Rattle.sqlite_trees.specs.View.{View, IsClean}
 use Rattle.sqlite_trees.specs.Objects.{catalog_tree}
 use Rattle.sqlite.specs.Files.{HoldsDatabase, AreFoundIn}
+use Rattle.tb_durable.specs.declared.fault.OpenFault.{OpenFault}
+use Rattle.tb_durable.specs.declared.fault.OpenFault.TheVariants as fault
 
 -- the text of the ledger's table
 abbrev pub table_text : List ℕ
@@ -22,20 +24,31 @@ pub record IsLedger (objects : List Row) : Type 0 where
 abbrev pub objects_in : Trees → List Row
 objects_in trees = map (take 5) (trees catalog_tree)
 
--- The trees are those that there were, with the ledger's table only. Or there was no table, and the first tree has no rows.
+-- The trees are those that there were, with the ledger's table only. Or there was no table, and the first tree has no rows. So the only
+-- table is the ledger's.
 pub record IsPrepared (before now : View) : Type 0 where
   pub clean : IsClean before
   pub kept : ((now.committed ≡ before.committed) × IsLedger (objects_in before.committed)) ⊎ ((before.committed catalog_tree ≡ []) × (now.committed 0 ≡ []))
+  pub table : IsLedger (objects_in now.committed)
 
--- a table without rows was made and committed
+-- the ledger's table was made, without rows, and committed
 pub record MakesTable (old new : View) : Type 0 where
+  pub listed : IsLedger (objects_in new.committed)
   pub empty : new.committed 0 ≡ []
   pub is_open : new.is_open ≡ old.is_open
 
 -- The store has the trees that the file and its log held, with the ledger's table only. Or these had no table, and the store's first
--- tree has no rows.
+-- tree has no rows. So the store's only table is the ledger's.
 pub record IsOpenedOn (log db : List ℕ) (view : View) : Type 0 where
   pub found : Trees
   pub holds : (held : Trees) → HoldsDatabase (record { log = log; db = db }) held → found ≡ held
   pub reads : AreFoundIn (record { log = log; db = db }) found
   pub kept : ((view.committed ≡ found) × IsLedger (objects_in found)) ⊎ ((found catalog_tree ≡ []) × (view.committed 0 ≡ []))
+  pub table : IsLedger (objects_in view.committed)
+
+-- Why a database isn't prepared: it has something else than the ledger's table, or its table couldn't be made, since the store failed.
+abbrev pub IsRefusal : Trees → OpenFault → Type 0
+IsRefusal trees fault.NoMemory = ⊤
+IsRefusal trees fault.NotALedger = ¬ IsLedger (objects_in trees)
+IsRefusal trees (fault.Store error) = trees catalog_tree ≡ []
+IsRefusal trees other = ⊥

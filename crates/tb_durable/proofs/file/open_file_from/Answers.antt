@@ -6,5 +6,5 @@ pub returns : goal.returns
 returns g c = if_ok c.store_of.result (λ store has opened.
     let it = has opened in
     let finds = c.in_ok-conn.ensures.found it.clean in
-    record { found = (file.view c.in_ok-conn.conn.store).committed; holds = finds.holds; reads = finds.reads; kept = it.kept })
+    record { found = (file.view c.in_ok-conn.conn.store).committed; holds = finds.holds; reads = finds.reads; kept = it.kept; table = it.table })
     c.store_of.ensures
