@@ -108,16 +108,17 @@ impl Unread {
         Ok(self.outcomes.reserve(count)?)
     }
 
-    /// Appends an outcome's replies. Allocates nothing.
+    /// Appends an outcome's replies. Its first is the next at once if nothing is unread. Allocates nothing.
     pub(crate) fn push(&mut self, outcomes: Outcomes)
         requires { 0 < self.old.room }
         ensures replies { self.new.replies ≡ self.old.replies ++ replies_in outcomes }
         ensures room { self.old.room ≤ self.new.room + 1 }
     {
-        self.outcomes.push_back_reserved(outcomes);
         if self.next.is_none() {
-            let next = next_reply(&mut self.cutter, &mut self.outcomes);
+            let next = begin(&mut self.cutter, outcomes);
             drop(mem::replace(&mut self.next, next));
+        } else {
+            self.outcomes.push_back_reserved(outcomes);
         }
     }
 
