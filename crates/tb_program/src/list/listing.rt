@@ -42,7 +42,7 @@ fn put_line(out: &mut String, line: Line, replies: &mut Iter<Reply>) -> Result<(
     }
 }
 
-/// Adds the text of lines. That of a queued packet is the next of the replies.
+/// Adds the text of lines. That of a queued packet is the next of the replies; if none is left, it has no text.
 #[tactic(auto, unfolding(crate::specs::clauses::Listing::lines_text))]
 pub fn put_lines(out: &mut String, lines: &[Line], replies: &[Reply]) -> Result<(), AllocError>
     ensures { OnOk result (string_bytes out.new ≡ string_bytes out.old ++ lines_text replies.now lines.now) }
