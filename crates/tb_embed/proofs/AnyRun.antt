@@ -156,8 +156,7 @@ any_serving_is_lawful each_part run is start queue read engine serves =
             passed = passes_ended (if engine.shut then front.submitters else front.submitters + 1) queue front.closed front.stopped taken.sent
                 (subst (AreDecisions (items_in queue) front.closed front.stopped)
                 (ap (λ jobs. taken.sent ++ map Admitted jobs) none ∙ append-nil taken.sent) taken.passed);
-            commits = subst (Commits start taken.sent ledger)
-                (ap (λ replies. read ++ replies) done ∙ append-nil read) commits;
+            commits = subst (Commits start taken.sent ledger) (ap (λ replies. read ++ replies) done ∙ append-nil read) commits;
           })
           (λ submitter below. refl);
     }

@@ -217,7 +217,6 @@ queue_ended submitters queue numbers shut are = record {
         (λ s. (next : ℕ) × HasQueued s next true (items_from s (queue ++ ends_of count))) same (0, control shut refl))
         (λ (other : submitters ≢ sender). let within : sender < submitters = omega (arith, among, other) in (
           get_or numbers sender 0 + 0,
-          by_end sender (get_or numbers sender 0) (below shut sender within)
-              (are.each sender within),
+          by_end sender (get_or numbers sender 0) (below shut sender within) (are.each sender within),
         ))
         (cases_eq submitters sender)

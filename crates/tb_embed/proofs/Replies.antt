@@ -38,8 +38,7 @@ module _ (start : LedgerState) (queue : List Ticket) (last : EngineState) where
   all_come {read} (Some reply ∷ results) serves as_many (middle, (reads, unread), are) =
       let others = all_come results (reads.adds start queue read serves) (omega (arith, as_many, ap length unread)) are in
       record {
-        replies = ap (λ (results : List (Option ReplyValue)). Some reply ∷ results) others.replies
-            ∙ ap (map Some) (sym unread);
+        replies = ap (λ (results : List (Option ReplyValue)). Some reply ∷ results) others.replies ∙ ap (map Some) (sym unread);
         empty = others.empty;
         serves = subst (λ (read : List ReplyValue). Serves start queue read last)
             (append_assoc read (reply ∷ []) middle.unread

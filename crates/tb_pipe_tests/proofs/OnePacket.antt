@@ -61,8 +61,7 @@ adds ticket queue zero is = inl (is, ap (λ b. part_if b ticket 0 queue) (eq-eqb
 adds ticket queue (suc k) is =
     inr (
       omega (arith, is),
-      ap (λ b. part_if b ticket 0 queue)
-          (ne_eqb ticket.sender 0 (λ e. absurd (omega (arith, is, e)))),
+      ap (λ b. part_if b ticket 0 queue) (ne_eqb ticket.sender 0 (λ e. absurd (omega (arith, is, e)))),
     )
 
 pub due_to_first : (clock : ℕ) (done : List Input) (place : Place) (queue : List Ticket) → OthersEnd queue

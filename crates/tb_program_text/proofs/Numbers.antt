@@ -53,8 +53,7 @@ one_more word offset within short digits digit =
       value = omega (
         arith,
         digits_value_more 10 word offset within,
-        digit_value_digit (get_or word offset 0)
-            (search (rules, digit)),
+        digit_value_digit (get_or word offset 0) (search (rules, digit)),
       );
       small = digits_value_short own (take (offset + 1) word) 19 more
           (omega (arith, length-take-le (offset + 1) word (omega arith), short, within));
@@ -69,8 +68,7 @@ digits_read word (Ok number) read digits short =
       lt-ltb 0 (length word) read.0.0,
       lt-ltb (length word) 40 short,
       digits,
-      lt-ltb (digits_value 10 word)
-          (2 ^ 128) read.0.1,
+      lt-ltb (digits_value 10 word) (2 ^ 128) read.0.1,
     ) (ap Some read.1)
 digits_read word (Err fault) read digits short = elim (cases_lt 0 (length word)) [
   | inl some ↦ elim (cases_lt (digits_value 10 word) (2 ^ 128)) [
@@ -79,8 +77,7 @@ digits_read word (Err fault) read digits short = elim (cases_lt 0 (length word))
       lt-ltb 0 (length word) some,
       lt-ltb (length word) 40 short,
       digits,
-      le-ltb
-          (digits_value 10 word) (2 ^ 128) large,
+      le-ltb (digits_value 10 word) (2 ^ 128) large,
     ) refl
   ]
   | inr none ↦ rw (le-ltb 0 (length word) none) refl

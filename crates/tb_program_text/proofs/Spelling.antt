@@ -164,8 +164,7 @@ number_within-decimal low high number above below small =
     let is = spelled number small in
     rw (
       lt-ltb 0 (length (decimal number)) is.some,
-      lt-ltb (length (decimal number)) 40
-          (omega (arith, is.short)),
+      lt-ltb (length (decimal number)) 40 (omega (arith, is.short)),
       is.digits,
       is.value,
     ) (grind (arith, nat_tests))
@@ -382,8 +381,7 @@ says_items parsed (item ∷ items) few all =
       says = says_both parsed between later.next (item_lines item) (flat_map item_lines items)
           (says_item parsed item few all.0) later.says;
       settings = later.settings ∙ same;
-      all = later.all ∙ ap (λ xs. xs ++ items) (item_is_last parsed item)
-          ∙ append_assoc (items_of parsed) (item ∷ []) items;
+      all = later.all ∙ ap (λ xs. xs ++ items) (item_is_last parsed item) ∙ append_assoc (items_of parsed) (item ∷ []) items;
     }
 
 few_submitters : (submitters : Option ℕ) → IsWithin 1 submitters_max submitters → unwrap_or submitters 2 ≤ submitters_max

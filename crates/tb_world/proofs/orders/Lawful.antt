@@ -14,8 +14,7 @@ due-prefix clock journal place (item ∷ items) others =
     let first = reply_due (outcome_at clock journal place) item in
     let more = due-prefix clock journal (next_place place item) items others in (
       more.0,
-      append_assoc first (all_due_from clock journal (next_place place item) items) more.0
-          ∙ ap (λ rs. first ++ rs) more.1,
+      append_assoc first (all_due_from clock journal (next_place place item) items) more.0 ∙ ap (λ rs. first ++ rs) more.1,
     )
 
 -- ---- so far
@@ -200,8 +199,7 @@ has_run start limit submitters events world began is = subst (HasRun start limit
           so_far = is_lawful_so_far holds;
           no_stop_seen = λ unrefused room. none_stopped holds (holds.goes (unrefused, room));
           at_rest = λ rest. rests holds (empty_at_rest end rest);
-          whole = λ unrefused room rest. whole holds (empty_at_rest end rest)
-              (holds.goes (unrefused, room));
+          whole = λ unrefused room rest. whole holds (empty_at_rest end rest) (holds.goes (unrefused, room));
         }
 
 pub run_more : (world : WorldState) (xs ys : List Event) → run world (xs ++ ys) ≡ run (run world xs) ys

@@ -87,16 +87,14 @@ pushed_more number sender items pushed goes next has =
           numbered = all;
           counted = omega (arith, has.counted, count);
           goes_on = λ on. unended_push items (item.Packet job) unended refl;
-          ended =
-              λ over. (let e = sym goes ∙ over in cc);
+          ended = λ over. (let e = sym goes ∙ over in cc);
         }
     by (item.Pulse moment) all count =
         record {
           numbered = all;
           counted = omega (arith, has.counted, count);
           goes_on = λ on. unended_push items (item.Pulse moment) unended refl;
-          ended =
-              λ over. (let e = sym goes ∙ over in cc);
+          ended = λ over. (let e = sym goes ∙ over in cc);
         }
     by item.End all count =
         record {
@@ -162,8 +160,7 @@ push_counted limit submitters pushed senders ticket lawful have =
     (have.each sender among)) in
     record {
       long = length-set senders ticket.sender new ∙ have.long;
-      submitted = all-push (λ (t : Ticket). IsSubmitted submitters t.sender t.item) pushed ticket
-          have.submitted is.submitted;
+      submitted = all-push (λ (t : Ticket). IsSubmitted submitters t.sender t.item) pushed ticket have.submitted is.submitted;
       no_other_sender = λ sender beyond. part_of_others sender pushed ticket
           (λ same. absurd (omega (arith, is.among, beyond, same))) ∙ have.no_other_sender sender beyond;
       each = λ sender among. ⊎_elim (λ (same : ticket.sender ≡ sender). subst Each same its) (others sender among)

@@ -16,8 +16,7 @@ fewer_places start queue others room =
       arith,
       room,
       length-append (ahead (items_in queue)) more.0,
-      ap length
-          (more.1 ∙ ap ahead (sym (map-append (λ (ticket : Ticket). ticket.item) queue others))),
+      ap length (more.1 ∙ ap ahead (sym (map-append (λ (ticket : Ticket). ticket.item) queue others))),
     )
 
 goes_on : (ledger : LedgerState) (handed : Parcel) → ledger.stopped ≡ false
@@ -32,13 +31,7 @@ goes_on ledger handed goes room = by handed room
     by : (handed : Parcel) → length (inputs ledger) + length (inputs_in (decisions_in handed)) ≤ 2 ^ 63
         → (apply_step false ledger handed).ledger.stopped ≡ false
     by (parcel.Batch jobs) room =
-        committed (length jobs) _ _ (omega (
-          arith,
-          room,
-          ap length
-              (inputs_in-admitted jobs),
-          length-map jobs input_of,
-        )) goes
+        committed (length jobs) _ _ (omega (arith, room, ap length (inputs_in-admitted jobs), length-map jobs input_of)) goes
     by (parcel.Pulse moment) room = committed 1 _ _ room goes
     by handed room = goes
 
@@ -113,8 +106,7 @@ length-history world (event ∷ events) =
     omega (
       arith,
       length-append (pushed_at world event) (history (after_event world event) events),
-      length-history
-          (after_event world event) events,
+      length-history (after_event world event) events,
       one event,
     )
   where

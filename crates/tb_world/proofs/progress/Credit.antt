@@ -18,13 +18,8 @@ InCredit credit world = (s : ℕ) → (sender_at world.senders s).pushed ≤ len
 by_step : (credit : ℕ) (world : WorldState) (after : Option WorldState) → Steps world after → InCredit credit world
     → InCredit credit (unwrap_or after world)
 by_step credit world None step in_credit = in_credit
-by_step credit world (Some next) step in_credit =
-    λ sender. omega (
-      arith,
-      in_credit sender,
-      step.received sender,
-      ap (λ (all : List WorldSender). (sender_at all sender).pushed) step.senders,
-    )
+by_step credit world (Some next) step in_credit = λ sender.
+    omega (arith, in_credit sender, step.received sender, ap (λ (all : List WorldSender). (sender_at all sender).pushed) step.senders)
 
 -- a sender has pushed at most one more
 pushed_more : (credit received : ℕ) (sender : WorldSender) (pushed : Item) → sender.pushed ≤ received + credit
@@ -53,8 +48,7 @@ set_sender senders own number most new here old =
     (λ (other : own ≢ number). omega (
       arith,
       old,
-      ap (λ (sender : WorldSender). sender.pushed)
-          (get_or-set_other senders own number new newcomer (λ same. other (sym same))),
+      ap (λ (sender : WorldSender). sender.pushed) (get_or-set_other senders own number new newcomer (λ same. other (sym same))),
     ))
     (cases_eq own number)
 
@@ -87,10 +81,8 @@ run_keeps credit world (event ∷ events) uses in_credit =
 new_keeps : (credit : ℕ) (start : LedgerState) (limit submitters : ℕ) → InCredit credit (world_over start limit submitters)
 new_keeps credit start limit submitters = λ number.
     ⊎_elim
-    (λ (among : number < submitters + 1). omega (
-      arith,
-      ap (λ (sender : WorldSender). sender.pushed) (get_or-replicate (submitters + 1) number newcomer newcomer among),
-    ))
+    (λ (among : number < submitters + 1).
+    omega (arith, ap (λ (sender : WorldSender). sender.pushed) (get_or-replicate (submitters + 1) number newcomer newcomer among)))
     (λ (past : submitters + 1 ≤ number). omega (
       arith,
       ap (λ (sender : WorldSender). sender.pushed) (get_or_past (world_over start limit submitters).senders number newcomer
@@ -153,11 +145,8 @@ room_for {submitters} {world} holds credit in_credit some (reply ∷ replies) re
     let less : unread mailbox < credit =
     ⊎_elim
     (λ (among : submitter < submitters). omega (arith, in_credit submitter, unread_few holds submitter among, one_more))
-    (λ (past : submitters ≤ submitter). omega (
-      arith,
-      some,
-      ap unread (get_or_past world.mailboxes submitter empty_mailbox (omega (arith, past, holds.routed.long))),
-    ))
+    (λ (past : submitters ≤ submitter).
+    omega (arith, some, ap unread (get_or_past world.mailboxes submitter empty_mailbox (omega (arith, past, holds.routed.long)))))
     (cases_lt submitter submitters) in
     let lt : nat_lt (unread mailbox) credit ≡ true = lt-ltb (unread mailbox) credit less in
     rw lt refl

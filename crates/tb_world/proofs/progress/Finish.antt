@@ -131,16 +131,10 @@ pub one_more : (old world : WorldState) (event : Event) → SoFar old world → 
 one_more old world event far may =
     record {
       steps = far.steps ++ event ∷ [];
-      leads = ap (λ (world : WorldState). after_event world event) far.leads
-          ∙ sym (run_more old far.steps (event ∷ []));
+      leads = ap (λ (world : WorldState). after_event world event) far.leads ∙ sym (run_more old far.steps (event ∷ []));
       no_push = none_more is_push far.steps event far.no_push may.no_push;
       unrefused = none_more is_refused far.steps event far.unrefused may.unrefused;
-      few = omega (
-        arith,
-        far.few,
-        moving_falls world event may,
-        length-append far.steps (event ∷ []),
-      );
+      few = omega (arith, far.few, moving_falls world event may, length-append far.steps (event ∷ []));
     }
 
 pub has_finished : (old new : WorldState) → SoFar old new → left new ≡ 0 → HasFinished old new

@@ -155,8 +155,7 @@ answered refused ledger (parcel.Batch jobs) = by (must_stop refused ledger (leng
     by false =
         omega (
           arith,
-          length-replies ledger.opening (inputs (with_entry ledger (map input_of jobs)))
-              (length (inputs ledger)) jobs,
+          length-replies ledger.opening (inputs (with_entry ledger (map input_of jobs))) (length (inputs ledger)) jobs,
         )
 answered refused ledger (parcel.Pulse moment) =
     by (must_stop refused ledger 1) (with_stop ledger) (with_entry ledger (input.Pulse moment ∷ []))
@@ -216,11 +215,8 @@ unread_more mailboxes reply =
     let mailbox = mailbox_at mailboxes own in
     let new = with_reply mailbox reply in
     ⊎_elim
-    (λ (among : own < length mailboxes). omega (
-      arith,
-      sum_by-set unread mailboxes own new empty_mailbox among,
-      length-append mailbox.ring (reply ∷ []),
-    ))
+    (λ (among : own < length mailboxes).
+    omega (arith, sum_by-set unread mailboxes own new empty_mailbox among, length-append mailbox.ring (reply ∷ [])))
     (λ (past : length mailboxes ≤ own).
     omega (arith, ap (λ (all : List Mailbox). sum_by unread all) (set_past mailboxes own new past)))
     (cases_lt own (length mailboxes))
@@ -246,13 +242,10 @@ received_after mailboxes own submitter new more =
         (λ (among : own < length mailboxes). omega (
           arith,
           more,
-          ap (λ (mailbox : Mailbox). length mailbox.received)
-              (get_or-set_same mailboxes own new empty_mailbox among),
+          ap (λ (mailbox : Mailbox). length mailbox.received) (get_or-set_same mailboxes own new empty_mailbox among),
         ))
-        (λ (past : length mailboxes ≤ own). omega (
-          arith,
-          ap (λ (all : List Mailbox). length (mailbox_at all own).received) (set_past mailboxes own new past),
-        ))
+        (λ (past : length mailboxes ≤ own).
+        omega (arith, ap (λ (all : List Mailbox). length (mailbox_at all own).received) (set_past mailboxes own new past)))
         (cases_lt own (length mailboxes))
 
 reply_push_steps : (world : WorldState) (replies : List ReplyValue) → world.replies ≡ replies
