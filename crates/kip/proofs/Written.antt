@@ -16,23 +16,24 @@ write_next before bytes out offset size long =
     ∙ sym (append_assoc before bytes (drop (offset + size) out))
 
 -- one record more
-module _ {X : Type 0} (f : X → List ℕ) (xs : List X) (i : ℕ) (d : X) (within : i < length xs) where
-  pub one_more : flat_map f (take (i + 1) xs) ≡ flat_map f (take i xs) ++ f (get_or xs i d)
+module _ {X : Type 0} (write : X → List ℕ) (records : List X) (index : ℕ) (default : X) (within : index < length records) where
+  pub one_more : flat_map write (take (index + 1) records) ≡ flat_map write (take index records) ++ write (get_or records index default)
   one_more =
-      let e : suc i ≡ i + 1 = omega arith in
-      subst (λ n. flat_map f (take n xs) ≡ flat_map f (take i xs) ++ f (get_or xs i d)) e
-      (ap (flat_map f) (take-suc xs i d within) ∙ sym (flat_map_more f [] (take i xs) (get_or xs i d)))
+      let e : suc index ≡ index + 1 = omega arith in
+      subst (λ n. flat_map write (take n records) ≡ flat_map write (take index records) ++ write (get_or records index default)) e
+      (ap (flat_map write) (take-suc records index default within)
+      ∙ sym (flat_map_more write [] (take index records) (get_or records index default)))
 
   -- the buffer with it
-  pub written_more : {offset size : ℕ} (out : List ℕ) {was now : List ℕ} → length (flat_map f (take i xs)) ≡ offset
-      → was ≡ flat_map f (take i xs) ++ drop offset out
-      → now ≡ take offset was ++ (f (get_or xs i d) ++ drop (offset + size) was)
-      → length (f (get_or xs i d)) ≡ size →
-      (length (flat_map f (take (i + 1) xs)) ≡ offset + size)
-      × (now ≡ flat_map f (take (i + 1) xs) ++ drop (offset + size) out)
+  pub written_more : {offset size : ℕ} (out : List ℕ) {was now : List ℕ} → length (flat_map write (take index records)) ≡ offset
+      → was ≡ flat_map write (take index records) ++ drop offset out
+      → now ≡ take offset was ++ (write (get_or records index default) ++ drop (offset + size) was)
+      → length (write (get_or records index default)) ≡ size →
+      (length (flat_map write (take (index + 1) records)) ≡ offset + size)
+      × (now ≡ flat_map write (take (index + 1) records) ++ drop (offset + size) out)
   written_more {offset} {size} out long was_is now_is wide =
-      let before = flat_map f (take i xs) in
-      let bytes = f (get_or xs i d) in (
+      let before = flat_map write (take index records) in
+      let bytes = write (get_or records index default) in (
         omega (arith, ap length one_more, length-append before bytes, long, wide),
         now_is ∙ ap (λ was. take offset was ++ (bytes ++ drop (offset + size) was)) was_is
             ∙ write_next before bytes out offset size long ∙ ap (λ all. all ++ drop (offset + size) out) (sym one_more),

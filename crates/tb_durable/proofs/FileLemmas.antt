@@ -88,26 +88,28 @@ settings_open settings low leaves opens db left =
 
 -- ---- the next row
 
-module _ (old new : View) (bare : BareLedgerState) (before after : PacketCounts) (h : IsHalfway old bare before after) (row : Row) where
+module _ (old new : View) (bare : BareLedgerState) (before after : PacketCounts) (halfway : IsHalfway old bare before after)
+    (row : Row) where
   -- the row that comes is an entry's, and so are those after it
   pub next_entry : (next : Advances old new 0 row true) → (middle : PacketCounts) × IsEntryRow bare.places before row middle
       × AreEntryRows (bare.places + length (group_in row)) middle next.0 after
   next_entry next =
       subst (λ rows. AreEntryRows bare.places before rows after)
-      (left_is old new h.read h.reading (row ∷ next.0) next.1) h.left
+      (left_is old new halfway.read halfway.reading (row ∷ next.0) next.1) halfway.left
 
   pub halfway_on : (next : Advances old new 0 row true) (grown : BareLedgerState) (counts : PacketCounts)
       → counts ≡ (next_entry next).0 → AddsGroup bare grown (group_in row) → 0 < length (group_in row)
       → rowid row ≡ Int (pos bare.places) → IsHalfway new grown counts after
   halfway_on next grown counts same adds some at =
-      let reading = reads_one old new h.read h.reading row next in
+      let reading = reads_one old new halfway.read halfway.reading row next in
       let left : reading.left ≡ next.0
-      = left_is new old (h.read ++ row ∷ []) reading next.0 (ap (λ (v : View). v.cursors 0) next.2) in
-      let place : grown.places ≡ bare.places + length (group_in row) = more_places h.read bare grown (group_in row) h.journal adds in
+      = left_is new old (halfway.read ++ row ∷ []) reading next.0 (ap (λ (v : View). v.cursors 0) next.2) in
+      let place : grown.places ≡ bare.places + length (group_in row)
+      = more_places halfway.read bare grown (group_in row) halfway.journal adds in
       record {
-        read = h.read ++ row ∷ [];
+        read = halfway.read ++ row ∷ [];
         reading = reading;
-        journal = one_more h.read row bare grown h.journal adds some at;
+        journal = one_more halfway.read row bare grown halfway.journal adds some at;
         left = subst (λ p. AreEntryRows p counts reading.left after) (sym place)
             (subst (λ c. AreEntryRows (bare.places + length (group_in row)) c reading.left after) (sym same)
             (subst (λ rows. AreEntryRows (bare.places + length (group_in row)) (next_entry next).0 rows after) (sym left)

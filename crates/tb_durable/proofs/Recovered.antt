@@ -63,8 +63,8 @@ module _ (recovers : Trees → Type 0) (rows last : List Row) (old found : BareL
               one_of = inl all;
               committed = found_committed [] journal found_journal is;
               opened = found_opened [] journal found_journal is;
-              whole = λ came is_prefix.
-                  subst (λ all. IsPrefix (inputs_of all) came) (sym all) (fewer_came came (groups_of rows) (map group_in last) is_prefix);
+              whole = λ came is_prefix. subst (λ all. IsPrefix (inputs_of all) came) (sym all)
+                  (fewer_came came (groups_of rows) (map group_in last) is_prefix);
               each = λ queued are. subst (AreOfQueued queued) (sym all) (fewer queued (groups_of rows) (map group_in last) are);
             }
         | inr more ↦

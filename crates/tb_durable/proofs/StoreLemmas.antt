@@ -9,18 +9,18 @@ use Rattle.tb_durable.specs.inside.Storing.{StoresRow}
 use Rattle.sqlite_trees.specs.declared.store.Direction.TheVariants.{Forward}
 use Rattle.sqlite_trees.proofs.Doubt.{no_doubt}
 
-module _ (v : View) (shut : v.is_open ≡ false → IsTrue v.is_broken) (sound : v.is_broken ≡ false) where
-  pub open_if_sound : IsTrue v.is_open
-  open_if_sound = go v.is_open refl
+module _ (view : View) (shut : view.is_open ≡ false → IsTrue view.is_broken) (sound : view.is_broken ≡ false) where
+  pub open_if_sound : IsTrue view.is_open
+  open_if_sound = go view.is_open refl
     where
-      go : (b : Bool) → v.is_open ≡ b → IsTrue v.is_open
+      go : (b : Bool) → view.is_open ≡ b → IsTrue view.is_open
       go true e = e
       go false e = absurd (let broken = shut e in cc)
 
-  pub clean_if_sound : (v.is_clean ≡ false → v.is_open ≡ false) → IsClean v
-  clean_if_sound dirty = no_doubt v.is_clean (go v.is_clean refl)
+  pub clean_if_sound : (view.is_clean ≡ false → view.is_open ≡ false) → IsClean view
+  clean_if_sound dirty = no_doubt view.is_clean (go view.is_clean refl)
     where
-      go : (b : Bool) → v.is_clean ≡ b → IsTrue v.is_clean
+      go : (b : Bool) → view.is_clean ≡ b → IsTrue view.is_clean
       go true e = e
       go false e = absurd (let broken = shut (dirty e) in cc)
 

@@ -39,14 +39,15 @@ notified_more : (changed : ℕ) (word : Word) → is_notified (changed + 1) word
 notified_more changed word = grind arith
 
 -- what a thread is on its way to tell may change
-module _ (s : Waking) (more : ℕ) (given : Bool) where
-  notified_still : (notified : Bool) (reader : Reader) → is_right notified s.values s.asked s.waking s.word reader ≡ true
-      → is_right true more given s.waking s.word reader ≡ true
+module _ (state : Waking) (more : ℕ) (given : Bool) where
+  notified_still : (notified : Bool) (reader : Reader)
+      → is_right notified state.values state.asked state.waking state.word reader ≡ true
+      → is_right true more given state.waking state.word reader ≡ true
   notified_still notified (Awake none going) right = grind arith
   notified_still notified reader right = grind arith
 
-  change_keeps : is_sound s ≡ true → is_sound (record s { values = more; asked = given; changed = s.changed + 1 }) ≡ true
-  change_keeps right = rw notified_more (notified_still (is_notified s.changed s.word) s.reader right)
+  change_keeps : is_sound state ≡ true → is_sound (record state { values = more; asked = given; changed = state.changed + 1 }) ≡ true
+  change_keeps right = rw notified_more (notified_still (is_notified state.changed state.word) state.reader right)
 
 -- ---- each step keeps it
 
