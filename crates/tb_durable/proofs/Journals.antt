@@ -94,20 +94,19 @@ module _ {old : View} {before : BareLedgerState} (row : Row) (at_rest : IsSettle
 pub fails_after : {S : Type 0} {view : S → View} {old new : S} {before : BareLedgerState} (row : Row) → IsStored (view old) before
     → before.stopped ≡ false → rowid row ≡ Int (pos before.places) → FailsToCommit view old (put_row row) new
     → FailsToCommit view old (λ rows. rows ++ row ∷ []) new
-fails_after {view} {old} row has goes_on at fails =
-    record {
-      put = fails.put;
-      clean = fails.clean;
-      set = λ clean.
-          let at_rest = has (omega (arith, fails.clean)) goes_on in
-          let set = fails.set clean in
-          record {
-            sound = set.sound;
-            is = set.is ∙ ap (λ rows. record (view old) { trees = with_tree (view old).trees 0 rows; cursors = (view fails.put).cursors })
-                (last row at_rest.0 at_rest.1 at ∙ ap (λ (t : Trees). t 0 ++ row ∷ []) (sym at_rest.0.same));
-          };
-      back = fails.back;
-    }
+fails_after {view} {old} row has goes_on at fails = record {
+  put = fails.put;
+  clean = fails.clean;
+  set = λ clean.
+      let at_rest = has (omega (arith, fails.clean)) goes_on in
+      let set = fails.set clean in
+      record {
+        sound = set.sound;
+        is = set.is ∙ ap (λ rows. record (view old) { trees = with_tree (view old).trees 0 rows; cursors = (view fails.put).cursors })
+            (last row at_rest.0 at_rest.1 at ∙ ap (λ (t : Trees). t 0 ++ row ∷ []) (sym at_rest.0.same));
+      };
+  back = fails.back;
+}
 
 -- a crash leaves the row after the others, or what it could leave before
 pub leaves_with_row : {old : View} {before : BareLedgerState} {was now : Trees → Type 0} (row : Row) → IsStored old before

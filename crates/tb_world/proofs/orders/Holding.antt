@@ -125,15 +125,14 @@ replies_to-append submitter xs ys = filter-append (λ (reply : ReplyValue). repl
 
 routed_more : {submitters : ℕ} {answers way : List ReplyValue} {mailboxes : List Mailbox} (more : List ReplyValue)
     → AreRouted submitters answers mailboxes way → AreRouted submitters (answers ++ more) mailboxes (way ++ more)
-routed_more {answers} {way} more routed =
-    record {
-      long = routed.long;
-      each = λ submitter among. rw (
-        replies_to-append submitter answers more,
-        replies_to-append submitter way more,
-        routed.each submitter among,
-      ) (simp append_assoc);
-    }
+routed_more {answers} {way} more routed = record {
+  long = routed.long;
+  each = λ submitter among. rw (
+    replies_to-append submitter answers more,
+    replies_to-append submitter way more,
+    routed.each submitter among,
+  ) (simp append_assoc);
+}
 
 left_replies : (outcome : Outcomes) → of_one (pending_of outcome) ≡ replies_in outcome
 left_replies (outcomes.Cut replies) = refl
@@ -162,19 +161,18 @@ module _ {Unrefused : Type 0} {start : LedgerState} {submitters : ℕ} {pushed :
         last_sent = last;
         batches = batches;
       })
-  batched {taken} split goes sent =
-      record {
-        taken = taken;
-        applied = holds.applied;
-        answers = holds.answers;
-        split = split;
-        counted = holds.counted;
-        senders = holds.senders;
-        sent = sent;
-        commits = holds.commits;
-        routed = holds.routed;
-        goes = λ is. record { front = goes is; ledger = (holds.goes is).ledger };
-      }
+  batched {taken} split goes sent = record {
+    taken = taken;
+    applied = holds.applied;
+    answers = holds.answers;
+    split = split;
+    counted = holds.counted;
+    senders = holds.senders;
+    sent = sent;
+    commits = holds.commits;
+    routed = holds.routed;
+    goes = λ is. record { front = goes is; ledger = (holds.goes is).ledger };
+  }
 
   pub pop_holds : (refused : Bool) (parcels : List Parcel) (queue : List Ticket) → world.parcels ≡ parcels
       → world.queue ≡ queue → (Unrefused → refused ≡ false)
@@ -250,19 +248,18 @@ module _ {Unrefused : Type 0} {start : LedgerState} {submitters : ℕ} {pushed :
         outcome = outcome;
         mailboxes = mailboxes;
       })
-  rerouted routed =
-      record {
-        taken = holds.taken;
-        applied = holds.applied;
-        answers = holds.answers;
-        split = holds.split;
-        counted = holds.counted;
-        senders = holds.senders;
-        sent = holds.sent;
-        commits = holds.commits;
-        routed = routed;
-        goes = holds.goes;
-      }
+  rerouted routed = record {
+    taken = holds.taken;
+    applied = holds.applied;
+    answers = holds.answers;
+    split = holds.split;
+    counted = holds.counted;
+    senders = holds.senders;
+    sent = holds.sent;
+    commits = holds.commits;
+    routed = routed;
+    goes = holds.goes;
+  }
 
   pub outcome_push_holds : (outcome : Option Outcomes) → world.outcome ≡ outcome
       → Holds Unrefused start submitters pushed (unwrap_or (outcome_push world outcome) world)
@@ -344,18 +341,17 @@ module _ {Unrefused : Type 0} {start : LedgerState} {submitters : ℕ} {pushed :
         queue = world.queue ++ ticket ∷ [];
       }) else None) world)
   push_holds ticket false is = rw append-nil holds
-  push_holds ticket true is =
-      record {
-        taken = holds.taken;
-        applied = holds.applied;
-        answers = holds.answers;
-        split = ap (λ l. l ++ ticket ∷ []) holds.split ∙ append_assoc holds.taken world.queue (ticket ∷ []);
-        senders = push_counted world.limit submitters pushed world.senders ticket
-            (subst (λ m. may_push world.limit m ticket.sender (sender_at world.senders ticket.sender) ticket.item ≡ true)
-            holds.counted is) holds.senders;
-        counted = holds.counted;
-        sent = holds.sent;
-        commits = holds.commits;
-        routed = holds.routed;
-        goes = holds.goes;
-      }
+  push_holds ticket true is = record {
+    taken = holds.taken;
+    applied = holds.applied;
+    answers = holds.answers;
+    split = ap (λ l. l ++ ticket ∷ []) holds.split ∙ append_assoc holds.taken world.queue (ticket ∷ []);
+    senders = push_counted world.limit submitters pushed world.senders ticket
+        (subst (λ m. may_push world.limit m ticket.sender (sender_at world.senders ticket.sender) ticket.item ≡ true)
+        holds.counted is) holds.senders;
+    counted = holds.counted;
+    sent = holds.sent;
+    commits = holds.commits;
+    routed = holds.routed;
+    goes = holds.goes;
+  }

@@ -138,17 +138,16 @@ module _ {Unrefused : Type 0} {start : LedgerState} {submitters : ℕ} {pushed :
   taken_all = sym (holds.split ∙ ap (λ l. holds.taken ++ l) empty.queue ∙ append-nil holds.taken)
 
   ran : Ran start (items_in pushed) world.ledger holds.answers
-  ran =
-      record {
-        closed = world.front.closed;
-        stopped = world.front.stopped;
-        decisions = holds.applied;
-        passed = subst (λ (queue : List Ticket). AreDecisions
-            (items_in queue) world.front.closed world.front.stopped holds.applied) taken_all
-            (subst (AreDecisions (items_in holds.taken) world.front.closed world.front.stopped)
-            (ap (λ l. holds.applied ++ l) empty.way ∙ append-nil holds.applied) holds.sent.passes);
-        commits = holds.commits;
-      }
+  ran = record {
+    closed = world.front.closed;
+    stopped = world.front.stopped;
+    decisions = holds.applied;
+    passed = subst (λ (queue : List Ticket). AreDecisions
+        (items_in queue) world.front.closed world.front.stopped holds.applied) taken_all
+        (subst (AreDecisions (items_in holds.taken) world.front.closed world.front.stopped)
+        (ap (λ l. holds.applied ++ l) empty.way ∙ append-nil holds.applied) holds.sent.passes);
+    commits = holds.commits;
+  }
 
   received_all : (submitter : ℕ) → submitter < submitters → received_of world submitter ≡ replies_to holds.answers submitter
   received_all submitter among =
@@ -192,15 +191,14 @@ has_run start limit submitters events world began is = subst (HasRun start limit
     holds = all_holds start limit submitters events began
 
     there : HasRun start limit submitters events end
-    there =
-        record {
-          began = began;
-          is = refl;
-          so_far = is_lawful_so_far holds;
-          no_stop_seen = λ unrefused room. none_stopped holds (holds.goes (unrefused, room));
-          at_rest = λ rest. rests holds (empty_at_rest end rest);
-          whole = λ unrefused room rest. whole holds (empty_at_rest end rest) (holds.goes (unrefused, room));
-        }
+    there = record {
+      began = began;
+      is = refl;
+      so_far = is_lawful_so_far holds;
+      no_stop_seen = λ unrefused room. none_stopped holds (holds.goes (unrefused, room));
+      at_rest = λ rest. rests holds (empty_at_rest end rest);
+      whole = λ unrefused room rest. whole holds (empty_at_rest end rest) (holds.goes (unrefused, room));
+    }
 
 pub run_more : (world : WorldState) (xs ys : List Event) → run world (xs ++ ys) ≡ run (run world xs) ys
 run_more world [] ys = refl

@@ -82,34 +82,30 @@ pushed_more number sender items pushed goes next has =
     by : (pushed : Item) → AreNumbered number 0 (items ++ pushed ∷ [])
         → packets_in (items ++ pushed ∷ []) ≡ packets_in items + packets_in (pushed ∷ [])
         → HasPushed number (sender_after sender pushed) (items ++ pushed ∷ [])
-    by (item.Packet job) all count =
-        record {
-          numbered = all;
-          counted = omega (arith, has.counted, count);
-          goes_on = λ on. unended_push items (item.Packet job) unended refl;
-          ended = λ over. (let e = sym goes ∙ over in cc);
-        }
-    by (item.Pulse moment) all count =
-        record {
-          numbered = all;
-          counted = omega (arith, has.counted, count);
-          goes_on = λ on. unended_push items (item.Pulse moment) unended refl;
-          ended = λ over. (let e = sym goes ∙ over in cc);
-        }
-    by item.End all count =
-        record {
-          numbered = all;
-          counted = omega (arith, has.counted, count);
-          goes_on = λ on. cc;
-          ended = λ over. ended_by items item.End unended refl;
-        }
-    by item.Close all count =
-        record {
-          numbered = all;
-          counted = omega (arith, has.counted, count);
-          goes_on = λ on. cc;
-          ended = λ over. ended_by items item.Close unended refl;
-        }
+    by (item.Packet job) all count = record {
+      numbered = all;
+      counted = omega (arith, has.counted, count);
+      goes_on = λ on. unended_push items (item.Packet job) unended refl;
+      ended = λ over. (let e = sym goes ∙ over in cc);
+    }
+    by (item.Pulse moment) all count = record {
+      numbered = all;
+      counted = omega (arith, has.counted, count);
+      goes_on = λ on. unended_push items (item.Pulse moment) unended refl;
+      ended = λ over. (let e = sym goes ∙ over in cc);
+    }
+    by item.End all count = record {
+      numbered = all;
+      counted = omega (arith, has.counted, count);
+      goes_on = λ on. cc;
+      ended = λ over. ended_by items item.End unended refl;
+    }
+    by item.Close all count = record {
+      numbered = all;
+      counted = omega (arith, has.counted, count);
+      goes_on = λ on. cc;
+      ended = λ over. ended_by items item.Close unended refl;
+    }
 
 -- ---- all senders
 
@@ -121,14 +117,13 @@ pub record HavePushed (submitters : ℕ) (pushed : List Ticket) (senders : List 
 
 pub none_pushed : (submitters : ℕ) (senders : List WorldSender) → length senders ≡ submitters + 1
     → ((sender : ℕ) → sender ≤ submitters → sender_at senders sender ≡ newcomer) → HavePushed submitters [] senders
-none_pushed submitters senders long new =
-    record {
-      long = long;
-      submitted = tt;
-      no_other_sender = λ sender beyond. refl;
-      each = λ sender among. subst (λ s. HasPushed sender s []) (sym (new sender among))
-          (record { numbered = tt; counted = refl; goes_on = λ on. refl; ended = λ over. cc });
-    }
+none_pushed submitters senders long new = record {
+  long = long;
+  submitted = tt;
+  no_other_sender = λ sender beyond. refl;
+  each = λ sender among. subst (λ s. HasPushed sender s []) (sym (new sender among))
+      (record { numbered = tt; counted = refl; goes_on = λ on. refl; ended = λ over. cc });
+}
 
 part_of_others : (sender : ℕ) (queue : List Ticket) (ticket : Ticket) → ticket.sender ≢ sender
     → items_from sender (queue ++ ticket ∷ []) ≡ items_from sender queue
@@ -191,12 +186,11 @@ numbered_by submitters pushed senders have sender among = (have.each sender amon
 pub queue_of_all : (submitters : ℕ) (pushed : List Ticket) (senders : List WorldSender)
     → HavePushed submitters pushed senders → HaveAllEnded submitters pushed
     → IsQueueOf submitters pushed (λ sender. items_from sender pushed)
-queue_of_all submitters pushed senders have over =
-    record {
-      parts = λ sender among. refl;
-      no_other_sender = have.no_other_sender;
-      submitted = have.submitted;
-      numbered = numbered_by submitters pushed senders have;
-      ended = λ sender among. has_ended sender (sender_at senders sender) (items_from sender pushed)
-          (have.each sender among) (over sender among);
-    }
+queue_of_all submitters pushed senders have over = record {
+  parts = λ sender among. refl;
+  no_other_sender = have.no_other_sender;
+  submitted = have.submitted;
+  numbered = numbered_by submitters pushed senders have;
+  ended = λ sender among. has_ended sender (sender_at senders sender) (items_from sender pushed)
+      (have.each sender among) (over sender among);
+}

@@ -120,29 +120,28 @@ length-history world (event ∷ events) =
 
 opened_holds : (Unrefused : Type 0) (start : LedgerState) (limit submitters : ℕ) → Commits start [] start []
     → Holds Unrefused start submitters [] (world_over start limit submitters)
-opened_holds Unrefused start limit submitters began =
-    record {
-      taken = [];
-      applied = [];
-      answers = [];
-      split = refl;
-      counted = refl;
-      senders = none_pushed submitters (replicate (submitters + 1) newcomer) (length-replicate (submitters + 1) newcomer)
-          (λ sender among. get_or-replicate (submitters + 1) sender newcomer newcomer (omega (arith, among)));
-      sent = record {
-        passes = record { stop = None; all = refl; shut = refl; stops = refl; at_packet = tt };
-        clear = λ e. refl;
-        parcel_jobs = tt;
-        batch_jobs = tt;
-      };
-      commits = began;
-      routed = record {
-        long = length-replicate submitters empty_mailbox;
-        each = λ submitter among. sym (ap (λ (mailbox : Mailbox). mailbox.received ++ (mailbox.ring ++ []))
-            (get_or-replicate submitters submitter empty_mailbox empty_mailbox among));
-      };
-      goes = λ is. record { front = refl; ledger = goes_on_from };
-    }
+opened_holds Unrefused start limit submitters began = record {
+  taken = [];
+  applied = [];
+  answers = [];
+  split = refl;
+  counted = refl;
+  senders = none_pushed submitters (replicate (submitters + 1) newcomer) (length-replicate (submitters + 1) newcomer)
+      (λ sender among. get_or-replicate (submitters + 1) sender newcomer newcomer (omega (arith, among)));
+  sent = record {
+    passes = record { stop = None; all = refl; shut = refl; stops = refl; at_packet = tt };
+    clear = λ e. refl;
+    parcel_jobs = tt;
+    batch_jobs = tt;
+  };
+  commits = began;
+  routed = record {
+    long = length-replicate submitters empty_mailbox;
+    each = λ submitter among. sym (ap (λ (mailbox : Mailbox). mailbox.received ++ (mailbox.ring ++ []))
+        (get_or-replicate submitters submitter empty_mailbox empty_mailbox among));
+  };
+  goes = λ is. record { front = refl; ledger = goes_on_from };
+}
   where
     goes_on_from : start.stopped ≡ false
     goes_on_from = began.unstopped (cancel (inputs start) began.remainder [] began.committed)

@@ -128,38 +128,35 @@ none_more : (test : Event → Bool) (steps : List Event) (event : Event) → lis
 none_more test steps event none one = rw (list_any-append test steps (event ∷ []), none, one) refl
 
 pub one_more : (old world : WorldState) (event : Event) → SoFar old world → MayMove world event → SoFar old (after_event world event)
-one_more old world event far may =
-    record {
-      steps = far.steps ++ event ∷ [];
-      leads = ap (λ (world : WorldState). after_event world event) far.leads ∙ sym (run_more old far.steps (event ∷ []));
-      no_push = none_more is_push far.steps event far.no_push may.no_push;
-      unrefused = none_more is_refused far.steps event far.unrefused may.unrefused;
-      few = omega (arith, far.few, moving_falls world event may, length-append far.steps (event ∷ []));
-    }
+one_more old world event far may = record {
+  steps = far.steps ++ event ∷ [];
+  leads = ap (λ (world : WorldState). after_event world event) far.leads ∙ sym (run_more old far.steps (event ∷ []));
+  no_push = none_more is_push far.steps event far.no_push may.no_push;
+  unrefused = none_more is_refused far.steps event far.unrefused may.unrefused;
+  few = omega (arith, far.few, moving_falls world event may, length-append far.steps (event ∷ []));
+}
 
 pub has_finished : (old new : WorldState) → SoFar old new → left new ≡ 0 → HasFinished old new
-has_finished old new far none =
-    record {
-      steps = far.steps;
-      leads = far.leads;
-      no_push = far.no_push;
-      unrefused = far.unrefused;
-      few = omega (arith, far.few);
-      rest = rests new none;
-    }
+has_finished old new far none = record {
+  steps = far.steps;
+  leads = far.leads;
+  no_push = far.no_push;
+  unrefused = far.unrefused;
+  few = omega (arith, far.few);
+  rest = rests new none;
+}
 
 pub runs_out : (old world : WorldState) (event : Event) → SoFar old world → MayMove world event
     → takes_memory world event ≡ true → RunsOut old world
-runs_out old world event far may takes =
-    record {
-      steps = far.steps;
-      event = event;
-      leads = far.leads;
-      no_push = far.no_push;
-      unrefused = far.unrefused;
-      next = may;
-      takes = takes;
-    }
+runs_out old world event far may takes = record {
+  steps = far.steps;
+  event = event;
+  leads = far.leads;
+  no_push = far.no_push;
+  unrefused = far.unrefused;
+  next = may;
+  takes = takes;
+}
 
 -- ---- rounds
 

@@ -24,13 +24,12 @@ Steps world after = IfSome after (λ next. IsStep world next)
 -- a stage leaves senders and mailboxes as they are
 of_stage : (world next : WorldState) → next.senders ≡ world.senders → next.mailboxes ≡ world.mailboxes → left next < left world
     → IsStep world next
-of_stage world next senders mailboxes fewer =
-    record {
-      fewer = fewer;
-      senders = senders;
-      long = ap (λ (all : List Mailbox). length all) mailboxes;
-      received = λ submitter. omega (arith, ap (λ (all : List Mailbox). length (mailbox_at all submitter).received) mailboxes);
-    }
+of_stage world next senders mailboxes fewer = record {
+  fewer = fewer;
+  senders = senders;
+  long = ap (λ (all : List Mailbox). length all) mailboxes;
+  received = λ submitter. omega (arith, ap (λ (all : List Mailbox). length (mailbox_at all submitter).received) mailboxes);
+}
 
 -- ---- the batcher
 

@@ -6,10 +6,6 @@ pub returns : goal.returns
 returns g c =
     let served = c.in-Ok-serve.ensures in
     let settled = c.settle.ensures in
-    is_run c.captures.pipeline c.in-Ok-serve.served c.settle.result.ledger c.settle.result.ends.items served.start served.intake (
-      c.in-Ok-serve.served.intake.taken,
-      queued_by c.put.new.ends.items c.join-driven.result.control,
-      settled.opening,
-      settled.report,
-      settled.grouping,
-    )
+    let queued = queued_by c.put.new.ends.items c.join-driven.result.control in
+    is_run c.captures.pipeline c.in-Ok-serve.served c.settle.result.ledger c.settle.result.ends.items served.start served.intake
+    (c.in-Ok-serve.served.intake.taken, queued, settled.opening, settled.report, settled.grouping)
