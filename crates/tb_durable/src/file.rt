@@ -7,8 +7,8 @@ ghost use Rattle.sqlite_trees.specs.View.{IsClean, doubt};
 ghost use Rattle.sqlite_trees.specs.Objects.{catalog_tree};
 ghost use Rattle.sqlite.specs.State.{HasCleanDisk};
 ghost use Rattle.sqlite.specs.Start.{FindsIn};
-ghost use Rattle.sqlite.specs.Files.{file_state, IsOpened};
-ghost use Rattle.tb_durable.specs.clauses.Opened.{IsLedger, IsOpenedOn, IsPrepared, IsRefusal, MakesTable, objects_in};
+ghost use Rattle.sqlite.specs.Files.{file_state, IsBlankAs, IsOpened};
+ghost use Rattle.tb_durable.specs.clauses.Opened.{IsLedger, IsOpenedOn, IsPrepared, IsRefusal, MakesTable, is_of_file, is_of_opening, is_of_table, objects_in};
 ghost use Rattle.tb_durable.specs.declared.fault.OpenFault.TheVariants.{NoMemory as NoMemoryFault};
 
 use crate::fault::OpenFault;
@@ -75,7 +75,10 @@ fn make_table<S: Alter>(store: &mut S) -> Result<(), StoreError>
 }
 
 /// Returns how the log is written.
-fn log_options(rt: &HostRuntime) -> Result<Options, OpenFault> {
+fn log_options(rt: &HostRuntime) -> Result<Options, OpenFault>
+    ensures options { IfOk result (λ options. options.checkpoint_frames ≡ 100000) }
+    ensures fault { IfErr result (λ fault. IsTrue (is_of_file fault)) }
+{
     let Ok(state) = RandomState::new(rt) else {
         return Err(CANNOT_OPEN);
     };
@@ -93,6 +96,9 @@ fn connect<S: Start>(
 ) -> Result<Connection<FileStore<FileFrom<S>>>, OpenFault>
     ensures opened { IfOk result (λ conn. HasCleanDisk (file_state conn) → IsOpened conn) }
     ensures found { IfOk result (λ conn. HasCleanDisk (file_state conn) → FindsIn (record { log = S.Start.log; db = S.Start.db }) (file_state conn)) }
+    ensures sums { IfOk result (λ conn. HasCleanDisk (file_state conn)
+        → IsBlankAs true (record { log = S.Start.log; db = S.Start.db }) → (file.view conn.store).has_sums ≡ true) }
+    ensures fault { IfErr result (λ fault. IsTrue (is_of_file fault)) }
 {
     let options = log_options(rt)?;
     if path == ":memory:" || path.starts_with("file:") {
@@ -123,8 +129,9 @@ fn connect<S: Start>(
 /// `File` if the path can't be opened, another process has the file open, or it is no sound database. `NotALedger` if the
 /// database has another table. `Store` if the table can't be made.
 pub fn open_file(rt: &HostRuntime, path: &str) -> Result<LedgerFile, OpenFault>
-    ensures { IfOk result (λ store. IsTrue (file.view store).is_open
+    ensures opened { IfOk result (λ store. IsTrue (file.view store).is_open
         → (log : List ℕ) × (db : List ℕ) × IsOpenedOn log db (file.view store)) }
+    ensures fault { IfErr result (λ fault. IsTrue (is_of_opening fault)) }
 {
     open_file_from(rt, path, Unknown)
 }
@@ -136,7 +143,8 @@ pub fn open_file_from<S: Start>(
     path: &str,
     start: S,
 ) -> Result<FileStore<FileFrom<S>>, OpenFault>
-    ensures { IfOk result (λ store. IsTrue (file.view store).is_open → IsOpenedOn S.Start.log S.Start.db (file.view store)) }
+    ensures opened { IfOk result (λ store. IsTrue (file.view store).is_open → IsOpenedOn S.Start.log S.Start.db (file.view store)) }
+    ensures fault { IfErr result (λ fault. IsTrue (is_of_opening fault)) }
 {
     let conn = connect(rt, path, start)?;
     store_of(rt.alloc(), conn)
@@ -144,7 +152,8 @@ pub fn open_file_from<S: Start>(
 
 /// Returns the store, with the table of a ledger.
 fn store_of<S: Alter + Drop>(alloc: Global, conn: Connection<S>) -> Result<S, OpenFault>
-    ensures { IfOk result (λ store. IsTrue (S.Store.view store).is_open → IsPrepared (S.Store.view conn.store) (S.Store.view store)) }
+    ensures prepared { IfOk result (λ store. IsTrue (S.Store.view store).is_open → IsPrepared (S.Store.view conn.store) (S.Store.view store)) }
+    ensures fault { IfErr result (λ fault. IsTrue (is_of_table fault)) }
 {
     let mut store = conn.into_store();
     match prepare(alloc, &mut store) {
@@ -173,6 +182,7 @@ fn prepare<S: Alter>(alloc: Global, store: &mut S) -> Result<(), OpenFault>
     ensures kept { OnOk result (IsClean (S.Store.view store.new)
         → ((S.Store.view store.new ≡ S.Store.view store.old) × IsLedger (objects_in (S.Store.view store.old).trees))
         ⊎ (((S.Store.view store.old).trees catalog_tree ≡ []) × MakesTable (S.Store.view store.old) (S.Store.view store.new))) }
+    ensures fault { IfErr result (λ fault. IsTrue (is_of_table fault)) }
     ensures refused { IsClean (S.Store.view store.old) → IfErr result (IsRefusal (S.Store.view store.old).trees) }
     ensures clean { doubt (S.Store.view store.old).is_clean ≤ doubt (S.Store.view store.new).is_clean }
 {

@@ -1,5 +1,5 @@
 -- Which store is opened at a path.
-use Rattle.std.specs.Prelude.{◌≡◌, ◌⊎◌, ℕ, [], ◌∷◌, List, codes, map, take, ⊤}
+use Rattle.std.specs.Prelude.{◌≡◌, ◌⊎◌, ℕ, Bool, true, false, ◌||◌, [], ◌∷◌, List, codes, map, take, ⊤}
 use Rattle.sqlite_value.specs.Order.{Row, column}
 use Rattle.sqlite_value.specs.declared.value.Value.TheVariants.{Text}
 use Rattle.sqlite_trees.specs.Tree.{Trees}
@@ -52,3 +52,19 @@ IsRefusal trees fault.NoMemory = ⊤
 IsRefusal trees fault.NotALedger = ¬ IsLedger (objects_in trees)
 IsRefusal trees (fault.Store error) = trees catalog_tree ≡ []
 IsRefusal trees other = ⊥
+
+-- whether a fault is of the file, whose path isn't opened or which is no sound database
+abbrev pub is_of_file : OpenFault → Bool
+is_of_file fault.NoMemory = true
+is_of_file (fault.File error) = true
+is_of_file other = false
+
+-- whether it is of the tables
+abbrev pub is_of_table : OpenFault → Bool
+is_of_table fault.NoMemory = true
+is_of_table fault.NotALedger = true
+is_of_table (fault.Store error) = true
+is_of_table other = false
+
+abbrev pub is_of_opening : OpenFault → Bool
+is_of_opening error = is_of_file error || is_of_table error

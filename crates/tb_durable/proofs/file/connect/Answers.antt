@@ -1,7 +1,7 @@
-use Rattle.std.proofs.Common.{ℕ, Bool, cond, List, ap₂, subst}
+use Rattle.std.proofs.Common.{ℕ, Bool, true, cond, List, ap₂, subst, sym}
 use Rattle.sqlite_disk.specs.Events.{Event, replay}
 use Rattle.sqlite_wal.specs.Recovery.{Image}
-use Rattle.sqlite.specs.Files.{file_state}
+use Rattle.sqlite.specs.Files.{file_state, IsBlankAs}
 use Rattle.sqlite.specs.Start.{FindsIn}
 use Rattle.tb_durable.proofs.file.connect.Goals as goal
 
@@ -17,3 +17,9 @@ returns-in-Ok-open_files_with-clause-found g c = λ clean.
     let found = c.in-Ok-open_files_with.ensures.found clean in
     let same = ap₂ image (ap₂ (seen g.S.Start.log g.S.Start.db) log.0 log.1) (ap₂ (seen g.S.Start.log g.S.Start.db) db.0 db.1) in
     subst (λ i. FindsIn i (file_state c.in-Ok-open_files_with.conn)) same (record { holds = found.holds; reads = found.reads })
+
+pub returns-in-Ok-open_files_with-clause-sums : goal.returns-in-Ok-open_files_with-clause-sums
+returns-in-Ok-open_files_with-clause-sums g c = λ clean blank.
+    let (log, db) = c.in-Ok.ensures.fresh in
+    let same = ap₂ image (ap₂ (seen g.S.Start.log g.S.Start.db) log.0 log.1) (ap₂ (seen g.S.Start.log g.S.Start.db) db.0 db.1) in
+    c.in-Ok-open_files_with.ensures.sums clean (subst (IsBlankAs true) (sym same) blank)
