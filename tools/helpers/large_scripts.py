@@ -229,11 +229,11 @@ def two_thousand_packets():
 
 
 def sixteen_submitters():
-    """A packet of each of 16 submitters, for `list`: the places are those of the script."""
+    """Ten packets of each of 16 submitters, in turn, for `list`: the places are those of the script."""
     script, printed = ["submitters 16"], []
-    for submitter in range(16):
-        script += [f"packet {submitter} 129", *map(account, range(submitter * 500 + 1, submitter * 500 + 501))]
-        printed.append(f"packet {submitter} 0 committed {submitter}")
+    for place in range(160):
+        script += [f"packet {place % 16} 129", *map(account, range(place * 50 + 1, place * 50 + 51))]
+        printed.append(f"packet {place % 16} {place // 16} committed {place}")
     return script, [*printed, "clock 8000", *account_lines(range(1, 8001))]
 
 
