@@ -113,6 +113,20 @@ def seventy_thousand_pulses():
     ]
 
 
+def many_transfers():
+    """139,230 transfers in 17 packets of 8,190, past 2^17 rows, then the last of them again, and the first with another amount."""
+    packets, script = 17, ["packet 0 129", account(1), account(2)]
+    for first in range(1, packets * BATCH_MAX, BATCH_MAX):
+        script += ["packet 0 130", *(transfer(number) for number in range(first, first + BATCH_MAX))]
+    script += ["packet 0 130", transfer(packets * BATCH_MAX), transfer(1, amount=2)]
+    moved = packets * BATCH_MAX
+    printed = [f"packet 0 {number} committed {number}" for number in range(packets + 1)]
+    return script, [
+        *printed, f"packet 0 {packets + 1} committed {packets + 1} 0:46 1:39", f"clock {4 + moved}", f"account 1 1 0 {moved} 0 0",
+        f"account 2 2 0 0 0 {moved}",
+    ]
+
+
 def failed_ids():
     """1,100 transfers whose account isn't there, each refused with 68 afterwards."""
     transfers = [transfer(number, credit=9) for number in range(1, 1101)]
@@ -334,8 +348,8 @@ def accounts_and_pending_transfers():
 ALIKE = [
     largest_packet, one_event_too_many, many_packets, longest_line, line_too_long, largest_lookup, failed_ids, full_bodies,
     chains_of_accounts, chains_of_transfers, limits_of_accounts, one_place_one_credit, two_thousand_packets,
-    between_sixteen_thousand_accounts, seventy_thousand_lookups, full_packet_after_an_empty_one, post_with_wide_user_data,
-    chains_with_transient_faults,
+    many_transfers, between_sixteen_thousand_accounts, seventy_thousand_lookups, full_packet_after_an_empty_one,
+    post_with_wide_user_data, chains_with_transient_faults,
     *(functools.partial(end_of_clock, operation, left) for operation in (129, 130) for left in range(4)),
 ]
 
