@@ -41,3 +41,9 @@ commit-requires c =
 
 pub returns-then-parts-clause-state : goal.returns-then-parts-clause-state
 returns-then-parts-clause-state c = search rules
+
+pub returns-then-parts-clause-answered : goal.returns-then-parts-clause-answered
+returns-then-parts-clause-answered c = search rules
+
+pub returns-else-parts-clause-answered : goal.returns-else-parts-clause-answered
+returns-else-parts-clause-answered c = search rules

@@ -22,3 +22,9 @@ returns-in-Err g c =
           refused_pulse (g.C.ControlDriver.has_queued first c.pulsed-in-Err.new.self) items c.args.moment large.1
           (c.pulsed-in-Err.ensures.refused first c.args.moment items asks (search rules) large.1);
     }
+
+pub returns-in-Ok-clause-queued : goal.returns-in-Ok-clause-queued
+returns-in-Ok-clause-queued g c = search rules
+
+pub returns-then-is_given_up-clause-queued : goal.returns-then-is_given_up-clause-queued
+returns-then-is_given_up-clause-queued g c = search rules

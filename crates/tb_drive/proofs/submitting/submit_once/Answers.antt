@@ -15,3 +15,6 @@ returns-clause-refused g c =
 pub returns-clause-kept : goal.returns-clause-kept
 returns-clause-kept g c =
     on_ok_weaker c.submit.result (none_final c.args.submitter.now c.args.packet) c.submit.ensures.admitted
+
+pub returns-clause-refusal : goal.returns-clause-refusal
+returns-clause-refusal g c = search rules

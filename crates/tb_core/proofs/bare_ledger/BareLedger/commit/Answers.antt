@@ -1,4 +1,4 @@
-use Rattle.std.proofs.Common.{◌∙◌, ap, refl, sym, subst, length}
+use Rattle.std.proofs.Common.{◌∙◌, ap, refl, sym, subst, length, rules}
 use Rattle.tb_core.proofs.Words.{BareLedgerState, halts, AreAnswered}
 use Rattle.tb_core.proofs.Batches.{JoinInvisibly}
 use Rattle.tb_core.proofs.LedgerSteps.{batch_applied}
@@ -33,3 +33,21 @@ returns-clause-ok c = rw (← c.self.view_is) (λ groups is.
       batch_entered law is answered next (ap length (c.jobs-count.ensures.jobs ∙ sym same)),
       batch_applied is (next ∙ batch_state law inside.machine parts answered) same refl goes,
     ))
+
+pub returns-then-halts_at-clause-err : goal.returns-then-halts_at-clause-err
+returns-then-halts_at-clause-err c = search rules
+
+pub returns-then-halts_at-clause-memory : goal.returns-then-halts_at-clause-memory
+returns-then-halts_at-clause-memory c = search rules
+
+pub returns-then-is_err-clause-err : goal.returns-then-is_err-clause-err
+returns-then-is_err-clause-err c = search rules
+
+pub returns-then-is_err-clause-memory : goal.returns-then-is_err-clause-memory
+returns-then-is_err-clause-memory c = search rules
+
+pub returns-clause-err : goal.returns-clause-err
+returns-clause-err c = search rules
+
+pub returns-clause-memory : goal.returns-clause-memory
+returns-clause-memory c = search rules

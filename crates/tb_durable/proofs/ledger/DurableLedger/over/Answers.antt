@@ -1,4 +1,4 @@
-use Rattle.std.proofs.Common.{subst, sym}
+use Rattle.std.proofs.Common.{subst, sym, rules}
 use Rattle.tb_durable.proofs.Words.{Trees, IsLedgerFile}
 use Rattle.tb_durable.proofs.RunLemmas.{some_kept}
 use Rattle.tb_durable.proofs.ledger.DurableLedger.over.Goals as goal
@@ -24,3 +24,27 @@ returns-in-Ok-clause-kept g c =
 
 pub returns-in-Ok-clause-openable : goal.returns-in-Ok-clause-openable
 returns-in-Ok-clause-openable g c = λ opens. (c.read_ledger-read.ensures.openable opens, tt)
+
+pub returns-in-Ok-clause-rows : goal.returns-in-Ok-clause-rows
+returns-in-Ok-clause-rows g c = search rules
+
+pub returns-in-Ok-clause-settings : goal.returns-in-Ok-clause-settings
+returns-in-Ok-clause-settings g c = search rules
+
+pub returns-in-Ok-clause-told : goal.returns-in-Ok-clause-told
+returns-in-Ok-clause-told g c = search rules
+
+pub returns-in-Ok-clause-crash : goal.returns-in-Ok-clause-crash
+returns-in-Ok-clause-crash g c = search rules
+
+pub returns-in-Err-clause-rows : goal.returns-in-Err-clause-rows
+returns-in-Err-clause-rows g c = search rules
+
+pub returns-in-Err-clause-settings : goal.returns-in-Err-clause-settings
+returns-in-Err-clause-settings g c = search rules
+
+pub returns-in-Err-clause-told : goal.returns-in-Err-clause-told
+returns-in-Err-clause-told g c = search rules
+
+pub returns-in-Err-clause-crash : goal.returns-in-Err-clause-crash
+returns-in-Err-clause-crash g c = search rules

@@ -1,4 +1,4 @@
-use Rattle.std.proofs.Common.{◌≡◌, ◌<◌, ◌-◌, ◌+◌, ap, arith, inr, length, refl, subst, sym, ◌∙◌}
+use Rattle.std.proofs.Common.{◌≡◌, ◌<◌, ◌-◌, ◌+◌, ap, arith, inr, length, refl, subst, sym, ◌∙◌, rules}
 use Rattle.tb_submit.proofs.Words.{admission_of, Numbered, taken, IsOk, SenderState, SubmitterState, IsSubmitter, in_flight}
 use Rattle.tb_submit.proofs.SubmitterCounts.{counts_packet}
 use Rattle.tb_submit.proofs.SubmitRefusals.{is_due, is_other, none_is_due, refusal_is_due}
@@ -39,3 +39,21 @@ returns-in-Err-Packet-clause-refusal g c =
     is_other _ _ _ (none_is_due c.self.view_is c.self.invariant.first_refusal c.args.packet c.in_default.is
     c.in_ok-admitted.ensures.admitted (c.limit.ensures ∙ ap (λ (s : SubmitterState). s.origin.seat.limit) c.self.view_is)
     c.in_flight.ensures.value c.if-in_flight-self.false) (inr refl)
+
+pub returns-in-Some-clause-ok : goal.returns-in-Some-clause-ok
+returns-in-Some-clause-ok g c = search rules
+
+pub returns-in_err-admitted-clause-ok : goal.returns-in_err-admitted-clause-ok
+returns-in_err-admitted-clause-ok g c = search rules
+
+pub returns-then-in_flight-self-clause-ok : goal.returns-then-in_flight-self-clause-ok
+returns-then-in_flight-self-clause-ok g c = search rules
+
+pub returns-in_err-job-clause-ok : goal.returns-in_err-job-clause-ok
+returns-in_err-job-clause-ok g c = search rules
+
+pub returns-in-Ok-clause-ok : goal.returns-in-Ok-clause-ok
+returns-in-Ok-clause-ok g c = search rules
+
+pub returns-in-Err-Packet-clause-ok : goal.returns-in-Err-Packet-clause-ok
+returns-in-Err-Packet-clause-ok g c = search rules

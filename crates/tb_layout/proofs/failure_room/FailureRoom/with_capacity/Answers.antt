@@ -1,0 +1,9 @@
+-- Found by the prover itself; on file since the check of an edit then costs less.
+use Rattle.std.proofs.Common.{rules}
+use Rattle.tb_layout.proofs.failure_room.FailureRoom.with_capacity.Goals as goal
+
+pub returns-then-capacity-le2-clause-capacity : goal.returns-then-capacity-le2-clause-capacity
+returns-then-capacity-le2-clause-capacity c = search rules
+
+pub returns-clause-capacity : goal.returns-clause-capacity
+returns-clause-capacity c = search rules
