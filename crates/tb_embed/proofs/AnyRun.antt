@@ -113,20 +113,6 @@ module _ {L : Type 0} (is : L → LedgerState → Type 0) (old new : AnyEngineSt
       subst (λ ns. AreQueued control (queue ++ ticket_of control item ∷ []) ns (is_end item)) (sym took.same.0)
       (control_queued control queue old.numbers old.shut are item own next none on))
 
-  -- the group held committed
-  pub group_by : ((start : LedgerState) (items : List Item) (read : List ReplyValue)
-      → HasTakenBy (is old.ledger) start items (read ++ old.unread) old.front
-      → HasTakenBy (is new.ledger) start items (read ++ new.unread) new.front) → new.front ≡ with_group old.front []
-      → new.numbers ≡ old.numbers → new.shut ≡ old.shut → ContinuesBy is old new
-  group_by takes seals numbers shut = record {
-    adds = λ start queue read serves. record {
-      taken = takes start (items_in queue) read serves.taken;
-      queued = rw (seals, numbers, shut) serves.queued;
-      unstopped = ap (λ (f : FrontState). f.stopped) seals ∙ serves.unstopped;
-    };
-    seals = seals;
-  }
-
 pub any_serving_is_lawful : EachPartIsLawful → RunIsLawful → {L : Type 0} (is : L → LedgerState → Type 0)
     → AnyServingIsLawful is
 any_serving_is_lawful each_part run is start queue read engine serves =

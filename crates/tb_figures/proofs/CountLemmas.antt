@@ -11,14 +11,6 @@ use Rattle.tb_batch.specs.claim.Grouping.{events_together}
 use Rattle.tb_batch.proofs.Admitted.{seen}
 use Rattle.tb_core.specs.claim.EachSubmitter.{is_packet_of, moments_in, packets_of}
 
--- ---- numbers
-
-capped_more : (a n m : ℕ) → capped (capped (a + n) + m) ≡ capped (a + (n + m))
-capped_more a n m = omega arith
-
-capped_is : (n : ℕ) → n ≤ 9223372036854775808 → capped n ≡ n
-capped_is n few = omega (arith, few)
-
 -- ---- one stub
 
 -- what one stub adds

@@ -88,10 +88,6 @@ module _ {X V : Type 0} (key : X → ℕ) (old new : X → V) (more : List (ℕ 
   rows-set xs index {es} {x} at value same is apart =
       rw (is, value) (row-set xs index x at (rw is at apart) same)
 
-pub any-swap : (id : ℕ) (ids : List ℕ) → list_any (nat_eq id) ids ≡ list_any (λ other. other == id) ids
-any-swap id [] = refl
-any-swap id (x ∷ ids) = cc (==_swap id x, any-swap id ids)
-
 -- ---- the index of a key
 
 key-found : {X : Type 0} (id : ℕ) (es : List (ℕ × X)) (k : ℕ) → lookup_key (nat_eq id) es ≡ Some k → k ≡ id

@@ -89,11 +89,6 @@ one-transfer xs i j {x} {y} distinct at at' same =
     cc (at, at', ap (slice_get xs) (eqb-true i j (sym (one-index xs i j x y distinct at at') ∙ same)))
 
 module _ (facts : Facts) (t : Transfer) where
-  pub pairs-push : (moment index : ℕ) → is_pair (add_transfer facts t) moment index
-      ≡ (its_pair facts t moment index || is_pair facts moment index)
-  pairs-push moment index =
-      grind (arith, nat_tests, slice_get-push facts.transfers t index, slice_get_past facts.transfers index)
-
   pub put-pair : (expiries : ExpiriesState) {next : ExpiriesState} {index : ℕ} → next ≡ with_its_pair expiries t index
       → index ≡ length facts.transfers → (m p : ℕ)
       → is_in_expiries next m p ≡ (its_pair facts t m p || is_in_expiries expiries m p)

@@ -44,6 +44,3 @@ returns-then-parts-clause-state c = search rules
 
 pub returns-then-parts-clause-answered : goal.returns-then-parts-clause-answered
 returns-then-parts-clause-answered c = search rules
-
-pub returns-else-parts-clause-answered : goal.returns-else-parts-clause-answered
-returns-else-parts-clause-answered c = search rules

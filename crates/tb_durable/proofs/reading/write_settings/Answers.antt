@@ -23,9 +23,6 @@ returns-in_err-read_first-clause-crash g c = search rules
 pub returns-then-not-branch-clause-rows : goal.returns-then-not-branch-clause-rows
 returns-then-not-branch-clause-rows g c = search rules
 
-pub returns-then-not-branch-clause-opens : goal.returns-then-not-branch-clause-opens
-returns-then-not-branch-clause-opens g c = search rules
-
 pub returns-then-not-branch-clause-crash : goal.returns-then-not-branch-clause-crash
 returns-then-not-branch-clause-crash g c = search rules
 

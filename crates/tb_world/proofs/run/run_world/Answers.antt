@@ -1,4 +1,4 @@
-use Rattle.std.proofs.Common.{ℕ, ◌≤◌, List, [], length, arith, rules}
+use Rattle.std.proofs.Common.{ℕ, ◌≤◌, List, [], length, arith}
 use Rattle.tb_world.proofs.Words.{length-map, items_in, Ticket, new_ledger, Event, new_world, history, HasPlaces}
 use Rattle.tb_layout.specs.claim.Bounds.{places_max}
 use Rattle.tb_world.proofs.orders.Runs.{length-ahead, length-history}
@@ -30,6 +30,3 @@ returns-clause-places c =
 pub returns-clause-ran : goal.returns-clause-ran
 returns-clause-ran c =
     c.in_ok-go_through.ensures.ran (new_ledger c.args.clock) c.args.limit c.args.submitters [] c.in-Ok.ensures.ran
-
-pub returns-clause-memory : goal.returns-clause-memory
-returns-clause-memory c = search rules

@@ -2,8 +2,5 @@
 use Rattle.std.proofs.Common.{rules}
 use Rattle.tb_batch.proofs.batcher.Batcher.replace.Goals as goal
 
-pub returns-after-replace : goal.returns-after-replace
-returns-after-replace c = search rules
-
 pub returns-in-Err : goal.returns-in-Err
 returns-in-Err c = search rules

@@ -37,17 +37,8 @@ returns-clause-ok c = rw (← c.self.view_is) (λ groups is.
 pub returns-then-halts_at-clause-err : goal.returns-then-halts_at-clause-err
 returns-then-halts_at-clause-err c = search rules
 
-pub returns-then-halts_at-clause-memory : goal.returns-then-halts_at-clause-memory
-returns-then-halts_at-clause-memory c = search rules
-
 pub returns-then-is_err-clause-err : goal.returns-then-is_err-clause-err
 returns-then-is_err-clause-err c = search rules
 
-pub returns-then-is_err-clause-memory : goal.returns-then-is_err-clause-memory
-returns-then-is_err-clause-memory c = search rules
-
 pub returns-clause-err : goal.returns-clause-err
 returns-clause-err c = search rules
-
-pub returns-clause-memory : goal.returns-clause-memory
-returns-clause-memory c = search rules

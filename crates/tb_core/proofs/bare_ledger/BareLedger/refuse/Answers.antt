@@ -2,9 +2,6 @@
 use Rattle.std.proofs.Common.{rules}
 use Rattle.tb_core.proofs.bare_ledger.BareLedger.refuse.Goals as goal
 
-pub returns-in-Batch-clause-applied : goal.returns-in-Batch-clause-applied
-returns-in-Batch-clause-applied c = search rules
-
 pub returns-in-Pulse-clause-applied : goal.returns-in-Pulse-clause-applied
 returns-in-Pulse-clause-applied c = search rules
 

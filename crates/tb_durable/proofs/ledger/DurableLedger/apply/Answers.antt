@@ -5,9 +5,6 @@ use Rattle.tb_durable.proofs.ledger.DurableLedger.apply.Goals as goal
 pub returns-in-Batch : goal.returns-in-Batch
 returns-in-Batch g c = search rules
 
-pub returns-in-Pulse : goal.returns-in-Pulse
-returns-in-Pulse g c = search rules
-
 pub returns-in-Return : goal.returns-in-Return
 returns-in-Return g c = search rules
 

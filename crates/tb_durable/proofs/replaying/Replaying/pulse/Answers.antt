@@ -5,11 +5,5 @@ use Rattle.tb_durable.proofs.replaying.Replaying.pulse.Goals as goal
 pub returns-then-stopped-clause-group : goal.returns-then-stopped-clause-group
 returns-then-stopped-clause-group c = search rules
 
-pub returns-then-stopped-clause-opens : goal.returns-then-stopped-clause-opens
-returns-then-stopped-clause-opens c = search rules
-
 pub returns-clause-group : goal.returns-clause-group
 returns-clause-group c = search rules
-
-pub returns-clause-opens : goal.returns-clause-opens
-returns-clause-opens c = search rules

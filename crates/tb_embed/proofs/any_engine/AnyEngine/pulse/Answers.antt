@@ -1,4 +1,4 @@
-use Rattle.std.proofs.Common.{refl, sym, subst, ap, ◌∙◌}
+use Rattle.std.proofs.Common.{refl, sym, subst, ap, ◌∙◌, rules}
 use Rattle.tb_work.specs.declared.item.Item.TheVariants as item
 use Rattle.tb_embed.proofs.Words.{AnyEngineState, QueuesBy, ticket_of}
 use Rattle.tb_embed.proofs.AnyRun.{TookBy, control_by}
@@ -16,3 +16,15 @@ returns-clause-ok g c =
     (control_by may_be old new x
     (subst (λ moment. TookBy may_be old new (ticket_of old.front.submitters (item.Pulse moment))) c.new.ensures
     (record { takes = done.taken; steps = done.steps; sound = done.front; same = done.same })) refl tt refl open_yet)
+
+pub returns-then-self-clause-admitted : goal.returns-then-self-clause-admitted
+returns-then-self-clause-admitted g c = search rules
+
+pub returns-then-stopped-clause-admitted : goal.returns-then-stopped-clause-admitted
+returns-then-stopped-clause-admitted g c = search rules
+
+pub returns-in_err-take_control-clause-admitted : goal.returns-in_err-take_control-clause-admitted
+returns-in_err-take_control-clause-admitted g c = search rules
+
+pub returns-clause-admitted : goal.returns-clause-admitted
+returns-clause-admitted g c = search rules

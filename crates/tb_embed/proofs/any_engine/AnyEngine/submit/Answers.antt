@@ -1,4 +1,4 @@
-use Rattle.std.proofs.Common.{sym, subst, ap, arith, ◌+◌, ◌≤◌, get_or, length}
+use Rattle.std.proofs.Common.{sym, subst, ap, arith, ◌+◌, ◌≤◌, get_or, length, rules}
 use Rattle.tb_embed.proofs.Words.{slice_set, Numbered, AnyEngineState, QueuesBy, packet_ticket, ticket_of}
 use Rattle.tb_work.specs.declared.item.Item.TheVariants as item
 use Rattle.tb_embed.proofs.AnyRun.{TookBy, packet_by}
@@ -22,3 +22,27 @@ returns-in-Ok-clause-ok g c =
     (record { takes = done.taken; steps = done.steps; sound = done.front; same = done.same })) c.in_default.ensures.among
     (subst (λ (s : AnyEngineState _). s.front.submitters ≤ length s.numbers) c.self.view_is
     (omega (arith, known.counted, known.among, known.each))))
+
+pub returns-in-Some-clause-back : goal.returns-in-Some-clause-back
+returns-in-Some-clause-back g c = search rules
+
+pub returns-in-Some-clause-refusal : goal.returns-in-Some-clause-refusal
+returns-in-Some-clause-refusal g c = search rules
+
+pub returns-in_err-job-clause-back : goal.returns-in_err-job-clause-back
+returns-in_err-job-clause-back g c = search rules
+
+pub returns-in_err-job-clause-refusal : goal.returns-in_err-job-clause-refusal
+returns-in_err-job-clause-refusal g c = search rules
+
+pub returns-in-Ok-clause-back : goal.returns-in-Ok-clause-back
+returns-in-Ok-clause-back g c = search rules
+
+pub returns-in-Ok-clause-refusal : goal.returns-in-Ok-clause-refusal
+returns-in-Ok-clause-refusal g c = search rules
+
+pub returns-in-Err-clause-back : goal.returns-in-Err-clause-back
+returns-in-Err-clause-back g c = search rules
+
+pub returns-in-Err-clause-refusal : goal.returns-in-Err-clause-refusal
+returns-in-Err-clause-refusal g c = search rules

@@ -1,3 +1,5 @@
+use Rattle.std.proofs.Common.{arith}
+use Rattle.std.proofs.lemmas.Grind.{common_steps}
 use Rattle.tb_figures.proofs.CountLemmas.{split_more}
 use Rattle.tb_figures.proofs.counts.Counts.add_batch.Goals as goal
 
@@ -12,3 +14,6 @@ loop-stub-preserved c = (
       }),
   c.add_stub.ensures.long,
 )
+
+pub returns : goal.returns
+returns c = grind (arith, common_steps)

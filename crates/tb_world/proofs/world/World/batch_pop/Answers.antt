@@ -28,18 +28,3 @@ returns-in-Ok-clause-ok c = search rules
 
 pub returns-in-Err-clause-err : goal.returns-in-Err-clause-err
 returns-in-Err-clause-err c = search rules
-
-pub returns-then-is_some-clause-memory : goal.returns-then-is_some-clause-memory
-returns-then-is_some-clause-memory c = search rules
-
-pub returns-in_default-clause-memory : goal.returns-in_default-clause-memory
-returns-in_default-clause-memory c = search rules
-
-pub returns-then-refused-clause-memory : goal.returns-then-refused-clause-memory
-returns-then-refused-clause-memory c = search rules
-
-pub returns-in-Ok-clause-memory : goal.returns-in-Ok-clause-memory
-returns-in-Ok-clause-memory c = search rules
-
-pub returns-in-Err-clause-memory : goal.returns-in-Err-clause-memory
-returns-in-Err-clause-memory c = search rules

@@ -19,9 +19,3 @@ returns-clause-ok c = has_finished c.args.self.now c.loop-event.self c.loop-even
 pub returns-clause-rested : goal.returns-clause-rested
 returns-clause-rested c = λ start limit submitters events ran.
     has_rested start limit submitters events c.args.self.now c.loop-event.self ran (returns-clause-ok c)
-
-pub returns-in_err-go_on-clause-memory : goal.returns-in_err-go_on-clause-memory
-returns-in_err-go_on-clause-memory c = search rules
-
-pub returns-clause-memory : goal.returns-clause-memory
-returns-clause-memory c = search rules

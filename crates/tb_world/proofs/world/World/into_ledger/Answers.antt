@@ -8,9 +8,6 @@ returns-then-not-is_at_rest-clause-ledger c = search rules
 pub returns-then-not-is_at_rest-clause-rest : goal.returns-then-not-is_at_rest-clause-rest
 returns-then-not-is_at_rest-clause-rest c = search rules
 
-pub returns-then-not-is_at_rest-clause-left : goal.returns-then-not-is_at_rest-clause-left
-returns-then-not-is_at_rest-clause-left c = search rules
-
 pub returns-clause-ledger : goal.returns-clause-ledger
 returns-clause-ledger c = search rules
 

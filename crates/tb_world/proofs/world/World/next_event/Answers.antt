@@ -20,8 +20,5 @@ returns-then-not-is_empty-3-clause-some c = search rules
 pub returns-then-has_parcel-clause-some : goal.returns-then-has_parcel-clause-some
 returns-then-has_parcel-clause-some c = search rules
 
-pub returns-then-not-is_empty-4-clause-some : goal.returns-then-not-is_empty-4-clause-some
-returns-then-not-is_empty-4-clause-some c = search rules
-
 pub returns-clause-some : goal.returns-clause-some
 returns-clause-some c = search rules

@@ -23,14 +23,8 @@ returns-clause-ran c =
 pub invariant_of-result : goal.invariant_of-result
 invariant_of-result c = grind (arith, common_steps)
 
-pub returns-in-Err-clause-refusal : goal.returns-in-Err-clause-refusal
-returns-in-Err-clause-refusal c = search rules
-
 pub returns-in-Err-clause-back : goal.returns-in-Err-clause-back
 returns-in-Err-clause-back c = search rules
-
-pub returns-clause-refusal : goal.returns-clause-refusal
-returns-clause-refusal c = search rules
 
 pub returns-clause-back : goal.returns-clause-back
 returns-clause-back c = search rules

@@ -40,18 +40,3 @@ try_take-requires-clause-empty c = grind (arith, common_steps)
 
 pub returns-in-Err-clause-err : goal.returns-in-Err-clause-err
 returns-in-Err-clause-err c = grind (arith, common_steps)
-
-pub returns-then-not-is_empty-clause-memory : goal.returns-then-not-is_empty-clause-memory
-returns-then-not-is_empty-clause-memory c = search rules
-
-pub returns-in_default-clause-memory : goal.returns-in_default-clause-memory
-returns-in_default-clause-memory c = search rules
-
-pub returns-then-refused-clause-memory : goal.returns-then-refused-clause-memory
-returns-then-refused-clause-memory c = search rules
-
-pub returns-in-Ok-clause-memory : goal.returns-in-Ok-clause-memory
-returns-in-Ok-clause-memory c = search rules
-
-pub returns-in-Err-clause-memory : goal.returns-in-Err-clause-memory
-returns-in-Err-clause-memory c = search rules

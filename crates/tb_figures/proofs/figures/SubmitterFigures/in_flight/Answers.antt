@@ -1,6 +1,6 @@
 -- Found by the prover itself; on file since the check of an edit then costs less.
 use Rattle.std.proofs.Common.{rules}
-use Rattle.tb_core.proofs.bare_ledger.BareLedger.reserve.Goals as goal
+use Rattle.tb_figures.proofs.figures.SubmitterFigures.in_flight.Goals as goal
 
 pub returns : goal.returns
 returns c = search rules
