@@ -231,15 +231,6 @@ stored_is facts timestamp event pending named resolves =
     ap (λ found. record (resolved_transfer_of found event) { timestamp = timestamp }) named
     ∙ ap (λ b. record (if b then resolved_transfer pending event else event) { timestamp = timestamp }) resolves
 
--- under its own id
-pub stored_id : (facts : Facts) (timestamp : ℕ) (event : Transfer) → (stored_transfer facts timestamp event).id ≡ event.id
-stored_id facts timestamp event = by (transfer_with facts event.pending_id) (is_resolving event) refl
-  where
-    by : (found : Option Transfer) (b : Bool) → is_resolving event ≡ b → (resolved_transfer_of found event).id ≡ event.id
-    by None b is = refl
-    by (Some pending) true is = ap (λ b. (if b then resolved_transfer pending event else event).id) is
-    by (Some pending) false is = ap (λ b. (if b then resolved_transfer pending event else event).id) is
-
 pub may_resolve : (facts : Facts) (timestamp : ℕ) (event : Transfer)
     → number_of (new_id_verdict facts timestamp event) ≡ 0 → is_resolving event ≡ true
     → MayResolve facts (stored_transfer facts timestamp event)

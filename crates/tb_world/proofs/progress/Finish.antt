@@ -113,9 +113,6 @@ pub record SoFar (old new : WorldState) : Type 0 where
   pub unrefused : list_any is_refused steps ≡ false
   pub few : length steps + left new ≤ left old
 
-pub none_so_far : (world : WorldState) → SoFar world world
-none_so_far world = record { steps = []; leads = refl; no_push = refl; unrefused = refl; few = omega arith }
-
 pub moving_falls : (world : WorldState) (event : Event) → MayMove world event → left (after_event world event) < left world
 moving_falls world event may = by (moved world event) (steps world event may.no_push) may.moves
   where
@@ -144,18 +141,6 @@ has_finished old new far none = record {
   unrefused = far.unrefused;
   few = omega (arith, far.few);
   rest = rests new none;
-}
-
-pub runs_out : (old world : WorldState) (event : Event) → SoFar old world → MayMove world event
-    → takes_memory world event ≡ true → RunsOut old world
-runs_out old world event far may takes = record {
-  steps = far.steps;
-  event = event;
-  leads = far.leads;
-  no_push = far.no_push;
-  unrefused = far.unrefused;
-  next = may;
-  takes = takes;
 }
 
 -- ---- rounds
