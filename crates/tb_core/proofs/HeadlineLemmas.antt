@@ -30,11 +30,6 @@ at-end (b ∷ before) x others = at-end before x others
 
 -- ---- one reply for each packet of a submitter, in order
 
-replies-with : (own : Bool) (submitter : ℕ) (reply : ReplyValue) (replies : List ReplyValue)
-    → (reply.packet.submitter == submitter) ≡ own → replies_to (reply ∷ replies) submitter
-    ≡ (if own then reply ∷ replies_to replies submitter else replies_to replies submitter)
-replies-with own submitter reply replies is = rw is refl
-
 pub one-each : (clock submitter : ℕ) (inputs : List Input) (place : Place) (items : List Item) →
     map (λ (reply : ReplyValue). reply.packet) (replies_to (all_due_from clock inputs place items) submitter)
     ≡ jobs_of submitter items
