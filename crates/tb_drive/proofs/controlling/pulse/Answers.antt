@@ -25,6 +25,3 @@ returns-in-Err g c =
 
 pub returns-in-Ok-clause-queued : goal.returns-in-Ok-clause-queued
 returns-in-Ok-clause-queued g c = search rules
-
-pub returns-then-is_given_up-clause-queued : goal.returns-then-is_given_up-clause-queued
-returns-then-is_given_up-clause-queued g c = search rules

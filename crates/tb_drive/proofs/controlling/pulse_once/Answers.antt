@@ -5,8 +5,5 @@ use Rattle.tb_drive.proofs.controlling.pulse_once.Goals as goal
 pub returns-then-queued-ge-QUEUED_MAX-clause-large : goal.returns-then-queued-ge-QUEUED_MAX-clause-large
 returns-then-queued-ge-QUEUED_MAX-clause-large c = search rules
 
-pub returns-clause-refused : goal.returns-clause-refused
-returns-clause-refused g c = search rules
-
 pub returns-clause-large : goal.returns-clause-large
 returns-clause-large g c = search rules

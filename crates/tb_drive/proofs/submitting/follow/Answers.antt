@@ -1,4 +1,4 @@
-use Rattle.std.proofs.Common.{◌∙◌, rules}
+use Rattle.std.proofs.Common.{◌∙◌}
 use Rattle.tb_drive.proofs.Words.{IfOk-from_err}
 use Rattle.tb_drive.proofs.Seen.{front_of_more}
 use Rattle.tb_drive.proofs.submitting.follow.Goals as goal
@@ -42,6 +42,3 @@ returns-in_err-submit-in-Submit g c = record {
   seen = λ had. IfOk-from_err c.from_residual.result _ c.from_residual.ensures.0;
   share = c.submit.ensures.share ∙ c.next-in-loop.ensures.share ∙ c.loop.invariant.share;
 }
-
-pub returns-then-is_given_up-clause-seen : goal.returns-then-is_given_up-clause-seen
-returns-then-is_given_up-clause-seen g c = search rules

@@ -8,9 +8,6 @@ returns-then-event-ne0-clause-rest c = search rules
 pub returns-then-event-ne0-2-clause-rest : goal.returns-then-event-ne0-2-clause-rest
 returns-then-event-ne0-2-clause-rest c = search rules
 
-pub returns-then-has_reserved_flag-clause-rest : goal.returns-then-has_reserved_flag-clause-rest
-returns-then-has_reserved_flag-clause-rest c = search rules
-
 pub returns-then-event-eq0-clause-rest : goal.returns-then-event-eq0-clause-rest
 returns-then-event-eq0-clause-rest c = search rules
 

@@ -7,9 +7,3 @@ returns-in-Some-clause-failed c = search rules
 
 pub returns-in_err-insert_failed-clause-failed : goal.returns-in_err-insert_failed-clause-failed
 returns-in_err-insert_failed-clause-failed c = search rules
-
-pub returns-then-branch-clause-failed : goal.returns-then-branch-clause-failed
-returns-then-branch-clause-failed c = search rules
-
-pub returns-else-branch-clause-failed : goal.returns-else-branch-clause-failed
-returns-else-branch-clause-failed c = search rules

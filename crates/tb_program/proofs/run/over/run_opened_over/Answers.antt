@@ -1,6 +1,6 @@
 use denote.Param.Send.{sendable}
 use Rattle.tb_program.proofs.Sending.{driver_send}
-use Rattle.std.proofs.Common.{◌≡◌, ◌∙◌, ◌++◌, List, [], length, map, string_bytes, ap, sym, subst}
+use Rattle.std.proofs.Common.{◌≡◌, ◌∙◌, ◌++◌, List, [], length, map, string_bytes, ap, sym, subst, rules}
 use Rattle.tb_program.proofs.Words.{length-map, ℕ, Vec, Global, IsGrouping, LedgerState, groups_since, inputs_since, moments_in, moments_queued, IsPrefix, Input, planned_items, jobs_in, ReplyValue, Item, HasSeenOf, share_of, results_of, AreHandedIn}
 use Rattle.tb_program.specs.clauses.RunText.{packets_text}
 use Rattle.tb_program.proofs.Answered.{all_answered, all_handed_in, committed_is}
@@ -58,3 +58,12 @@ returns-in-Ok-lines_of-clause-ran g c = λ start is.
             c.in-Ok-lines_of.ensures.text;
       },
     )
+
+pub returns-in-Ok-lines_of-clause-refused : goal.returns-in-Ok-lines_of-clause-refused
+returns-in-Ok-lines_of-clause-refused g c = search rules
+
+pub returns-in-Ok-clause-refused : goal.returns-in-Ok-clause-refused
+returns-in-Ok-clause-refused g c = search rules
+
+pub returns-clause-refused : goal.returns-clause-refused
+returns-clause-refused g c = search rules

@@ -12,3 +12,18 @@ invariant_of-self-2 c =
       rw (c.in_ok-push-3.ensures.items, same)
           (one_further c.self.inside.closed c.self.inside.queue.items (Pulse c.new.result) (λ k. refl) c.self.invariant.1),
     )
+
+pub returns-in_err-push : goal.returns-in_err-push
+returns-in_err-push c = search rules
+
+pub returns-then-moment-gt-MOMENT_MAX : goal.returns-then-moment-gt-MOMENT_MAX
+returns-then-moment-gt-MOMENT_MAX c = search rules
+
+pub returns-in_err-push-2 : goal.returns-in_err-push-2
+returns-in_err-push-2 c = search rules
+
+pub returns-in_err-push-3 : goal.returns-in_err-push-3
+returns-in_err-push-3 c = search rules
+
+pub returns : goal.returns
+returns c = search rules
