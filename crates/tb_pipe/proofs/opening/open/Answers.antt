@@ -1,4 +1,4 @@
-use Rattle.std.proofs.Common.{◌∙◌, ap, arith, refl, sym}
+use Rattle.std.proofs.Common.{◌∙◌, ap, arith, refl, sym, rules}
 use Rattle.tb_pipe.proofs.Words.{LedgerState, taken, IntakeState, seat_at}
 use Rattle.tb_pipe.proofs.Fresh.{fresh_batched, fresh_committed, fresh_replies}
 use Rattle.tb_pipe.proofs.Origins.{length-origins, seat-origins}
@@ -33,3 +33,21 @@ invariant_of-result c =
       rings = c.in-Some.ensures.pairs;
       number = c.in_ok-ends.ensures.outlets.0 ∙ sym (ap (λ (i : IntakeState). i.submitters) intake_is);
     }
+
+pub returns-in_err-ends-clause-start : goal.returns-in_err-ends-clause-start
+returns-in_err-ends-clause-start c = search rules
+
+pub returns-in_err-ends-clause-refusal : goal.returns-in_err-ends-clause-refusal
+returns-in_err-ends-clause-refusal c = search rules
+
+pub returns-in_default-clause-start : goal.returns-in_default-clause-start
+returns-in_default-clause-start c = search rules
+
+pub returns-in_default-clause-refusal : goal.returns-in_default-clause-refusal
+returns-in_default-clause-refusal c = search rules
+
+pub returns-clause-start : goal.returns-clause-start
+returns-clause-start c = search rules
+
+pub returns-clause-refusal : goal.returns-clause-refusal
+returns-clause-refusal c = search rules

@@ -2,8 +2,5 @@
 use Rattle.std.proofs.Common.{rules}
 use Rattle.tb_layout.proofs.failure_room.FailureRoom.with_capacity.Goals as goal
 
-pub returns-then-capacity-le2-clause-capacity : goal.returns-then-capacity-le2-clause-capacity
-returns-then-capacity-le2-clause-capacity c = search rules
-
 pub returns-clause-capacity : goal.returns-clause-capacity
 returns-clause-capacity c = search rules

@@ -7,3 +7,9 @@ returns-then-counts-clause-given g c = search rules
 
 pub returns-else-counts-clause-given : goal.returns-else-counts-clause-given
 returns-else-counts-clause-given g c = search rules
+
+pub returns-then-counts-clause-counted : goal.returns-then-counts-clause-counted
+returns-then-counts-clause-counted g c = search rules
+
+pub returns-else-counts-clause-counted : goal.returns-else-counts-clause-counted
+returns-else-counts-clause-counted g c = search rules

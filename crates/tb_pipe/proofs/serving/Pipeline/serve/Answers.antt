@@ -1,4 +1,4 @@
-use Rattle.std.proofs.Common.{◌∙◌, ap}
+use Rattle.std.proofs.Common.{◌∙◌, ap, rules}
 use Rattle.tb_pipe.proofs.Words.{PipelineState}
 use Rattle.tb_pipe.proofs.Origins.{served_is}
 use Rattle.tb_pipe.proofs.serving.Pipeline.serve.Goals as goal
@@ -9,3 +9,12 @@ returns-in-Ok-clause-submitters g c =
 
 pub invariant_of-result : goal.invariant_of-result
 invariant_of-result g c = (served_is c.self.invariant c.in-Ok.ensures.1.0).served
+
+pub returns-then-not-begin-clause-refused : goal.returns-then-not-begin-clause-refused
+returns-then-not-begin-clause-refused g c = search rules
+
+pub returns-in-Ok-clause-refused : goal.returns-in-Ok-clause-refused
+returns-in-Ok-clause-refused g c = search rules
+
+pub returns-in-Err-clause-refused : goal.returns-in-Err-clause-refused
+returns-in-Err-clause-refused g c = search rules

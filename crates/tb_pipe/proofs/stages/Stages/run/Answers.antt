@@ -23,3 +23,9 @@ returns-clause-served g c =
       committed = λ start began. committed.2 start (c.requires.committed start began);
       routed = routed.2;
     }
+
+pub returns-in_default-clause-refused : goal.returns-in_default-clause-refused
+returns-in_default-clause-refused g c = search rules
+
+pub returns-clause-refused : goal.returns-clause-refused
+returns-clause-refused g c = search rules

@@ -1,4 +1,5 @@
 use Rattle.std.proofs.Common.{◌≡◌, ◌<◌, ap, sym, ◌∙◌, arith, rules, length, length-append}
+use Rattle.std.proofs.lemmas.Grind.{common_steps}
 use Rattle.tb_program_text.proofs.Words.{line_max, after_first_line, first_line}
 use Rattle.tb_program_text.proofs.FirstLines.{whole_text}
 use Rattle.tb_program_text.proofs.UsualLines.{too_long}
@@ -12,3 +13,15 @@ returns-then-text-rest-gt-LINE_MAX-clause-script c =
     let whole = sym (length-append line rest) ∙ ap length (whole_text c.args.text.now) in
     let long : line_max < length line = omega (arith, ap length found, whole) in
     too_long c.args.self.now line long
+
+pub returns-in_err-rest-clause-script : goal.returns-in_err-rest-clause-script
+returns-in_err-rest-clause-script c = search rules
+
+pub returns-in-Some-clause-script : goal.returns-in-Some-clause-script
+returns-in-Some-clause-script c = grind (arith, common_steps)
+
+pub returns-in_err-line-clause-script : goal.returns-in_err-line-clause-script
+returns-in_err-line-clause-script c = search rules
+
+pub returns-clause-script : goal.returns-clause-script
+returns-clause-script c = search rules

@@ -15,6 +15,3 @@ invariant_of-self g c =
 
 pub returns-clause-ok : goal.returns-clause-ok
 returns-clause-ok g c = search rules
-
-pub returns-clause-full : goal.returns-clause-full
-returns-clause-full g c = search rules
