@@ -1,5 +1,5 @@
 -- Found by the prover itself; on file since the check of an edit then costs less.
-use Rattle.std.proofs.Common.{rules, arith}
+use Rattle.std.proofs.Common.{arith}
 use Rattle.std.proofs.lemmas.Grind.{common_steps}
 use Rattle.tb_tables.proofs.expiries.Expiries.take_back.Goals as goal
 
