@@ -71,39 +71,65 @@ fn next_of(rt: &impl Abort, cutter: &mut Cutter, submitter: u32) -> Reply {
     reply
 }
 
-#[test]
-fn two_submitters_joined(rt: HostRuntime) {
+/// Returns the replies to two packets, of which the second has two failures.
+fn failing(rt: &(impl Abort + Alloc<A = Global>)) -> Cutter {
     let mut failures = Vec::new(rt.alloc());
     let first = Failure { index: 2, code: 21 };
-    failures.push(first).expect(&rt, "memory");
+    failures.push(first).expect(rt, "memory");
     let second = Failure { index: 3, code: 13 };
-    failures.push(second).expect(&rt, "memory");
+    failures.push(second).expect(rt, "memory");
     let answer = Answer::Failures(Failures::from_vec(failures));
-    let mut cutter = Cutter::new(two_jobs(&rt), Outcome::Committed { place: 0, answer });
-    let first = next_of(&rt, &mut cutter, 0);
-    check!(&rt; failures_at(&first.outcome, 0) == Some([].as_slice()));
-    drop(first);
-    let second = next_of(&rt, &mut cutter, 1);
-    let own = [
-        Failure { index: 0, code: 21 },
-        Failure { index: 1, code: 13 },
-    ];
-    check!(&rt; failures_at(&second.outcome, 1) == Some(own.as_slice()));
-    drop(second);
-    check!(&rt; cutter.next().is_none());
-    check!(&rt; cutter.next().is_none());
+    Cutter::new(two_jobs(rt), Outcome::Committed { place: 0, answer })
+}
+
+/// Asserts that the next reply is to a submitter's packet, which was committed at a place with these failures.
+fn assert_failures(
+    rt: &impl Abort,
+    cutter: &mut Cutter,
+    submitter: u32,
+    place: u64,
+    own: &[Failure],
+) {
+    let reply = next_of(rt, cutter, submitter);
+    check!(rt; failures_at(&reply.outcome, place) == Some(own));
+    drop(reply);
+}
+
+/// The failures of the second packet, counted from its own first event.
+const OWN: [Failure; 2] = [
+    Failure { index: 0, code: 21 },
+    Failure { index: 1, code: 13 },
+];
+
+/// Asserts that no reply is left.
+fn assert_no_more(rt: &impl Abort, cutter: &mut Cutter) {
+    check!(rt; cutter.next().is_none());
+}
+
+#[test]
+fn two_submitters_joined(rt: HostRuntime) {
+    let mut cutter = failing(&rt);
+    assert_failures(&rt, &mut cutter, 0, 0, &[]);
+    assert_failures(&rt, &mut cutter, 1, 1, &OWN);
+    assert_no_more(&rt, &mut cutter);
+    assert_no_more(&rt, &mut cutter);
     drop(cutter);
+}
+
+/// Asserts that the next reply is to a submitter's packet, which was stopped.
+fn assert_stopped(rt: &impl Abort, cutter: &mut Cutter, submitter: u32) {
+    let reply = next_of(rt, cutter, submitter);
+    check!(rt; matches!(&reply.outcome, Outcome::Stopped));
+    drop(reply);
 }
 
 #[test]
 fn packets_that_were_stopped(rt: HostRuntime) {
     let mut cutter = Cutter::new(two_jobs(&rt), Outcome::Stopped);
     for submitter in 0..2 {
-        let reply = next_of(&rt, &mut cutter, submitter);
-        check!(&rt; matches!(&reply.outcome, Outcome::Stopped));
-        drop(reply);
+        assert_stopped(&rt, &mut cutter, submitter);
     }
-    check!(&rt; cutter.next().is_none());
+    assert_no_more(&rt, &mut cutter);
     drop(cutter);
 }
 
@@ -116,18 +142,28 @@ fn packets_behind_the_close(rt: HostRuntime) {
     drop(cutter);
 }
 
+/// Returns the reply to a lookup that finds an account.
+fn finding(rt: &(impl Abort + Alloc<A = Global>)) -> Cutter {
+    let mut jobs = Vec::new(rt.alloc());
+    jobs.push(job_of(rt, 1, LOOKUP_ACCOUNTS, 1, 16))
+        .expect(rt, "memory");
+    let mut found = Vec::new(rt.alloc());
+    found.push(read_account(&[1; 128])).expect(rt, "memory");
+    let answer = Answer::Accounts(Accounts::from_vec(found));
+    Cutter::new(jobs, Outcome::Committed { place: 5, answer })
+}
+
+/// Asserts that the next reply is that of the lookup.
+fn assert_found(rt: &impl Abort, cutter: &mut Cutter) {
+    let reply = next_of(rt, cutter, 1);
+    check!(rt; found_at(&reply.outcome, 5) == Some(1));
+    drop(reply);
+}
+
 #[test]
 fn a_lookup_whole(rt: HostRuntime) {
-    let mut jobs = Vec::new(rt.alloc());
-    jobs.push(job_of(&rt, 1, LOOKUP_ACCOUNTS, 1, 16))
-        .expect(&rt, "memory");
-    let mut found = Vec::new(rt.alloc());
-    found.push(read_account(&[1; 128])).expect(&rt, "memory");
-    let answer = Answer::Accounts(Accounts::from_vec(found));
-    let mut cutter = Cutter::new(jobs, Outcome::Committed { place: 5, answer });
-    let reply = next_of(&rt, &mut cutter, 1);
-    check!(&rt; found_at(&reply.outcome, 5) == Some(1));
-    drop(reply);
-    check!(&rt; cutter.next().is_none());
+    let mut cutter = finding(&rt);
+    assert_found(&rt, &mut cutter);
+    assert_no_more(&rt, &mut cutter);
     drop(cutter);
 }

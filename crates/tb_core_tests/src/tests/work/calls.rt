@@ -19,18 +19,23 @@ fn is_open(rt: &(impl Abort + Alloc<A = Global>), packet: Packet) -> bool {
     job_of(rt, 6, packet).is_open()
 }
 
-#[test]
-fn a_job_and_its_packet(rt: HostRuntime) {
-    let job = job_of(&rt, 5, packet_of_accounts(&rt, &[(1, 0), (2, 1)]));
+/// Asserts what the job of two accounts says, the second of which is linked, and returns its packet.
+fn packet_in(rt: &(impl Abort + Alloc<A = Global>)) -> Packet {
+    let job = job_of(rt, 5, packet_of_accounts(rt, &[(1, 0), (2, 1)]));
     let stub = Stub {
         submitter: 3,
         number: 5,
         count: 2,
     };
-    check!(&rt; job.stub() == stub);
-    check!(&rt; job.is_open());
-    check!(&rt; job.packet().user == 7);
-    let packet = job.into_packet();
+    check!(rt; job.stub() == stub);
+    check!(rt; job.is_open());
+    check!(rt; job.packet().user == 7);
+    job.into_packet()
+}
+
+#[test]
+fn a_job_and_its_packet(rt: HostRuntime) {
+    let packet = packet_in(&rt);
     check!(&rt; packet.bytes.as_slice().len() == 256);
     check!(&rt; packet.bytes.into_vec().len() == 256);
     check!(&rt; !is_open(&rt, packet_of_accounts(&rt, &[(1, 1), (2, 0)])));
@@ -57,15 +62,24 @@ fn found(outcome: &Outcome) -> Option<&[Account]> {
     }
 }
 
+/// Returns the reply to a packet of two accounts that was committed behind two others; its second account failed.
+fn committed(rt: &(impl Abort + Alloc<A = Global>)) -> Reply {
+    let job = job_of(rt, 5, packet_of_accounts(rt, &[(1, 0), (2, 0)]));
+    check!(rt; job.packet().operation == 129);
+    check!(rt; job.stub().count == 2);
+    Reply::committed(job, 9, &[Failure { index: 3, code: 13 }], 2)
+}
+
+fn assert_committed(rt: &impl Abort, reply: &Reply) {
+    check!(rt; reply.submitter == 3 && reply.number == 5 && reply.packet.user == 7);
+    let own = [Failure { index: 1, code: 13 }];
+    check!(rt; failures_at(&reply.outcome, 9) == Some(own.as_slice()));
+}
+
 #[test]
 fn a_committed_reply(rt: HostRuntime) {
-    let job = job_of(&rt, 5, packet_of_accounts(&rt, &[(1, 0), (2, 0)]));
-    check!(&rt; job.packet().operation == 129);
-    check!(&rt; job.stub().count == 2);
-    let reply = Reply::committed(job, 9, &[Failure { index: 3, code: 13 }], 2);
-    check!(&rt; reply.submitter == 3 && reply.number == 5 && reply.packet.user == 7);
-    let own = [Failure { index: 1, code: 13 }];
-    check!(&rt; failures_at(&reply.outcome, 9) == Some(own.as_slice()));
+    let reply = committed(&rt);
+    assert_committed(&rt, &reply);
     drop(reply);
 }
 
@@ -94,15 +108,23 @@ fn a_lookups_reply(rt: HostRuntime) {
     drop(reply);
 }
 
+fn assert_ticket(rt: &(impl Abort + Alloc<A = Global>)) {
+    let item = Item::Packet(job_of(rt, 5, packet_of(rt, 129, 0)));
+    let ticket = Ticket { sender: 3, item };
+    check!(rt; matches!(&ticket.item, Item::Packet(_)));
+    drop(ticket);
+}
+
+fn assert_pulse(rt: &impl Abort) {
+    let pulse = Item::Pulse(Moment::new(4_611_686_018_427_387_904));
+    check!(rt; matches!(&pulse, Item::Pulse(moment) if moment.get() == 4_611_686_018_427_387_904));
+    drop(pulse);
+}
+
 #[test]
 fn tickets(rt: HostRuntime) {
-    let item = Item::Packet(job_of(&rt, 5, packet_of(&rt, 129, 0)));
-    let ticket = Ticket { sender: 3, item };
-    check!(&rt; matches!(&ticket.item, Item::Packet(_)));
-    drop(ticket);
-    let pulse = Item::Pulse(Moment::new(4_611_686_018_427_387_904));
-    check!(&rt; matches!(&pulse, Item::Pulse(moment) if moment.get() == 4_611_686_018_427_387_904));
-    drop(pulse);
+    assert_ticket(&rt);
+    assert_pulse(&rt);
     let none = Failures::from_vec(Vec::new(rt.alloc()));
     check!(&rt; none.as_slice().is_empty());
     check!(&rt; Bytes::from_vec(Vec::new(rt.alloc())).as_slice().is_empty());
