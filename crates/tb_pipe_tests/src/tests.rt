@@ -15,6 +15,7 @@ use tb_submit::Ended;
 use tb_test_makers::zeros;
 use tb_work::{Outcome, Packet, Refusal, Reply};
 
+mod numbers;
 mod pipe;
 mod reading;
 mod replies;

@@ -20,6 +20,7 @@ use tb_submit::{Control, ControlEnd, Ended, Intake, Submitter};
 use tb_test_makers::{OutcomeKind, account, accounts_packet, check, kind_of};
 use tb_work::{Outcome, Packet, Refusal, Reply};
 
+mod ahead;
 mod blocked;
 mod clients;
 mod controls;
@@ -27,7 +28,9 @@ mod days;
 mod driven;
 mod figures;
 mod gates;
+mod idle;
 mod joined;
+mod many;
 mod memory;
 mod narrow;
 mod openings;

@@ -1,0 +1,86 @@
+//! More batches than 16 bits count, each of which the gate sees once and in order.
+
+use super::driven::{end, end_control, wait_for_reply};
+use super::gates::Counted;
+use super::{Lone, open_lone, queue};
+use std::alloc::Global;
+use std::process::Abort;
+use std::sync::Wait;
+use std::thread;
+use std::thread::Threads;
+use std::time::Clock;
+use tb_layout::{CREATE_ACCOUNTS, CREATE_TRANSFERS};
+use tb_submit::{Control, Submitter};
+use tb_test_makers::{OutcomeKind, check};
+
+/// How many packets there are. No two neighbours are of one operation, so each is a batch.
+const PACKETS: u64 = 70_000;
+
+/// How many of them are in flight at most.
+const CREDIT: u64 = 64;
+
+/// Waits for the reply to the packet of a number, which is its place.
+fn assert_reply(rt: &impl Abort, submitter: &mut Submitter, number: u64) {
+    check!(rt; wait_for_reply(submitter) == Some(OutcomeKind::Committed(number)));
+}
+
+/// Queues the packet of a number, which has no events, once there is credit for it.
+fn send_one<R: Wait + Clock + Abort>(
+    rt: &R,
+    alloc: Global,
+    submitter: &mut Submitter,
+    number: u64,
+) {
+    if number >= CREDIT {
+        assert_reply(rt, submitter, number - CREDIT);
+    }
+    let operation = if number % 2 == 0 {
+        CREATE_ACCOUNTS
+    } else {
+        CREATE_TRANSFERS
+    };
+    queue(rt, alloc, submitter, operation, 0);
+}
+
+/// Queues all packets, waits for the reply to each, and ends.
+fn send_all<R: Wait + Clock + Abort>(
+    rt: &R,
+    alloc: Global,
+    submitter: Submitter,
+    control: Control,
+) {
+    let mut submitter = submitter;
+    for number in 0..PACKETS {
+        send_one(rt, alloc, &mut submitter, number);
+    }
+    for number in PACKETS - CREDIT..PACKETS {
+        assert_reply(rt, &mut submitter, number);
+    }
+    drop(end(rt, submitter));
+    drop(end_control(rt, control, false));
+}
+
+/// Serves all packets. Returns how many batches were sealed and let through, each once and in order.
+fn serve_all<R: Threads + Wait + Clock + Sync + Abort>(rt: &R, alloc: Global) -> (u64, u64) {
+    let Lone {
+        pipeline,
+        submitter,
+        control,
+    } = open_lone(rt, alloc, 4, 128, CREDIT as u32);
+    let gate = Counted::new(u64::MAX);
+    let counted = &gate;
+    thread::scope(thread::scope_env(), rt, |scope| {
+        let sender = scope
+            .spawn(move || send_all(rt, alloc, submitter, control))
+            .ok()
+            .expect(rt, "a thread can be started");
+        check!(rt; pipeline.serve(rt, counted).is_ok());
+        sender.join(rt);
+    });
+    gate.counts()
+}
+
+#[test]
+fn seventy_thousand_batches_pass_the_gate(rt: HostRuntime) {
+    check!(&rt; serve_all(&rt, rt.alloc()) == (PACKETS, PACKETS));
+}
