@@ -18,6 +18,7 @@ mod rings;
 mod rounds;
 mod service;
 mod threads;
+mod waits;
 mod yields;
 
 /// Returns a packet of this number of bytes, each of them 7.
