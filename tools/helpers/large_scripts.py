@@ -44,6 +44,17 @@ def one_event_too_many():
     return ["packet 0 129", *map(account, range(1, BATCH_MAX + 2))], ["packet 0 refused 3 TooMuchData", "clock 0"]
 
 
+def many_events_too_many():
+    """20,000 accounts in one packet are refused, as one too many are: no size of a packet ends the program."""
+    return ["packet 0 129", *map(account, range(1, 20_001))], ["packet 0 refused 3 TooMuchData", "clock 0"]
+
+
+def largest_settings():
+    """The greatest capacity, credit and number of submitters, for a packet of the last one."""
+    script = ["limit 1", "capacity 65536", "credit 65536", "submitters 16", "packet 15 129", account(MAX - 1)]
+    return script, ["packet 15 0 committed 0", "clock 1", *account_lines([MAX - 1])]
+
+
 def many_packets():
     """25,000 packets of one event each, of one submitter."""
     script, printed = [], []
@@ -346,7 +357,7 @@ def accounts_and_pending_transfers():
 
 # What `list` and `run` print alike: scripts of one submitter, whose order is no schedule's.
 ALIKE = [
-    largest_packet, one_event_too_many, many_packets, longest_line, line_too_long, largest_lookup, failed_ids, full_bodies,
+    largest_packet, one_event_too_many, many_events_too_many, largest_settings, many_packets, longest_line, line_too_long, largest_lookup, failed_ids, full_bodies,
     chains_of_accounts, chains_of_transfers, limits_of_accounts, one_place_one_credit, two_thousand_packets,
     many_transfers, between_sixteen_thousand_accounts, seventy_thousand_lookups, full_packet_after_an_empty_one,
     post_with_wide_user_data, chains_with_transient_faults,
