@@ -1,8 +1,7 @@
 -- A batch's packets make a lawful group of the journal, and a ledger keeps its groups lawful.
-use Rattle.std.proofs.Common.{refl, sym, ap, subst, ◌∙◌, arith, ◌≡◌, ℕ, Bool, List, [], ◌∷◌, ◌++◌, map, length, Option}
-use Rattle.tb_core.proofs.Words.{cond_both, Input, Pulse, Numbered, ReplyValue, input_of, IsJoined, IsGroup, Parcel, AreJoined, IsJoinedParcel, IsPrefix, LedgerState, groups_since, Applied, apply_result, must_stop, apply_step, with_entry, Applying, IsApplied, IsWithJournal, BareLedgerState, with_journal, groups_in, HasSent, Records, decisions_in, Decision, Commits, HasPackets, replies_in}
+use Rattle.std.proofs.Common.{refl, sym, ap, subst, ◌∙◌, arith, ◌≡◌, ℕ, Bool, List, [], ◌∷◌, ◌++◌, map, length}
+use Rattle.tb_core.proofs.Words.{cond_both, Input, Pulse, Numbered, ReplyValue, input_of, IsJoined, IsGroup, Parcel, AreJoined, IsJoinedParcel, IsPrefix, LedgerState, groups_since, Applied, apply_result, must_stop, apply_step, with_entry, Applying, IsApplied, IsWithJournal, BareLedgerState, with_journal, HasSent, Adds, decisions_in, Decision, Commits, HasPackets, replies_in}
 use Rattle.tb_core.specs.declared.parcel.Parcel.TheVariants as parcel
-use Rattle.tb_core.specs.declared.journal.Entry.{Entry}
 use Rattle.tb_core.specs.declared.outcomes.Outcomes.{Outcomes}
 use Rattle.tb_core.proofs.LedgerSteps.{all-push, HasJobs, commits_more}
 use Rattle.tb_core.proofs.Since.{drop-more}
@@ -49,12 +48,12 @@ is_applied refused ledger next handed outcomes some is = record {
 }
 
 -- a bare ledger that applied a parcel
-module _ (refused : Bool) (bare : BareLedgerState) (handed : Parcel) (outcomes : Outcomes) (entry : Option Entry)
-    (next : BareLedgerState) (some : HasPackets handed) (records : Records refused handed bare outcomes entry next) where
+module _ (refused : Bool) (bare : BareLedgerState) (handed : Parcel) (outcomes : Outcomes) {added : List (List Input)}
+    (next : BareLedgerState) (some : HasPackets handed) (adds : Adds refused handed bare outcomes added next) where
   pub bare_applied : Applying (IsWithJournal bare) handed outcomes (IsWithJournal next)
   bare_applied old was =
-      let groups = old.groups ++ groups_in entry in
-      let made = records old.groups was.committed in (
+      let groups = old.groups ++ added in
+      let made = adds old.groups was.committed in (
         with_journal next groups,
         record { same = refl; committed = made.0 },
         is_applied refused old (with_journal next groups) handed outcomes some
@@ -65,8 +64,8 @@ module _ (refused : Bool) (bare : BareLedgerState) (handed : Parcel) (outcomes :
       → IsJoinedParcel limit handed → HasSent start limit decisions bare replies
       → HasSent start limit (decisions ++ decisions_in handed) next (replies ++ replies_in outcomes)
   sent_more start limit decisions replies joined has =
-      let made = records has.groups has.committed in
-      let groups = has.groups ++ groups_in entry in
+      let made = adds has.groups has.committed in
+      let groups = has.groups ++ added in
       let applied = is_applied refused (with_journal bare has.groups) (with_journal next groups) handed outcomes some made.1 in
       record {
         groups = groups;

@@ -10,6 +10,7 @@ mod OneMoreEntry
 pub mod Since
 pub mod LedgerSteps
 mod JournalGroups
+mod Alone
 pub mod Runs
 pub mod Packets
 pub mod HeadlineLemmas

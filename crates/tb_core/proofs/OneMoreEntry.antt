@@ -42,19 +42,15 @@ pub must_stop_is : (bare : BareLedgerState) (groups : List (List Input)) (count 
 must_stop_is bare groups count is =
     ap (λ places. bare.stopped || nat_lt (2 ^ 63) (places + count)) (sym is.counted)
 
-pub batch_entered : {bare : BareLedgerState} {groups : List (List Input)} {next : State} {parts : Parts} {count : ℕ}
-    (law : JoinInvisibly) → HasCommitted bare groups → AreAnswered bare.state parts →
-    next ≡ after_packet bare.state (events_of parts.operation parts.body.items)
-    → count ≡ length parts.jobs.items →
-    HasCommitted (record bare { places = bare.places + count; state = next })
-    (groups ++ map input_of parts.jobs.items ∷ [])
-batch_entered {bare} {groups} {parts} law is answered next_is count_is =
-    let group = map input_of parts.jobs.items in
+pub batch_entered : {bare : BareLedgerState} {groups : List (List Input)} {next : State} {count : ℕ} (jobs : List Numbered)
+    → HasCommitted bare groups → next ≡ fold after_input bare.state (map input_of jobs) → count ≡ length jobs →
+    HasCommitted (record bare { places = bare.places + count; state = next }) (groups ++ map input_of jobs ∷ [])
+batch_entered {bare} {groups} jobs is next_is count_is =
+    let group = map input_of jobs in
     let before = flat_map (λ g. g) groups in
     let all = inputs-more groups group in
     record {
-      machine = next_is ∙ batch_state law bare.state parts answered
-          ∙ ap (λ s. fold after_input s group) is.machine
+      machine = next_is ∙ ap (λ s. fold after_input s group) is.machine
           ∙ sym (fold-append after_input (opening bare.opening) before group)
           ∙ ap (fold after_input (opening bare.opening)) (sym all);
       counted = omega (
@@ -63,6 +59,6 @@ batch_entered {bare} {groups} {parts} law is answered next_is count_is =
         count_is,
         ap length all,
         length-append before group,
-        length-map parts.jobs.items input_of,
+        length-map jobs input_of,
       );
     }

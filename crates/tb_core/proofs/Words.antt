@@ -13,7 +13,7 @@ pub use Rattle.tb_batch.specs.claim.Batch.{body_of, are_of, all_share, IsLawful,
 pub use Rattle.tb_batch.specs.claim.Grouping.{can_share, IsJoined, IsGroup, is_taken}
 pub use Rattle.tb_batch.specs.declared.parts.Parts.{Parts}
 pub use Rattle.tb_core.specs.claim.AnyLedger.{Applying, IsApplied, IsWithJournal}
-pub use Rattle.tb_core.specs.claim.BareLedger.{BareLedgerState, with_journal, groups_in, HasSent, Records, HasCommitted, halts, IsBatch}
+pub use Rattle.tb_core.specs.claim.BareLedger.{BareLedgerState, with_journal, groups_in, HasSent, Adds, HasCommitted, halts, IsBatch}
 pub use Rattle.tb_core.specs.claim.Decision.{Decision, Admitted, Pulsed, Returned, decisions_of_item, is_behind, place_after, decisions_at, decisions_from, decisions_of, IsPacket, AreDecisions, cause_outcome, inputs_in, replies_from}
 pub use Rattle.tb_core.specs.claim.Due.{due, Place, Ahead, Behind, next_place, outcome_at, outcome_with, all_due_from, replies_to, reply_due, all_due}
 pub use Rattle.tb_core.specs.claim.EachSubmitter.{moments_in, is_packet_of, packets_of, moments_queued, CommittedOfEachSubmitter, PulsesAreTheControls, CommittedAreAnswered}

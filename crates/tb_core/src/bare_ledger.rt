@@ -1,14 +1,18 @@
 //! The ledger without its journal.
 
-ghost use Rattle.std.specs.Prelude.{◌≡◌, ◌<◌, ◌≤◌, ◌+◌, ◌++◌, [], ℕ, List, Bool, Option, false, true, length, map, OnOk, OnErr, IfOk, IfErr, None, Some};
+ghost use Rattle.std.specs.Prelude.{◌≡◌, ◌<◌, ◌≤◌, ◌+◌, ◌++◌, ◌∷◌, [], ℕ, List, Bool, Option, false, true, length, map, OnOk, OnErr, IfOk, IfErr, None, Some};
 ghost use Rattle.tb_layout.specs.claim.Events.{events_of, Input};
 ghost use Rattle.tb_layout.specs.claim.Limits.{clock_max};
 ghost use Rattle.tb_layout.specs.claim.Bounds.{places_max};
-ghost use Rattle.tb_machine.specs.claim.Replay.{State, after_packet, replay};
+ghost use Rattle.tb_layout.specs.claim.Failures.{RiseWithin, from_offset};
+ghost use Rattle.tb_layout.specs.declared.answer.Answer.TheVariants.{Accounts as AccountsOf, Failures as FailuresOf};
+ghost use Rattle.tb_machine.specs.claim.Replay.{State, after_packet, answer_of, replay};
 ghost use Rattle.tb_batch.specs.claim.Batch.{AreAdmitted, AreParts};
-ghost use Rattle.tb_work.specs.claim.Packet.{input_of};
+ghost use Rattle.tb_work.specs.claim.Admission.{count_of};
+ghost use Rattle.tb_work.specs.claim.Job.{is_lookup};
+ghost use Rattle.tb_work.specs.claim.Packet.{events_in, input_of};
 ghost use Rattle.tb_work.specs.claim.Answer.{reply_with};
-ghost use Rattle.tb_work.specs.declared.outcome.Outcome.TheVariants.{Stopped as StoppedOutcome};
+ghost use Rattle.tb_work.specs.declared.outcome.Outcome.TheVariants.{Committed as CommittedOutcome, Stopped as StoppedOutcome};
 ghost use Rattle.tb_core.specs.claim.BareLedger.{grows};
 ghost use Rattle.tb_core.specs.declared.journal.Entry.{Entry as EntryValue};
 ghost use Rattle.tb_core.specs.declared.outcomes.Outcomes.TheVariants.{Cut};
@@ -25,15 +29,18 @@ use tb_batch::{Batch, Parts};
 use tb_demux::Cutter;
 use tb_layout::{Account, Failure, LOOKUP_ACCOUNTS, NoMemory, PLACES_MAX};
 use tb_machine::{Machine, Seed, joining_is_invisible};
-use tb_work::{Accounts, Answer, Failures, Job, Moment, Outcome, Reply};
+use tb_work::{Accounts, Answer, Failures, Job, Moment, Outcome, Reply, looks_up};
 
 /// Commits what the front yields, as `Ledger` does, and keeps no journal. Its memory grows only by what is stored.
 #[derive(Drop)]
 pub struct BareLedger {
+    alloc: Global,
     opening: u64,
     machine: Machine,
     places: u64,
     stopped: bool,
+    /// Those of a packet that is committed alone, until they are in its reply.
+    failures: Vec<Failure>,
 }
 
 impl Model for BareLedger {
@@ -67,6 +74,35 @@ fn take_batch(machine: &mut Machine, parts: &mut Parts) -> Result<(), NoMemory>
     } else {
         machine.commit(parts.operation, &parts.body, &mut parts.failures)
     }
+}
+
+/// Lets the machine take the data of a packet that is no lookup, with the failures in a list of which nothing is kept. If memory runs out,
+/// the machine is as before.
+fn take_alone(machine: &mut Machine, failures: &mut Vec<Failure>, job: &Job) -> Result<(), NoMemory>
+    requires { is_lookup job.now.packet ≡ false }
+    ensures answer { OnOk result (answer_of machine.old (events_in job.now.packet) ≡ FailuresOf (map (from_offset 0) failures.new.items)) }
+    ensures rise { OnOk result (RiseWithin 0 (count_of job.now.packet) failures.new.items) }
+    ensures state { OnOk result (machine.new ≡ after_packet machine.old (events_in job.now.packet)) }
+    ensures same { OnErr result (machine.new ≡ machine.old) }
+{
+    failures.clear();
+    failures.reserve(job.stub().count as usize)?;
+    // The law that a packet's failures rise.
+    joining_is_invisible();
+    let packet = job.packet();
+    machine.commit(packet.operation, packet.bytes.as_slice(), failures)
+}
+
+/// Returns the accounts that a lookup finds.
+fn look_up(alloc: Global, machine: &Machine, job: &Job) -> Result<Accounts, NoMemory>
+    requires { is_lookup job.now.packet ≡ true }
+    ensures found { IfOk result (λ accounts. answer_of machine.now (events_in job.now.packet) ≡ AccountsOf accounts) }
+    ensures fits { IfOk result (λ accounts. length accounts ≤ count_of job.now.packet) }
+    ensures state { after_packet machine.now (events_in job.now.packet) ≡ machine.now }
+{
+    let mut accounts = Vec::with_capacity(alloc, job.stub().count as usize)?;
+    machine.lookup(job.packet().bytes.as_slice(), &mut accounts);
+    Ok(Accounts::from_vec(accounts))
 }
 
 /// Returns the answer to a batch: accounts if it is a lookup, failures else.
@@ -158,6 +194,7 @@ impl BareLedger {
     ghost use Rattle.tb_core.specs.claim.Ledger.{new_ledger};
     ghost use Rattle.tb_core.specs.claim.BareLedger.{new_bare_ledger, halts, Applies, HasSent, IsBatch, IsEntryIf, Records, after_refusal, refusal_of, stops, places_after, places_with};
     ghost use Rattle.tb_core.specs.claim.AnyLedger.{Applying, IsWithJournal};
+    ghost use Rattle.tb_core.specs.clauses.Alone.{after_alone, reply_alone};
 
     /// Returns a ledger that has committed nothing, whose clock starts at a number of nanoseconds, 0 to `CLOCK_MAX`,
     /// and that hashes ids with a seed, as `Ledger::with_seed` does. Takes no memory.
@@ -167,10 +204,12 @@ impl BareLedger {
         ensures sent { (limit : ℕ) → HasSent (new_ledger clock) limit [] result [] }
     {
         BareLedger {
+            alloc,
             opening: clock,
             machine: Machine::with_seed(alloc, clock, seed),
             places: 0,
             stopped: false,
+            failures: Vec::new(alloc),
         }
     }
 
@@ -253,6 +292,58 @@ impl BareLedger {
         let recorded = record(self.places, parts);
         self.places += count as u64;
         Ok(recorded)
+    }
+
+    /// Returns the answer to a packet, which the machine takes. If an allocation fails, the packet comes back, and nothing has changed.
+    fn answer_alone(&mut self, job: Job) -> Result<Reply, Job>
+        ensures reply { IfOk result (λ reply. reply
+            ≡ reply_with (CommittedOutcome self.old.places (answer_of self.old.state (events_in job.packet))) job) }
+        ensures new { OnOk result (self.new
+            ≡ record self.old { state = after_packet self.old.state (events_in job.packet) }) }
+        ensures err { IfErr result (λ back. (back ≡ job) × (self.new ≡ self.old)) }
+    {
+        let place = self.places;
+        if looks_up(job.packet().operation) {
+            return match look_up(self.alloc, &self.machine, &job) {
+                Ok(accounts) => Ok(Reply::of(
+                    job,
+                    Outcome::Committed {
+                        place,
+                        answer: Answer::Accounts(accounts),
+                    },
+                )),
+                Err(_) => Err(job),
+            };
+        }
+        if take_alone(&mut self.machine, &mut self.failures, &job).is_err() {
+            return Err(job);
+        }
+        Ok(Reply::committed(job, place, self.failures.as_slice(), 0))
+    }
+
+    /// Commits a packet as `try_apply` does a batch of it alone, and returns its reply. It reads the packet's own data, which isn't copied,
+    /// and takes memory for the facts, and for the packet's failures if it has more events than any before. If an allocation fails, the
+    /// packet comes back, and nothing has changed; what must be stopped anyway never comes back.
+    pub fn try_alone(&mut self, job: Job) -> Result<Reply, Job>
+        ensures ok { IfOk result (λ reply. (reply ≡ reply_alone self.old job) × (self.new ≡ after_alone self.old job)) }
+        ensures sent { IfOk result (λ reply.
+            (start : LedgerState) (limit : ℕ) (decisions : List Decision) (replies : List ReplyValue)
+            → HasSent start limit decisions self.old replies
+            → HasSent start limit (decisions ++ Admitted job ∷ []) self.new (replies ++ reply ∷ [])) }
+        ensures stopped { OnOk result (self.new.stopped ≡ halts self.old 1) }
+        ensures counted { OnOk result (self.new.places ≡ places_with self.old 1) }
+        ensures err { IfErr result (λ back. (back ≡ job) × (self.new ≡ self.old)) }
+        ensures memory { OnErr result (halts self.old 1 ≡ false) }
+    {
+        // The law that its packet was admitted.
+        let _ = job.packet();
+        if self.halts_at(1) {
+            self.stopped = true;
+            return Ok(Reply::of(job, Outcome::Stopped));
+        }
+        let reply = self.answer_alone(job)?;
+        self.places += 1;
+        Ok(reply)
     }
 
     /// Commits a pulse, unless it stopped before or has no place left. Takes no memory.

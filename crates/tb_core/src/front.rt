@@ -1,6 +1,6 @@
 //! The front: tickets in, batches out.
 
-ghost use Rattle.std.specs.Prelude.{◌≡◌, ◌<◌, ◌≤◌, ◌==◌, ◌||◌, ◌++◌, ◌∷◌, [], length, true, false, not, Some, None, IfOk, OnOk, OnErr, IfErr, IfSome, IfNone, option_to_list};
+ghost use Rattle.std.specs.Prelude.{◌≡◌, ◌<◌, ◌≤◌, ◌==◌, ◌&&◌, ◌||◌, ◌++◌, ◌∷◌, [], length, true, false, not, Some, None, IfOk, OnOk, OnErr, IfErr, IfSome, IfNone, option_to_list};
 
 use crate::parcel::{Cause, Parcel};
 use arrayvec::ArrayVec;
@@ -134,6 +134,14 @@ impl Front {
         ensures { result ≡ not (length self.now.held == 0) }
     {
         !self.batcher.is_empty()
+    }
+
+    /// Returns whether a packet would begin a group: nothing is held, and neither a Close was taken nor did an allocation fail.
+    pub fn begins_group(&self) -> bool
+        ensures value { result ≡ ((length self.now.held == 0) && not (self.now.closed || self.now.stopped)) }
+        ensures front { IsFront self.now }
+    {
+        self.batcher.is_empty() && !self.closed && !self.stopped
     }
 
     /// Puts the group held into parcels.

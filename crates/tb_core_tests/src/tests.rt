@@ -9,6 +9,7 @@ use tb_layout::Failure;
 use tb_test_makers::zeros;
 use tb_work::{Answer, Outcome, Packet};
 
+mod alone;
 mod batch;
 mod demux;
 mod embed;

@@ -31,6 +31,17 @@ held_taken {items} {front} {parcels} was is sealed group sends has = record {
       has.has_sent;
 }
 
+-- the same of the packets in what was held
+pub jobs_taken : {items : List Item} {front : FrontState} {jobs : List Numbered} (was is : ℕ → List Decision → Type 0)
+    → jobs ≡ front.held → ((sent : List Decision) → was front.limit sent → is front.limit (sent ++ map Admitted jobs))
+    → HasPassed (was front.limit) items front → HasPassed (is front.limit) items (with_group front [])
+jobs_taken {items} {front} {jobs} was is same sends has = record {
+  sent = has.sent ++ map Admitted jobs;
+  passed = subst (AreDecisions items front.closed front.stopped)
+      (sym (append-nil (has.sent ++ map Admitted jobs) ∙ ap (λ js. has.sent ++ map Admitted js) same)) has.passed;
+  has_sent = sends has.sent has.has_sent;
+}
+
 -- ---- a ticket
 
 pub ticket_taken : {items : List Item} {front next : FrontState} {parcels : List Parcel}

@@ -1,2 +1,3 @@
 -- What only proofs, private functions and invariants need.
 pub mod Unread
+pub mod Waiting

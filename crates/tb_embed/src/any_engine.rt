@@ -1,17 +1,17 @@
 //! The engine over any ledger.
 
-ghost use Rattle.std.specs.Prelude.{◌≡◌, ◌<◌, ◌≤◌, ◌+◌, ◌++◌, ◌∷◌, [], ℕ, List, None, false, true, length, IfErr, OnErr, OnOk, option_to_list};
+ghost use Rattle.std.specs.Prelude.{◌≡◌, ◌<◌, ◌≤◌, ◌+◌, ◌++◌, ◌∷◌, [], ℕ, List, None, false, true, length, IfErr, IfOk, OnErr, OnOk, option_to_list};
 ghost use Rattle.tb_work.specs.claim.Packet.{ReplyValue};
 ghost use Rattle.tb_work.specs.declared.item.Item.{Item as ItemValue};
-ghost use Rattle.tb_core.specs.claim.Front.{IsFront, all_decisions_in, take_step, takes_memory, with_group};
+ghost use Rattle.tb_core.specs.claim.Front.{IsFront, all_decisions_in, group_as_batch, take_result, take_step, takes_memory, with_group};
 ghost use Rattle.tb_core.specs.claim.Grouping.{AreJoinedParcels};
 ghost use Rattle.tb_core.specs.claim.Decision.{Decision};
 ghost use Rattle.tb_core.specs.claim.Journal.{LedgerState};
 ghost use Rattle.tb_embed.specs.clauses.AnyEngine.{HasSentBy, HasTakenBy};
 ghost use Rattle.tb_embed.specs.clauses.Engine.{Steps};
 
-use crate::engine::{offer, seal};
 use crate::unread::Unread;
+use crate::waiting::offer_control;
 use std::alloc::Global;
 use std::marker::Model;
 use tb_core::{AnyLedger, Front, Parcel};
@@ -81,6 +81,39 @@ fn apply<L: AnyLedger>(ledger: &mut L, unread: &mut Unread, parcel: Option<Parce
     if let Some(parcel) = parcel {
         let outcomes = ledger.apply(parcel);
         unread.push(outcomes);
+    }
+}
+
+/// Returns the group held as a parcel, and it is no longer held; None if nothing was.
+fn seal(front: &mut Front) -> Option<Parcel>
+    ensures parcel { option_to_list result ≡ group_as_batch front.old.held }
+    ensures left { front.new ≡ with_group front.old [] }
+    ensures front { IsFront front.old }
+{
+    front.idle().map(Parcel::Batch)
+}
+
+/// Passes a ticket, of which at most one parcel comes, through a front, and returns the parcel. If its allocation fails, it is
+/// returned and nothing has changed.
+fn offer(front: &mut Front, ticket: Ticket) -> Result<Option<Parcel>, Ticket>
+    requires sender { ticket.sender ≤ front.old.submitters }
+    requires one { length (take_step false front.old ticket.sender ticket.item).parcels ≤ 1 }
+    ensures ok { IfOk result (λ parcel. take_result front.new (option_to_list parcel)
+        ≡ take_step false front.old ticket.sender ticket.item) }
+    ensures err { IfErr result (λ back. (back ≡ ticket) × (front.new ≡ front.old)) }
+    ensures memory { OnErr result (takes_memory front.old ticket.item ≡ true) }
+    ensures front { IsFront front.old }
+{
+    let Ticket { sender, item } = ticket;
+    match item {
+        Item::Packet(job) => match front.try_packet(job) {
+            Ok(parcel) => Ok(parcel),
+            Err(job) => Err(Ticket {
+                sender,
+                item: Item::Packet(job),
+            }),
+        },
+        item => offer_control(front, Ticket { sender, item }),
     }
 }
 

@@ -1,6 +1,6 @@
 //! The engine.
 
-ghost use Rattle.std.specs.Prelude.{◌≡◌, ◌<◌, ◌≤◌, ◌+◌, ◌++◌, ◌∷◌, [], ℕ, List, Some, None, true, false, ◌||◌, length, IfOk, IfErr, OnOk, OnErr, IfSome, IfNone, option_to_list, get_or, slice_get, slice_set};
+ghost use Rattle.std.specs.Prelude.{◌≡◌, ◌<◌, ◌≤◌, ◌+◌, ◌++◌, ◌∷◌, [], ℕ, List, Some, None, true, false, ◌||◌, length, map, IfOk, IfErr, OnOk, OnErr, IfSome, IfNone, option_to_list, get_or, slice_get, slice_set};
 ghost use Rattle.std.specs.Option.{option_copied};
 ghost use Rattle.std.specs.List.{flat_map};
 ghost use Rattle.tb_layout.specs.claim.Limits.{clock_max};
@@ -17,18 +17,19 @@ ghost use Rattle.tb_batch.specs.claim.Grouping.{IsGroup};
 ghost use Rattle.tb_core.specs.declared.parcel.Parcel.TheVariants.{Batch as BatchParcel};
 ghost use Rattle.tb_core.specs.claim.Front.{IsFront, opening_refusal, all_decisions_in, group_as_batch, take_result, take_step, takes_memory, with_group};
 ghost use Rattle.tb_core.specs.claim.Grouping.{AreJoinedParcels};
-ghost use Rattle.tb_core.specs.claim.Decision.{Decision};
+ghost use Rattle.tb_core.specs.claim.Decision.{Admitted, Decision};
 ghost use Rattle.tb_core.specs.claim.BareLedger.{HasSent, halts, places_with};
 ghost use Rattle.tb_core.specs.claim.Journal.{LedgerState};
 ghost use Rattle.tb_embed.specs.clauses.Engine.{HasTaken, IsControl, IsPacketItem, IsOpened, IsOpenedOver, HoldsNothing, Steps, places_in, places_of, Queues, Reads, Continues, IsRefusal, sender_refusal, packet_with, submit_refusal, pulse_refusal, shut_refusal, has_stopped, state_of};
 ghost use Rattle.tb_embed.specs.clauses.Queued.{ticket_of, packet_ticket};
+ghost use Rattle.tb_embed.specs.inside.Waiting.{jobs_in};
 
 use crate::unread::Unread;
-use arrayvec::ArrayVec;
+use crate::waiting::{Held, Waiting};
 use std::alloc::Global;
 use std::marker::Model;
 use tb_batch::Batch;
-use tb_core::{BareLedger, Front, Parcel, Seed};
+use tb_core::{BareLedger, Front, Outcomes, Parcel, Seed};
 use tb_layout::{
     Account, CREATE_ACCOUNTS, CREATE_TRANSFERS, EVENT_SIZE, MOMENT_MAX, SUBMITTERS_LENGTH, Transfer,
 };
@@ -67,7 +68,7 @@ pub struct Engine {
     submitters: u32,
     shut: bool,
     due: Due,
-    front: Front,
+    front: Waiting,
     ledger: BareLedger,
     unread: Unread,
     numbers: [u64; SUBMITTERS_LENGTH],
@@ -136,18 +137,36 @@ fn apply(ledger: &mut BareLedger, unread: &mut Unread, parcel: Option<Parcel>) -
     }
 }
 
-/// Returns the group held as a parcel, and it is no longer held; None if nothing was.
-pub(crate) fn seal(front: &mut Front) -> Option<Parcel>
-    ensures parcel { option_to_list result ≡ group_as_batch front.old.held }
-    ensures left { front.new ≡ with_group front.old [] }
-    ensures front { IsFront front.old }
+/// Commits what was held, if there is capacity for its outcome. If an allocation fails, it comes back and nothing has changed.
+#[inline(always)]
+fn apply_held(ledger: &mut BareLedger, unread: &mut Unread, held: Held) -> Result<(), Held>
+    requires room { 0 < unread.old.room }
+    ensures sent { OnOk result ((start : LedgerState) (limit : ℕ) (sent : List Decision) (read : List ReplyValue)
+        → IsGroup limit (jobs_in held) → HasSent start limit sent ledger.old (read ++ unread.old.replies)
+        → HasSent start limit (sent ++ map Admitted (jobs_in held)) ledger.new (read ++ unread.new.replies)) }
+    ensures stopped { OnOk result (ledger.new.stopped ≡ halts ledger.old (length (jobs_in held))) }
+    ensures counted { OnOk result (ledger.new.places ≡ places_with ledger.old (length (jobs_in held))) }
+    ensures left { OnOk result (unread.old.room ≤ unread.new.room + 1) }
+    ensures back { IfErr result (λ back. back ≡ held) }
+    ensures same { OnErr result ((ledger.new ≡ ledger.old) × (unread.new ≡ unread.old)) }
 {
-    front.idle().map(Parcel::Batch)
+    match held {
+        Held::Alone(job) => match ledger.try_alone(job) {
+            Ok(reply) => {
+                unread.push(Outcomes::One(reply));
+                Ok(())
+            }
+            Err(job) => Err(Held::Alone(job)),
+        },
+        Held::Group(batch) => {
+            apply(ledger, unread, Some(Parcel::Batch(batch))).map_err(Held::Group)
+        }
+    }
 }
 
-/// Commits the group held, for whose outcome there is capacity. If its allocation fails, nothing has changed.
+/// Commits what is held, if there is capacity for its outcome. If an allocation fails, nothing has changed.
 fn commit_held(
-    front: &mut Front,
+    front: &mut Waiting,
     ledger: &mut BareLedger,
     unread: &mut Unread,
 ) -> Result<(), Refusal>
@@ -164,83 +183,23 @@ fn commit_held(
     ensures needed { OnErr result (0 < length front.old.held) }
     ensures front { IsFront front.old }
 {
-    match apply(ledger, unread, seal(front)) {
+    ledger.has_few_places();
+    let Some(held) = front.take() else {
+        return Ok(());
+    };
+    match apply_held(ledger, unread, held) {
         Ok(()) => Ok(()),
-        Err(batch) => {
-            front.hold(batch);
+        Err(held) => {
+            front.hold(held);
             Err(Refusal::NoMemory)
         }
     }
 }
 
-/// Passes a ticket that is no packet, of which at most one parcel comes, through a front, as `offer` does. It has a list of parcels, which a
-/// packet does without.
-#[inline(never)]
-fn offer_control(front: &mut Front, ticket: Ticket) -> Result<Option<Parcel>, Ticket>
-    requires sender { ticket.sender ≤ front.old.submitters }
-    requires one { length (take_step false front.old ticket.sender ticket.item).parcels ≤ 1 }
-    ensures ok { IfOk result (λ parcel. take_result front.new (option_to_list parcel)
-        ≡ take_step false front.old ticket.sender ticket.item) }
-    ensures err { IfErr result (λ back. (back ≡ ticket) × (front.new ≡ front.old)) }
-    ensures memory { OnErr result (takes_memory front.old ticket.item ≡ true) }
-    ensures front { IsFront front.old }
-{
-    let mut parcels = ArrayVec::new();
-    let mut ticket = ticket;
-    match front.try_take(&mut parcels, &mut ticket) {
-        Ok(()) => Ok(parcels.pop_at(0)),
-        Err(_) => Err(ticket),
-    }
-}
-
-/// Passes a ticket, of which at most one parcel comes, through a front, and returns the parcel. If its allocation fails, it is
-/// returned and nothing has changed.
-pub(crate) fn offer(front: &mut Front, ticket: Ticket) -> Result<Option<Parcel>, Ticket>
-    requires sender { ticket.sender ≤ front.old.submitters }
-    requires one { length (take_step false front.old ticket.sender ticket.item).parcels ≤ 1 }
-    ensures ok { IfOk result (λ parcel. take_result front.new (option_to_list parcel)
-        ≡ take_step false front.old ticket.sender ticket.item) }
-    ensures err { IfErr result (λ back. (back ≡ ticket) × (front.new ≡ front.old)) }
-    ensures memory { OnErr result (takes_memory front.old ticket.item ≡ true) }
-    ensures front { IsFront front.old }
-{
-    let Ticket { sender, item } = ticket;
-    match item {
-        Item::Packet(job) => match front.try_packet(job) {
-            Ok(parcel) => Ok(parcel),
-            Err(job) => Err(Ticket {
-                sender,
-                item: Item::Packet(job),
-            }),
-        },
-        item => offer_control(front, Ticket { sender, item }),
-    }
-}
-
-/// Takes the packet out of a front that begins its group, so that the front holds an earlier group again.
-fn take_back(front: &mut Front, batch: Batch) -> Job
-    requires one { length front.old.held ≡ 1 }
-    requires goes { (front.old.closed || front.old.stopped) ≡ false }
-    requires group { IsGroup front.old.limit batch }
-    ensures job { result ∷ [] ≡ front.old.held }
-    ensures held { front.new ≡ with_group front.old batch }
-{
-    let Some(begun) = front.idle() else {
-        unreachable!()
-    };
-    let mut jobs = begun.into_parts().jobs;
-    let Some(job) = jobs.pop() else {
-        unreachable!()
-    };
-    drop(jobs);
-    front.hold(batch);
-    job
-}
-
 /// Passes a packet through a front and a ledger, if there is capacity for an outcome. If an allocation fails, the packet is
 /// returned and nothing has changed.
 fn take_packet(
-    front: &mut Front,
+    front: &mut Waiting,
     ledger: &mut BareLedger,
     unread: &mut Unread,
     ticket: Ticket,
@@ -257,25 +216,19 @@ fn take_packet(
     ensures same { OnErr result ((front.new ≡ front.old) × (ledger.new ≡ ledger.old) × (unread.new ≡ unread.old)) }
     ensures front { IsFront front.old }
 {
-    let parcel = match offer(front, ticket) {
-        Ok(parcel) => parcel,
-        Err(
-            Ticket {
-                sender: _,
-                item: Item::Packet(job),
-            },
-        ) => return Err(job),
-        Err(_) => unreachable!(),
+    let Item::Packet(job) = ticket.item else {
+        unreachable!()
     };
+    let parcel = front.try_packet(job)?;
     match apply(ledger, unread, parcel) {
         Ok(()) => Ok(()),
-        Err(batch) => Err(take_back(front, batch)),
+        Err(batch) => Err(front.take_back(batch)),
     }
 }
 
 /// Passes a pulse or the Close through a front that holds nothing, and through a ledger, if there is capacity for an
 /// outcome. Allocates nothing.
-fn pass(front: &mut Front, ledger: &mut BareLedger, unread: &mut Unread, ticket: Ticket)
+fn pass(front: &mut Waiting, ledger: &mut BareLedger, unread: &mut Unread, ticket: Ticket)
     requires sender { ticket.sender ≤ front.old.submitters }
     requires control { IsControl ticket.item }
     requires empty { front.old.held ≡ [] }
@@ -287,9 +240,7 @@ fn pass(front: &mut Front, ledger: &mut BareLedger, unread: &mut Unread, ticket:
     ensures stopped { ledger.new.stopped ≡ halts ledger.old (places_of front.old ticket) }
     ensures front { IsFront front.old }
 {
-    let Ok(parcel) = offer(front, ticket) else {
-        unreachable!()
-    };
+    let parcel = front.pass(ticket);
     let Ok(()) = apply(ledger, unread, parcel) else {
         unreachable!()
     };
@@ -369,7 +320,7 @@ impl Engine {
                 accounts: 0,
                 transfers: 0,
             },
-            front,
+            front: Waiting::over(front),
             ledger,
             unread: Unread::new(alloc),
             numbers: [0; SUBMITTERS_LENGTH],

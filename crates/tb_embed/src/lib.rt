@@ -21,6 +21,7 @@ mod any_engine;
 mod engine;
 mod laws;
 mod unread;
+mod waiting;
 
 pub use any_engine::AnyEngine;
 pub use engine::Engine;

@@ -89,13 +89,15 @@ IsEntryIf may (Some entry) = IsEntry entry × (may ≡ true)
 abbrev pub groups_in : Option Entry → List (List Input)
 groups_in entry = map group_of (option_to_list entry)
 
--- Whatever was committed before, a parcel was applied to that ledger, and the entry has what was committed of it.
+-- Whatever was committed before, a parcel was applied to that ledger, and these groups were committed of it.
+abbrev pub Adds : Bool → Parcel → BareLedgerState → Outcomes → List (List Input) → BareLedgerState → Type 0
+Adds refused handed old outcomes added new =
+    (groups : List (List Input)) → HasCommitted old groups → HasCommitted new (groups ++ added)
+    × (apply_result (with_journal new (groups ++ added)) outcomes ≡ apply_step refused (with_journal old groups) handed)
+
+-- the same, and the entry has what was committed
 abbrev pub Records : Bool → Parcel → BareLedgerState → Outcomes → Option Entry → BareLedgerState → Type 0
-Records refused handed old outcomes entry new =
-    (groups : List (List Input)) → HasCommitted old groups →
-    HasCommitted new (groups ++ groups_in entry)
-    × (apply_result (with_journal new (groups ++ groups_in entry)) outcomes
-    ≡ apply_step refused (with_journal old groups) handed)
+Records refused handed old outcomes entry new = Adds refused handed old outcomes (groups_in entry) new
 
 -- a batch: nothing else can lack memory, since without a journal a pulse allocates nothing
 abbrev pub IsBatch : Parcel → Type 0

@@ -1,16 +1,18 @@
-use Rattle.std.proofs.Common.{◌++◌, rules}
+use Rattle.std.proofs.Common.{◌++◌, rules, subst, sym}
+use Rattle.tb_batch.specs.claim.Grouping.{IsGroup}
 use Rattle.tb_embed.proofs.Words.{HasSent}
-use Rattle.tb_embed.proofs.Parcels.{held_taken}
+use Rattle.tb_embed.proofs.Parcels.{jobs_taken}
 use Rattle.tb_embed.proofs.engine.commit_held.Goals as goal
 
 pub returns-in-Ok-clause-taken : goal.returns-in-Ok-clause-taken
 returns-in-Ok-clause-taken c = λ start items read has.
     let front = c.args.front.now in
-    rw c.seal.ensures.left (held_taken
+    let held = c.in-Some.ensures.some.0 in
+    rw c.take.ensures.left (jobs_taken
     (λ limit sent. HasSent start limit sent c.args.ledger.now (read ++ c.args.unread.now.replies))
-    (λ limit sent. HasSent start limit sent c.apply.new.ledger (read ++ c.apply.new.unread.replies))
-    c.seal.ensures.parcel c.seal.ensures.front.group
-    (λ sent joined had. c.in-Ok.ensures.sent start front.limit sent read joined had) has)
+    (λ limit sent. HasSent start limit sent c.apply_held.new.ledger (read ++ c.apply_held.new.unread.replies))
+    held
+    (λ sent had. c.in-Ok.ensures.sent start front.limit sent read (subst (IsGroup front.limit) (sym held) c.take.ensures.front.group) had) has)
 
 pub returns-in-Ok-clause-same : goal.returns-in-Ok-clause-same
 returns-in-Ok-clause-same c = search rules

@@ -8,5 +8,5 @@ returns-clause-taken c = λ start items read has.
     let front = c.args.front.now in
     ticket_taken (λ limit sent. HasSent start limit sent c.args.ledger.now (read ++ c.args.unread.now.replies))
     (λ limit sent. HasSent start limit sent c.apply.new.ledger (read ++ c.apply.new.unread.replies))
-    c.args.ticket c.offer.ensures.front c.requires.sender c.in-Ok.ensures.ok
-    (λ sent joined had. c.in-Ok-apply.ensures.sent start front.limit sent read joined had) has
+    c.args.ticket c.pass-parcel.ensures.front c.requires.sender c.pass-parcel.ensures.passed
+    (λ sent joined had. c.in-Ok.ensures.sent start front.limit sent read joined had) has

@@ -6,9 +6,9 @@ use Rattle.tb_core.proofs.bare_ledger.BareLedger.apply.Goals as goal
 pub returns-in-Ok : goal.returns-in-Ok
 returns-in-Ok c = record {
   applied = (false, c.in-Ok.field-0.entry, (λ is. cc), c.in-Ok.ensures.ok);
-  applying = bare_applied false c.args.self.now c.args.parcel c.in-Ok.field-0.outcomes c.in-Ok.field-0.entry
+  applying = bare_applied false c.args.self.now c.args.parcel c.in-Ok.field-0.outcomes
       c.try_record.new.self c.try_record.ensures.some c.in-Ok.ensures.ok;
-  sent = sent_more false c.args.self.now c.args.parcel c.in-Ok.field-0.outcomes c.in-Ok.field-0.entry c.try_record.new.self
+  sent = sent_more false c.args.self.now c.args.parcel c.in-Ok.field-0.outcomes c.try_record.new.self
       c.try_record.ensures.some c.in-Ok.ensures.ok;
 }
 
@@ -21,7 +21,7 @@ returns-in-Err c = record {
     rw (← c.in-Err.ensures.err.0, ← c.in-Err.ensures.err.1) c.refuse.ensures.applied,
   );
   applying = rw (← c.in-Err.ensures.err.0, ← c.in-Err.ensures.err.1) (bare_applied true c.try_record.new.self
-      c.in-Err.parcel c.refuse.result None c.refuse.new.self c.refuse.ensures.some c.refuse.ensures.applied);
+      c.in-Err.parcel c.refuse.result c.refuse.new.self c.refuse.ensures.some c.refuse.ensures.applied);
   sent = rw (← c.in-Err.ensures.err.0, ← c.in-Err.ensures.err.1) (sent_more true c.try_record.new.self
-      c.in-Err.parcel c.refuse.result None c.refuse.new.self c.refuse.ensures.some c.refuse.ensures.applied);
+      c.in-Err.parcel c.refuse.result c.refuse.new.self c.refuse.ensures.some c.refuse.ensures.applied);
 }

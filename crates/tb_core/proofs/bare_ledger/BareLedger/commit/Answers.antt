@@ -29,9 +29,10 @@ returns-clause-ok c = rw (← c.self.view_is) (λ groups is.
     let (entry, has_entry, adds, whole) = c.record-recorded.ensures.entry in
     let replies = c.record-recorded.ensures.replies inside.opening _ is.counted
     (subst (λ state. AreAnswered state parts) is.machine answered) in
+    let state_is = next ∙ batch_state law inside.machine parts answered in
     rw (has_entry, replies, adds) (
-      batch_entered law is answered next (ap length (c.jobs-count.ensures.jobs ∙ sym same)),
-      batch_applied is (next ∙ batch_state law inside.machine parts answered) same refl goes,
+      batch_entered parts.jobs.items is state_is (ap length (c.jobs-count.ensures.jobs ∙ sym same)),
+      batch_applied is state_is same refl goes,
     ))
 
 pub returns-then-halts_at-clause-err : goal.returns-then-halts_at-clause-err
