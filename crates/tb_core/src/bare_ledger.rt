@@ -31,7 +31,8 @@ use tb_layout::{Account, Failure, LOOKUP_ACCOUNTS, NoMemory, PLACES_MAX};
 use tb_machine::{Machine, Seed, joining_is_invisible};
 use tb_work::{Accounts, Answer, Failures, Job, Moment, Outcome, Reply, looks_up};
 
-/// Commits what the front yields, as `Ledger` does, and keeps no journal. Its memory grows only by what is stored.
+/// Commits what the front yields, as `Ledger` does, and keeps no journal. Its memory grows only by what is stored, and by a list with
+/// room for the failures of one packet.
 #[derive(Drop)]
 pub struct BareLedger {
     alloc: Global,
@@ -76,8 +77,8 @@ fn take_batch(machine: &mut Machine, parts: &mut Parts) -> Result<(), NoMemory>
     }
 }
 
-/// Lets the machine take the data of a packet that is no lookup, with the failures in a list of which nothing is kept. If memory runs out,
-/// the machine is as before.
+/// Lets the machine take the data of a packet that is no lookup, and puts its failures into a list in place of what was there. If memory
+/// runs out, the machine is as before.
 fn take_alone(machine: &mut Machine, failures: &mut Vec<Failure>, job: &Job) -> Result<(), NoMemory>
     requires { is_lookup job.now.packet ≡ false }
     ensures answer { OnOk result (answer_of machine.old (events_in job.now.packet) ≡ FailuresOf (map (from_offset 0) failures.new.items)) }

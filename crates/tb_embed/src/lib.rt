@@ -8,6 +8,9 @@
 //! A call for which memory runs out is refused as `NoMemory`, and nothing has changed: made again with memory there, it does what it
 //! would have done. An engine stops only if 2^63 places are used up (`stopped` of `Queues` and `Continues`).
 //!
+//! A packet that waits is held as it is until another joins it. So one that is flushed by itself is committed from its own data, without
+//! a copy.
+//!
 //! What is queued decides the rest (`queue_decides`): a host that stores its calls can make them again after a crash.
 //!
 //! An engine that holds nothing yields its ledger (`Engine::into_ledger`), and another goes on with it (`Engine::over`).

@@ -150,6 +150,7 @@ impl Waiting {
     {
         match held {
             Held::Alone(job) => {
+                // The law that what a front holds is one group.
                 let _ = self.front.begins_group();
                 self.alone = Some(job);
             }
