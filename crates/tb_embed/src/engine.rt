@@ -29,7 +29,7 @@ use crate::waiting::{Held, Waiting};
 use std::alloc::Global;
 use std::marker::Model;
 use tb_batch::Batch;
-use tb_core::{BareLedger, Front, Outcomes, Parcel, Seed};
+use tb_core::{BareLedger, Front, Parcel, Seed};
 use tb_layout::{
     Account, CREATE_ACCOUNTS, CREATE_TRANSFERS, EVENT_SIZE, MOMENT_MAX, SUBMITTERS_LENGTH, Transfer,
 };
@@ -153,7 +153,7 @@ fn apply_held(ledger: &mut BareLedger, unread: &mut Unread, held: Held) -> Resul
     match held {
         Held::Alone(job) => match ledger.try_alone(job) {
             Ok(reply) => {
-                unread.push(Outcomes::One(reply));
+                unread.push_reply(reply);
                 Ok(())
             }
             Err(job) => Err(Held::Alone(job)),

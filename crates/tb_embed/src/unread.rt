@@ -1,6 +1,6 @@
 //! The replies that are not read.
 
-ghost use Rattle.std.specs.Prelude.{◌≡◌, ◌≤◌, ◌<◌, ◌+◌, ◌++◌, [], IfNone, OnOk, option_to_list, slice_get};
+ghost use Rattle.std.specs.Prelude.{◌≡◌, ◌≤◌, ◌<◌, ◌+◌, ◌++◌, ◌∷◌, [], IfNone, OnOk, option_to_list, slice_get};
 ghost use Rattle.std.specs.Option.{option_copied};
 ghost use Rattle.std.specs.VecDeque.{deque_len, deque_capacity};
 ghost use Rattle.std.specs.List.{flat_map};
@@ -122,6 +122,19 @@ impl Unread {
         }
     }
 
+    /// Appends a reply, as `push` does.
+    pub(crate) fn push_reply(&mut self, reply: Reply)
+        requires { 0 < self.old.room }
+        ensures replies { self.new.replies ≡ self.old.replies ++ reply ∷ [] }
+        ensures room { self.old.room ≤ self.new.room + 1 }
+    {
+        if self.next.is_none() {
+            self.next = Some(reply);
+        } else {
+            self.outcomes.push_back_reserved(Outcomes::One(reply));
+        }
+    }
+
     /// Returns the next reply, which stays.
     pub(crate) fn next(&self) -> Option<&Reply>
         ensures { option_copied result ≡ slice_get self.now.replies 0 }
@@ -135,8 +148,10 @@ impl Unread {
         ensures none { IfNone result (self.new.replies ≡ []) }
     {
         let reply = self.next.take()?;
-        let next = next_reply(&mut self.cutter, &mut self.outcomes);
-        drop(mem::replace(&mut self.next, next));
+        // A reply is large: if there is no other, none is moved.
+        if self.cutter.is_some() || !self.outcomes.is_empty() {
+            self.next = next_reply(&mut self.cutter, &mut self.outcomes);
+        }
         Some(reply)
     }
 }
