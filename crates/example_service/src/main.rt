@@ -36,7 +36,7 @@ use std::thread::Threads;
 use std::time::Clock;
 use tb_core::{AnyLedger, Seed};
 use tb_drive::ControlPlan;
-use tb_durable::{DurableLedger, LedgerFile, Settings, open_file};
+use tb_durable::{DurableLedger, LedgerFile, Settings, copy_log, open_file};
 use tb_figures::{CountedDriver, CountedLedger, Figures};
 use tb_layout::BATCH_MAX;
 use tb_pipe::{Finished, Report, drive_over, open};
@@ -234,6 +234,14 @@ fn print_tills(rt: &HostRuntime, ledger: &FileLedger) {
     }
 }
 
+/// Copies the log into the file, so that a copy of the file by itself has all that is committed.
+fn finish_file(rt: &HostRuntime, ledger: FileLedger) {
+    let mut store = ledger.into_store();
+    if let Err(error) = copy_log(&mut store) {
+        let _ = eprintln!(rt; "the log isn't copied into the file, so keep both together: {error}");
+    }
+}
+
 fn main(rt: HostRuntime) -> ExitCode {
     let Some((path, payments)) = asked(&rt) else {
         let _ = eprintln!(rt; "usage: example_service FILE [PAYMENTS]");
@@ -269,5 +277,10 @@ fn main(rt: HostRuntime) -> ExitCode {
     let _ = eprintln!(rt; "{read}");
     print_tills(&rt, &ledger);
     let went_on = went_on(&rt, &ledger);
+    if went_on {
+        finish_file(&rt, ledger);
+    } else {
+        drop(ledger);
+    }
     ExitCode::from(if went_on && complete { 0 } else { 2 })
 }

@@ -11,6 +11,8 @@ pub enum OpenFault {
     Store(StoreError),
     /// The file can't be opened, another process has it open, or it isn't a sound database.
     File(sqlite::Error),
+    /// The file isn't there, and its log is: the file was moved or removed without it. Opening would write over the log.
+    LogWithoutFile,
     /// The database has other tables than the ledger's.
     NotALedger,
     /// The first row doesn't say how the ledger was opened.
@@ -34,6 +36,9 @@ impl fmt::Display for OpenFault {
             OpenFault::NoMemory => f.write_str("out of memory"),
             OpenFault::Store(error) => write!(f, "{error}"),
             OpenFault::File(error) => write!(f, "{error}"),
+            OpenFault::LogWithoutFile => f.write_str(
+                "there is no such file, but its log, whose name ends in -wal, is there: put the file back, or move the log away",
+            ),
             OpenFault::NotALedger => f.write_str("the database is not a ledger's"),
             OpenFault::BadSettings => f.write_str("the first row has no settings"),
             OpenFault::OtherVersion(version) => {

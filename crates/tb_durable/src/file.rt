@@ -8,6 +8,7 @@ ghost use Rattle.sqlite_trees.specs.Objects.{catalog_tree};
 ghost use Rattle.sqlite.specs.State.{HasCleanDisk};
 ghost use Rattle.sqlite.specs.Start.{FindsIn};
 ghost use Rattle.sqlite.specs.Files.{file_state, IsBlankAs, IsOpened};
+ghost use Rattle.tb_durable.specs.claim.Durable.{LeavesNothingNew};
 ghost use Rattle.tb_durable.specs.clauses.Opened.{IsLedger, IsOpenedOn, IsPrepared, IsRefusal, MakesTable, is_of_file, is_of_opening, is_of_table, objects_in};
 ghost use Rattle.tb_durable.specs.declared.fault.OpenFault.TheVariants.{NoMemory as NoMemoryFault};
 
@@ -20,6 +21,7 @@ use sqlite_trees::store::{Alter, Shape, Store};
 use sqlite_value::row::Row;
 use sqlite_value::value::ValueRef;
 use std::alloc::Global;
+use std::fs;
 use std::hash::{BuildHasher, RandomState};
 
 /// The table of the ledger, in a file and its log.
@@ -27,6 +29,9 @@ pub type LedgerFile = FileStore<File>;
 
 const CREATE_TABLE: &str =
     "CREATE TABLE entry (place INTEGER PRIMARY KEY, operation INTEGER NOT NULL, moment INTEGER NOT NULL, stubs BLOB NOT NULL, body BLOB NOT NULL) STRICT";
+
+/// The bytes of a page. A shorter log has none.
+const PAGE: u64 = 4096;
 
 /// The log has this number of pages of 4 KiB, at most 400 MB, before it is copied into the file, which takes more syncs.
 const LOG_PAGES: usize = 100_000;
@@ -88,6 +93,23 @@ fn log_options(rt: &HostRuntime) -> Result<Options, OpenFault>
     })
 }
 
+/// Refuses a path at which there is no file, but a log with a page: a file that was made there would take it for its own and write over
+/// it.
+fn refuse_lone_log(rt: &HostRuntime, path: &str) -> Result<(), OpenFault>
+    ensures fault { IfErr result (λ fault. IsTrue (is_of_file fault)) }
+{
+    if !matches!(fs::exists(rt, path), Ok(false)) {
+        return Ok(());
+    }
+    let Ok(log) = format!(in rt.alloc(); "{path}-wal") else {
+        return Err(OpenFault::NoMemory);
+    };
+    if matches!(fs::metadata(rt, log.as_str()), Ok(log) if log.len() > PAGE) {
+        return Err(OpenFault::LogWithoutFile);
+    }
+    Ok(())
+}
+
 /// Opens and locks the file at a path and its log.
 fn connect<S: Start>(
     rt: &HostRuntime,
@@ -126,8 +148,8 @@ fn connect<S: Start>(
 ///
 /// # Errors
 ///
-/// `File` if the path can't be opened, another process has the file open, or it is no sound database. `NotALedger` if the
-/// database has another table. `Store` if the table can't be made.
+/// `File` if the path can't be opened, another process has the file open, or it is no sound database. `LogWithoutFile` if only the
+/// log is there. `NotALedger` if the database has another table. `Store` if the table can't be made.
 pub fn open_file(rt: &HostRuntime, path: &str) -> Result<LedgerFile, OpenFault>
     ensures opened { IfOk result (λ store. IsTrue (file.view store).is_open
         → (log : List ℕ) × (db : List ℕ) × IsOpenedOn log db (file.view store)) }
@@ -146,8 +168,25 @@ pub fn open_file_from<S: Start>(
     ensures opened { IfOk result (λ store. IsTrue (file.view store).is_open → IsOpenedOn S.Start.log S.Start.db (file.view store)) }
     ensures fault { IfErr result (λ fault. IsTrue (is_of_opening fault)) }
 {
+    refuse_lone_log(rt, path)?;
     let conn = connect(rt, path, start)?;
     store_of(rt.alloc(), conn)
+}
+
+/// Copies the log of a ledger's file into the file, so that the file has all that was committed and may be copied or moved without the
+/// log. The ledger does so by itself only when the log is long, and dropping it doesn't. It costs a write and a sync of each page that was
+/// changed since the last copy.
+///
+/// # Errors
+///
+/// The error of the store. What was committed stays in the file and its log.
+pub fn copy_log<S: Start>(store: &mut FileStore<FileFrom<S>>) -> Result<(), StoreError>
+    ensures same { IsTrue (file.view store.new).is_open → file.view store.new ≡ file.view store.old }
+    ensures open { OnOk result (IsClean (file.view store.new) → IsTrue (file.view store.new).is_open) }
+    ensures crash { LeavesNothingNew (file.recovers store.old) (file.recovers store.new) }
+    ensures clean { doubt (file.view store.old).is_clean ≤ doubt (file.view store.new).is_clean }
+{
+    store.checkpoint()
 }
 
 /// Returns the store, with the table of a ledger.

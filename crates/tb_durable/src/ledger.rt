@@ -12,7 +12,7 @@ ghost use Rattle.tb_durable.specs.inside.Storing.{StoresRow};
 
 use crate::counts::PacketCounts;
 use crate::fault::OpenFault;
-use crate::reading::read_ledger;
+use crate::reading::{read_first, read_ledger};
 use crate::settings::Settings;
 use crate::table::{NotStored, Table, no_memory};
 use sqlite_trees::error::StoreError;
@@ -86,11 +86,11 @@ fn store_batch<S: Store>(
 }
 
 impl<S: Store + Drop> DurableLedger<S> {
-    ghost use Rattle.std.specs.Prelude.{List, None};
+    ghost use Rattle.std.specs.Prelude.{List, None, Ok, true, [], length};
     ghost use Rattle.tb_core.specs.declared.parcel.Parcel.TheVariants as parcel;
     ghost use Rattle.tb_core.specs.claim.BareLedger.{halts, with_journal};
     ghost use Rattle.tb_core.specs.claim.Journal.{LedgerState};
-    ghost use Rattle.tb_durable.specs.claim.Durable.{IsJournal, IsStored, groups_of, opened_rows};
+    ghost use Rattle.tb_durable.specs.claim.Durable.{IsJournal, IsStored, LeavesNothingNew, groups_of, opened_rows};
     ghost use Rattle.tb_durable.specs.clauses.Parcels.{AppliesInFile};
     ghost use Rattle.tb_durable.specs.clauses.Runs.{ShowsJournal};
     ghost use Rattle.tb_durable.specs.clauses.Entries.{BeginsWithSettings, CanBeOpened, HasEntries, IsFailure, IsInFile, IsLedgerFile, LeavesSettings};
@@ -98,6 +98,29 @@ impl<S: Store + Drop> DurableLedger<S> {
     ghost use Rattle.tb_durable.specs.inside.Storing.{Finishes};
     ghost use Rattle.tb_durable.specs.declared.counts.PacketCounts.{PacketCounts as Counts};
     ghost use Rattle.tb_durable.specs.claim.Recovery.{RecoversFromCrashes};
+
+    /// Returns whether the table of a store has a row. If it has none, `over` begins a new ledger. Reads at most one row, and writes
+    /// nothing. The store comes with the result.
+    ///
+    /// # Errors
+    ///
+    /// `Store` or `NoMemory`, if the row can't be read.
+    pub fn has_rows(alloc: Global, store: S) -> (Result<bool, OpenFault>, S)
+        ensures some { result.0 ≡ Ok true → IsClean (S.Store.view result.1) → 0 < length ((S.Store.view result.1).committed 0) }
+        ensures none { result.0 ≡ Ok false → IsClean (S.Store.view result.1) → (S.Store.view result.1).committed 0 ≡ [] }
+        ensures same { OnOk result.0 (IsClean (S.Store.view result.1)
+            → (S.Store.view result.1).committed ≡ (S.Store.view store).committed) }
+        ensures failure { IfErr result.0 IsFailure }
+        ensures crash { LeavesNothingNew (S.Store.recovers store) (S.Store.recovers result.1) }
+    {
+        let mut table = Table {
+            store,
+            row: Row::new(alloc),
+            alloc,
+        };
+        let read = read_first(&mut table);
+        (read, table.into_store())
+    }
 
     /// Opens the ledger of a store. If its table is empty, the ledger is new, and the given settings are stored. Otherwise
     /// the ledger has the settings that are stored, and all rows are applied. It costs as much as applying them did.

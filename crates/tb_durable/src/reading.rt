@@ -49,7 +49,7 @@ fn settings_of(row: &Row) -> Result<Settings, OpenFault>
 }
 
 /// Reads the first row, if there is one.
-fn read_first<S: Store>(table: &mut Table<S>) -> Result<bool, OpenFault>
+pub(crate) fn read_first<S: Store>(table: &mut Table<S>) -> Result<bool, OpenFault>
     ensures fault { IfErr result (λ fault. (rows : List Row) → IsCause rows fault) }
     ensures failure { IfErr result IsFailure }
     ensures row { result ≡ Ok true → IsClean (S.Store.view table.new.store)

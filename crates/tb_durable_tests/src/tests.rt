@@ -120,6 +120,15 @@ fn facts(ledger: &DurableLedger<MemStore>) -> Option<[u128; 4]> {
 }
 
 #[test]
+fn a_table_has_rows_once_its_ledger_was_opened(rt: HostRuntime) {
+    let (has_rows, store) = DurableLedger::has_rows(rt.alloc(), empty_store(&rt));
+    check!(&rt; has_rows == Ok(false));
+    let (has_rows, store) = DurableLedger::has_rows(rt.alloc(), opened(&rt, store).into_store());
+    check!(&rt; has_rows == Ok(true));
+    drop(store);
+}
+
+#[test]
 fn opened_again_after_a_largest_batch_and_a_pulse(rt: HostRuntime) {
     let mut ledger = opened(&rt, empty_store(&rt));
     check!(&rt; commit(&rt, &mut ledger, batch_of(&rt, 15, 0, two_accounts(&rt))) == 0);

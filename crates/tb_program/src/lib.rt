@@ -12,6 +12,6 @@ mod run;
 mod state;
 
 pub use list::{Line, list_output, operations_of, put_lines, run_script};
-pub use run::{RunOver, run_output, run_over, run_threads};
+pub use run::{RunOver, lacks_memory, run_output, run_over, run_threads};
 pub use state::put_state;
 pub use tb_program_text::{Output, ProgramFault};

@@ -77,6 +77,7 @@ fn output_for(alloc: Global, script: Script) -> Result<Output, NoMemory>
         faultless: true,
         remark: String::new(alloc),
         operations,
+        lacks_memory: false,
     })
 }
 

@@ -127,6 +127,21 @@ fn text_for<T: Threads + Wait + Clock + Sync>(
     }
 }
 
+/// Returns whether memory ran out for a packet, or in the front, which passes nothing on from then on, by the lines of packets.
+pub fn lacks_memory(lines: &str) -> bool {
+    lines.as_bytes().split(|byte| *byte == b'\n').any(|line| line.ends_with(b" stopped")
+        || line.ends_with(b" refused 6 NoMemory"))
+}
+
+/// Returns how many lines are of pulses. One that a pipeline left out, since it stopped, has none.
+fn pulses_in(lines: &str) -> usize {
+    lines
+        .as_bytes()
+        .split(|byte| *byte == b'\n')
+        .filter(|line| line.starts_with(b"pulse "))
+        .count()
+}
+
 /// Returns the output for a script that has no fault.
 fn output_for<T: Threads + Wait + Clock + Sync>(
     rt: &T,
@@ -140,11 +155,15 @@ fn output_for<T: Threads + Wait + Clock + Sync>(
     let ScriptParts { settings, items } = script.finish()?;
     let shares = share_out(alloc, settings.submitters(), items)?;
     let operations = operations_shared(alloc, &shares.packets)?;
+    let pulses = shares.lines.moments.len();
+    let text = text_for(rt, alloc, &settings, shares)?;
+    let lacks_memory = lacks_memory(text.as_str()) || pulses_in(text.as_str()) < pulses;
     Ok(Output {
-        text: text_for(rt, alloc, &settings, shares)?,
+        text,
         faultless: true,
         remark: String::new(alloc),
         operations,
+        lacks_memory,
     })
 }
 

@@ -6,7 +6,7 @@ ghost use Rattle.tb_program_text.specs.clauses.Ending.{ending_of, remark_of, sta
 use crate::program_fault::ProgramFault;
 
 const HELP: &str =
-    "usage: tbpipe list|run [--names] [--strict] [--journal FILE] < SCRIPT\n       tbpipe replay FILE\n\nCommits the packets of a script to a ledger, and prints the result of each. The ledger is in memory, or in a file.\n\n  list            in one thread\n  run             in a pipeline with a thread for each submitter\n  replay          prints the clock and the accounts of the ledger in a file\n  --journal FILE  commits to the ledger in a file, and continues it; the file is made if it isn't there\n  --names         prints the name of each failure's code after it, as 1:22:credit_account_not_found\n  --strict        ends with status 1 if a packet or pulse was refused or an event failed, and says how many\n  --help          prints this\n  --version       prints the version and the kit that proved it\n\nScripts and output: docs/FORMATS.md; files: docs/DURABLE.md; tools/name-codes names the codes of a saved output. The exit\nstatus is 0, or 1 for a faulty script, other arguments or other settings than the file's, or 2 if the program failed.\n";
+    "usage: tbpipe list|run [--names] [--strict] [--journal FILE] < SCRIPT\n       tbpipe replay FILE\n\nCommits the packets of a script to a ledger, and prints the result of each. The ledger is in memory, or in a file.\n\n  list            in one thread\n  run             in a pipeline with a thread for each submitter\n  replay          prints the clock and the accounts of the ledger in a file\n  --journal FILE  commits to the ledger in a file, and continues it; the file is made if it isn't there\n  --names         prints the name of each failure's code after it, as 1:22:credit_account_not_found\n  --strict        ends with status 1 unless all is committed and no event failed, and says what isn't\n  --help          prints this\n  --version       prints the version and the kit that proved it\n\nScripts and output: docs/FORMATS.md; files: docs/DURABLE.md; tools/name-codes names the codes of a saved output. The exit\nstatus is 0, or 1 for a faulty script, other arguments or other settings than the file's, or 2 if the program failed.\n";
 
 const VERSION: &str = "tbpipe 0.1.0\nrattle-kit-13b logic dac8208d650f15bf\n";
 
@@ -15,8 +15,10 @@ const VERSION: &str = "tbpipe 0.1.0\nrattle-kit-13b logic dac8208d650f15bf\n";
 pub enum Ending {
     Done,
     FaultyScript,
-    /// A packet or pulse was refused, or an event failed, and none might.
+    /// A packet or pulse was refused, an event failed, or a packet isn't committed, and none might.
     NotAllSucceeded,
+    /// Memory ran out in a run. Its output says which packets aren't committed.
+    NotAllCommitted,
     Help,
     Version,
     Usage,
@@ -42,7 +44,7 @@ impl Ending {
         match self {
             Ending::Done | Ending::Help | Ending::Version => 0,
             Ending::FaultyScript | Ending::NotAllSucceeded | Ending::Usage => 1,
-            Ending::Failed(_) => 2,
+            Ending::NotAllCommitted | Ending::Failed(_) => 2,
         }
     }
 
@@ -60,6 +62,9 @@ impl Ending {
             Ending::Usage => {
                 "give list or run, options after it, and the script on standard input, as in `tbpipe list < SCRIPT`, or replay and a file; --help says more"
             }
+            Ending::NotAllCommitted => {
+                "memory ran out: no packet whose line says stopped or refused is committed, and pulses may be left out"
+            }
             Ending::Failed(ProgramFault::Read) => "standard input can't be read to its end",
             Ending::Failed(ProgramFault::Write) => {
                 "standard output can't be written, so a part of the output is missing: is the disk full, or the pipe closed?"
@@ -74,7 +79,10 @@ impl Ending {
         ensures { result.now ≡ text_of self.now }
     {
         match self {
-            Ending::Done | Ending::FaultyScript | Ending::NotAllSucceeded => "",
+            Ending::Done
+            | Ending::FaultyScript
+            | Ending::NotAllSucceeded
+            | Ending::NotAllCommitted => "",
             Ending::Help => HELP,
             Ending::Version => VERSION,
             Ending::Usage => "usage: tbpipe list|run\n",

@@ -3,7 +3,7 @@
 ghost use Rattle.std.specs.Prelude.{◌≡◌, ◌++◌, codes, drop, IfOk, OnOk, count_by};
 ghost use Rattle.std.specs.List.{flat_map};
 ghost use Rattle.tb_program_text.specs.clauses.Text.{words_of};
-ghost use Rattle.tb_program_text.specs.clauses.Naming.{code_in, failed_in, first_operation, name_of, named_line, named_text, named_word, named_words, refused_in};
+ghost use Rattle.tb_program_text.specs.clauses.Naming.{code_in, failed_in, first_operation, name_of, named_line, named_text, named_word, named_words, refused_in, uncommitted_in};
 
 use crate::number::number_within;
 use crate::text::{first_word, length_before, split_line};
@@ -126,6 +126,8 @@ pub struct Tally {
     pub refused: usize,
     /// The events that failed.
     pub failed: usize,
+    /// The packets that were queued and aren't committed: their replies say Shutdown or Stopped.
+    pub uncommitted: usize,
 }
 
 /// Returns how many events failed.
@@ -146,13 +148,24 @@ fn refused_in(text: &[u8]) -> usize
         .count()
 }
 
+/// Returns how many packets were queued and aren't committed.
+fn uncommitted_in(text: &[u8]) -> usize
+    ensures { result ≡ uncommitted_in text.now }
+{
+    text.split(|byte| *byte == b' ' || *byte == b'\n')
+        .filter(|word| *word == b"shutdown".as_slice() || *word == b"stopped".as_slice())
+        .count()
+}
+
 /// Returns how much failed by the text of an output, which has no names.
 pub fn tally_of(text: &[u8]) -> Tally
     ensures refused { result.refused ≡ refused_in text.now }
     ensures failed { result.failed ≡ failed_in text.now }
+    ensures uncommitted { result.uncommitted ≡ uncommitted_in text.now }
 {
     Tally {
         refused: refused_in(text),
         failed: failed_in(text),
+        uncommitted: uncommitted_in(text),
     }
 }

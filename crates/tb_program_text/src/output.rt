@@ -26,6 +26,8 @@ pub struct Output {
     pub remark: String,
     /// The operation of each of the first lines that is a packet's, and any number for another line. Of a faulty script there is none.
     pub operations: Vec<u8>,
+    /// Whether memory ran out in a run, so that a packet or a pulse isn't committed.
+    pub lacks_memory: bool,
 }
 
 impl Output {
@@ -40,6 +42,7 @@ impl Output {
             faultless: false,
             remark: faulty.remark,
             operations: Vec::new(alloc),
+            lacks_memory: false,
         }
     }
 

@@ -210,7 +210,7 @@ impl FaultyLine<'_> {
                 let most = most_of(size);
                 write!(
                     out,
-                    " gives a field a second time, or a number that isn't 0 to {most}"
+                    " gives a field a second time, or a number that isn't 0 to {most} in at most 39 digits"
                 )
             }
             None => write!(out, " isn't FIELD=N with one of the fields {fields}"),

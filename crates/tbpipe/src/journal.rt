@@ -22,7 +22,7 @@ use std::sync::Wait;
 use std::thread::Threads;
 use std::time::Clock;
 use tb_core::Seed;
-use tb_durable::{DurableLedger, Settings, open_file};
+use tb_durable::{DurableLedger, LedgerFile, Settings, open_file};
 use tb_layout::BATCH_MAX;
 use tb_program::{Output, put_state};
 use tb_program_text::{FaultyScript, ScriptParts, Settings as ScriptSettings, Source, read_source};
@@ -34,11 +34,36 @@ const NEW: Settings = Settings {
     submitters: 2,
 };
 
-/// What is written of a script, and why the ledger stopped, if it did.
-#[derive(Drop)]
-pub(crate) struct Journaled {
+/// What is written of a script, why the ledger stopped, if it did, and the ledger's store. Of a faulty script none is opened.
+pub(crate) struct Journaled<S: Store> {
     pub(crate) output: Output,
     pub(crate) stop: Option<JournalFault>,
+    pub(crate) store: Option<S>,
+}
+
+impl<S: Store + Drop> Drop for Journaled<S> {
+    /// Frees everything held in one call, so that no owner's proof repeats it.
+    fn drop(self) {
+        let Journaled {
+            output,
+            stop: _,
+            store,
+        } = self;
+        drop(output);
+        drop(store);
+    }
+}
+
+impl<S: Store + Drop> Journaled<S> {
+    /// Returns the parts, of which the first is written.
+    pub(crate) fn into_parts(self) -> (Output, Option<JournalFault>, Option<S>) {
+        let Journaled {
+            output,
+            stop,
+            store,
+        } = self;
+        (output, stop, store)
+    }
 }
 
 /// Opens the ledger of a store, or makes it with these settings.
@@ -97,15 +122,19 @@ fn open_for<S: Store + Drop>(
 }
 
 /// Returns what is written of a faulty script, of which nothing is committed.
-fn of_faulty(alloc: Global, faulty: FaultyScript) -> Journaled {
+fn of_faulty(alloc: Global, faulty: FaultyScript) -> Journaled<LedgerFile> {
     Journaled {
         output: Output::of_faulty(alloc, faulty),
         stop: None,
+        store: None,
     }
 }
 
 /// Reads a script and commits it to the ledger at a path, in its order. Returns what is written of it, as `tb_program::list_output` does.
-pub(crate) fn list_into(rt: &HostRuntime, path: &str) -> Result<Journaled, JournalFault> {
+pub(crate) fn list_into(
+    rt: &HostRuntime,
+    path: &str,
+) -> Result<Journaled<LedgerFile>, JournalFault> {
     match read_source(rt.alloc(), &mut rt.reader())? {
         Source::Faulty(faulty) => Ok(of_faulty(rt.alloc(), faulty)),
         Source::Script(script) => {
@@ -121,7 +150,7 @@ pub(crate) fn run_into<T: Threads + Wait + Clock + Sync>(
     rt: &HostRuntime,
     threads: &T,
     path: &str,
-) -> Result<Journaled, JournalFault> {
+) -> Result<Journaled<LedgerFile>, JournalFault> {
     match read_source(rt.alloc(), &mut rt.reader())? {
         Source::Faulty(faulty) => Ok(of_faulty(rt.alloc(), faulty)),
         Source::Script(script) => {
@@ -131,15 +160,51 @@ pub(crate) fn run_into<T: Threads + Wait + Clock + Sync>(
     }
 }
 
-/// Returns the clock and the accounts of the ledger at a path, as lines. Only a file that isn't empty is opened, so that none is made.
-pub(crate) fn replay(rt: &HostRuntime, path: &str) -> Result<String, JournalFault> {
-    if matches!(fs::exists(rt, path), Ok(false)) {
-        return Err(JournalFault::NoFile);
-    }
-    if matches!(fs::metadata(rt, path), Ok(file) if file.len() == 0) {
+/// The bytes of a page. A file of one page has no table, and a shorter log has no page.
+const PAGE: u64 = 4096;
+
+/// Refuses a path at which there is no ledger, before anything is written there. A file of one page has its tables in its log: without
+/// that it is what was left of a ledger whose log was moved away.
+fn refuse_without_ledger(rt: &HostRuntime, path: &str) -> Result<(), JournalFault> {
+    let Ok(file) = fs::metadata(rt, path) else {
+        let is_missing = matches!(fs::exists(rt, path), Ok(false));
+        return if is_missing {
+            Err(JournalFault::NoFile)
+        } else {
+            Ok(())
+        };
+    };
+    if file.len() == 0 {
         return Err(JournalFault::EmptyFile);
     }
-    let ledger = open(rt.alloc(), open_file(rt, path)?, NEW)?;
+    let log = format!(in rt.alloc(); "{path}-wal")?;
+    let has_log = matches!(fs::metadata(rt, log.as_str()), Ok(log) if log.len() > PAGE);
+    if file.len() <= PAGE && !has_log {
+        return Err(JournalFault::NoLedger);
+    }
+    Ok(())
+}
+
+/// Opens the ledger of a store that has one. A table without rows was made by a script that was never begun.
+fn reopen<S: Store + Drop>(alloc: Global, store: S) -> Result<DurableLedger<S>, JournalFault> {
+    let (has_rows, store) = DurableLedger::has_rows(alloc, store);
+    match has_rows {
+        Ok(true) => open(alloc, store, NEW),
+        Ok(false) => {
+            drop(store);
+            Err(JournalFault::NoLedger)
+        }
+        Err(fault) => {
+            drop(store);
+            Err(JournalFault::Open(fault))
+        }
+    }
+}
+
+/// Returns the clock and the accounts of the ledger at a path, as lines. No ledger is made.
+pub(crate) fn replay(rt: &HostRuntime, path: &str) -> Result<String, JournalFault> {
+    refuse_without_ledger(rt, path)?;
+    let ledger = reopen(rt.alloc(), open_file(rt, path)?)?;
     let mut out = String::new(rt.alloc());
     let put = put_state(&mut out, ledger.machine());
     drop(ledger);

@@ -17,6 +17,7 @@ use std::sync::Wait;
 use std::thread::Threads;
 use std::time::Clock;
 use std::{env, io};
+use tb_durable::{LedgerFile, copy_log};
 use tb_program::{Output, list_output, run_output};
 use tb_program_text::{
     Ending, FilePath, Options, ProgramFault, Request, Tally, request_of, tally_of, write_bytes,
@@ -47,7 +48,8 @@ fn write_text(rt: &HostRuntime, options: &Options, output: &Output) -> Result<()
     }
 }
 
-/// Returns how the program ends after a script whose output is written. Under `--strict`, it says how much failed, if anything did.
+/// Returns how the program ends after a script whose output is written. Under `--strict`, it says how much isn't committed and how much
+/// failed, if anything did.
 fn judge(rt: &HostRuntime, options: &Options, output: &Output) -> Ending {
     if !output.faultless {
         tell(rt, &output.remark);
@@ -56,11 +58,17 @@ fn judge(rt: &HostRuntime, options: &Options, output: &Output) -> Ending {
     if !options.strict {
         return Ending::Done;
     }
-    let Tally { refused, failed } = tally_of(output.text.as_bytes());
-    if refused == 0 && failed == 0 {
+    let Tally {
+        refused,
+        failed,
+        uncommitted,
+    } = tally_of(output.text.as_bytes());
+    if refused == 0 && failed == 0 && uncommitted == 0 {
         return Ending::Done;
     }
-    let _ = eprintln!(rt; "tbpipe: refused packets and pulses: {refused}, failed events: {failed}");
+    let _ = eprintln!(rt;
+        "tbpipe: refused packets and pulses: {refused}, failed events: {failed}, packets not committed: {uncommitted}"
+    );
     Ending::NotAllSucceeded
 }
 
@@ -80,17 +88,44 @@ fn print(rt: &HostRuntime, options: &Options, made: Result<Output, ProgramFault>
     }
 }
 
+/// Prints what was made of a run in memory. Returns how the program ends: not as if all were well if its pipeline stopped.
+fn print_run(rt: &HostRuntime, options: &Options, made: Result<Output, ProgramFault>) -> Ending {
+    match made {
+        Ok(output) => match print_output(rt, options, &output) {
+            Ending::Done | Ending::NotAllSucceeded if output.lacks_memory => {
+                Ending::NotAllCommitted
+            }
+            ending => ending,
+        },
+        Err(fault) => Ending::Failed(fault),
+    }
+}
+
+/// Copies the log of a ledger's file into the file, so that the file by itself has all that is committed. A failure loses nothing, and
+/// is only told.
+fn finish_file(rt: &HostRuntime, store: LedgerFile) {
+    let mut store = store;
+    if let Err(error) = copy_log(&mut store) {
+        let _ = eprintln!(rt;
+            "tbpipe: all is committed, but the log isn't copied into the file, so keep both together: {error}"
+        );
+    }
+}
+
 /// Prints what was made of a script that was committed to a file. Returns how the program ends. An output that fails then doesn't undo
 /// what is committed.
 fn print_journaled(
     rt: &HostRuntime,
     options: &Options,
-    made: Journaled,
+    made: Journaled<LedgerFile>,
 ) -> Result<Ending, JournalFault> {
-    let Journaled { output, stop } = made;
+    let (output, stop, store) = made.into_parts();
     let ending = print_output(rt, options, &output);
     if let Some(stop) = stop {
         return Err(stop);
+    }
+    if let Some(store) = store {
+        finish_file(rt, store);
     }
     match ending {
         Ending::Failed(ProgramFault::Write) if output.faultless => {
@@ -117,7 +152,7 @@ fn run<T: Threads + Wait + Clock + Sync>(
         Some(path) => print_journaled(rt, options, run_into(rt, threads, path.as_str())?),
         None => {
             let made = run_output(threads, rt.alloc(), &mut rt.reader());
-            Ok(print(rt, options, made))
+            Ok(print_run(rt, options, made))
         }
     }
 }
@@ -127,22 +162,6 @@ fn print_ledger(rt: &HostRuntime, path: &FilePath) -> Result<Ending, JournalFaul
     let text = replay(rt, path.as_str())?;
     write_out(&mut io::writer(rt), &text)?;
     Ok(Ending::Done)
-}
-
-/// Does what the arguments ask for. Returns how the program ends. Only `main` has a runtime with threads, so they come apart.
-fn answer<T: Threads + Wait + Clock + Sync>(
-    rt: &HostRuntime,
-    threads: &T,
-) -> Result<Ending, JournalFault> {
-    match read_arguments(rt) {
-        Ok(Request::List(options)) => list(rt, &options),
-        Ok(Request::Run(options)) => run(rt, threads, &options),
-        Ok(Request::Replay(path)) => print_ledger(rt, &path),
-        Ok(Request::Help) => Ok(Ending::Help),
-        Ok(Request::Version) => Ok(Ending::Version),
-        Ok(Request::Usage) => Ok(Ending::Usage),
-        Err(fault) => Ok(Ending::Failed(fault)),
-    }
 }
 
 /// Prints the last line, says what is to be said, and returns the status.
@@ -159,12 +178,41 @@ fn end(rt: &HostRuntime, ending: Ending) -> ExitCode {
     ExitCode::from(ending.status())
 }
 
-fn main(rt: HostRuntime) -> ExitCode {
-    match answer(&rt, &rt) {
-        Ok(ending) => end(&rt, ending),
-        Err(fault) => {
+/// Ends after what was done with a ledger in the file at a path, or in memory if there is none. Returns the status.
+fn end_with(
+    rt: &HostRuntime,
+    path: Option<&FilePath>,
+    done: Result<Ending, JournalFault>,
+) -> ExitCode {
+    match (done, path) {
+        (Ok(ending), _) => end(rt, ending),
+        (Err(fault), Some(path)) => {
+            let path = path.as_str();
+            let _ = eprintln!(rt; "tbpipe: {path}: {fault}");
+            ExitCode::from(fault.status())
+        }
+        (Err(fault), None) => {
             let _ = eprintln!(rt; "tbpipe: {fault}");
             ExitCode::from(fault.status())
         }
     }
+}
+
+/// Does what the arguments ask for. Returns the status. Only `main` has a runtime with threads, so they come apart.
+fn answer<T: Threads + Wait + Clock + Sync>(rt: &HostRuntime, threads: &T) -> ExitCode {
+    match read_arguments(rt) {
+        Ok(Request::List(options)) => end_with(rt, options.journal.as_ref(), list(rt, &options)),
+        Ok(Request::Run(options)) => {
+            end_with(rt, options.journal.as_ref(), run(rt, threads, &options))
+        }
+        Ok(Request::Replay(path)) => end_with(rt, Some(&path), print_ledger(rt, &path)),
+        Ok(Request::Help) => end(rt, Ending::Help),
+        Ok(Request::Version) => end(rt, Ending::Version),
+        Ok(Request::Usage) => end(rt, Ending::Usage),
+        Err(fault) => end(rt, Ending::Failed(fault)),
+    }
+}
+
+fn main(rt: HostRuntime) -> ExitCode {
+    answer(&rt, &rt)
 }

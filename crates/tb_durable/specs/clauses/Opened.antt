@@ -53,10 +53,11 @@ IsRefusal trees fault.NotALedger = ¬ IsLedger (objects_in trees)
 IsRefusal trees (fault.Store error) = trees catalog_tree ≡ []
 IsRefusal trees other = ⊥
 
--- whether a fault is of the file, whose path isn't opened or which is no sound database
+-- whether a fault is of the file, whose path isn't opened, whose log is there without it, or which is no sound database
 abbrev pub is_of_file : OpenFault → Bool
 is_of_file fault.NoMemory = true
 is_of_file (fault.File error) = true
+is_of_file fault.LogWithoutFile = true
 is_of_file other = false
 
 -- whether it is of the tables

@@ -3,7 +3,7 @@ use Rattle.std.specs.Prelude.{ℕ, Bool, true, false, List, [], Result, Ok, Err,
 use Rattle.tb_program_text.specs.declared.program_fault.ProgramFault.{ProgramFault}
 use Rattle.tb_program_text.specs.declared.program_fault.ProgramFault.TheVariants.{Read, Write, NoMemory, NoThread}
 use Rattle.tb_program_text.specs.declared.ending.Ending.{Ending}
-use Rattle.tb_program_text.specs.declared.ending.Ending.TheVariants.{Done, FaultyScript, NotAllSucceeded, Help, Version, Usage, Failed}
+use Rattle.tb_program_text.specs.declared.ending.Ending.TheVariants.{Done, FaultyScript, NotAllSucceeded, NotAllCommitted, Help, Version, Usage, Failed}
 
 abbrev pub ending_of : Result Bool ProgramFault → Ending
 ending_of (Ok true) = Done
@@ -14,6 +14,7 @@ abbrev pub status_of : Ending → ℕ
 status_of Done = 0
 status_of FaultyScript = 1
 status_of NotAllSucceeded = 1
+status_of NotAllCommitted = 2
 status_of Help = 0
 status_of Version = 0
 status_of Usage = 1
@@ -29,8 +30,9 @@ abbrev pub text_of : Ending → List ℕ
 text_of Done = []
 text_of FaultyScript = []
 text_of NotAllSucceeded = []
+text_of NotAllCommitted = []
 text_of Help = codes
-    "usage: tbpipe list|run [--names] [--strict] [--journal FILE] < SCRIPT\n       tbpipe replay FILE\n\nCommits the packets of a script to a ledger, and prints the result of each. The ledger is in memory, or in a file.\n\n  list            in one thread\n  run             in a pipeline with a thread for each submitter\n  replay          prints the clock and the accounts of the ledger in a file\n  --journal FILE  commits to the ledger in a file, and continues it; the file is made if it isn't there\n  --names         prints the name of each failure's code after it, as 1:22:credit_account_not_found\n  --strict        ends with status 1 if a packet or pulse was refused or an event failed, and says how many\n  --help          prints this\n  --version       prints the version and the kit that proved it\n\nScripts and output: docs/FORMATS.md; files: docs/DURABLE.md; tools/name-codes names the codes of a saved output. The exit\nstatus is 0, or 1 for a faulty script, other arguments or other settings than the file's, or 2 if the program failed.\n"
+    "usage: tbpipe list|run [--names] [--strict] [--journal FILE] < SCRIPT\n       tbpipe replay FILE\n\nCommits the packets of a script to a ledger, and prints the result of each. The ledger is in memory, or in a file.\n\n  list            in one thread\n  run             in a pipeline with a thread for each submitter\n  replay          prints the clock and the accounts of the ledger in a file\n  --journal FILE  commits to the ledger in a file, and continues it; the file is made if it isn't there\n  --names         prints the name of each failure's code after it, as 1:22:credit_account_not_found\n  --strict        ends with status 1 unless all is committed and no event failed, and says what isn't\n  --help          prints this\n  --version       prints the version and the kit that proved it\n\nScripts and output: docs/FORMATS.md; files: docs/DURABLE.md; tools/name-codes names the codes of a saved output. The exit\nstatus is 0, or 1 for a faulty script, other arguments or other settings than the file's, or 2 if the program failed.\n"
 text_of Version = codes "tbpipe 0.1.0\nrattle-kit-13b logic dac8208d650f15bf\n"
 text_of Usage = codes "usage: tbpipe list|run\n"
 text_of (Failed fault) = fault_text fault
@@ -40,6 +42,8 @@ abbrev pub remark_of : Ending → List ℕ
 remark_of Done = []
 remark_of FaultyScript = []
 remark_of NotAllSucceeded = []
+remark_of NotAllCommitted = codes
+    "memory ran out: no packet whose line says stopped or refused is committed, and pulses may be left out"
 remark_of Help = []
 remark_of Version = []
 remark_of Usage = codes

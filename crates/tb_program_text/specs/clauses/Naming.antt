@@ -72,3 +72,8 @@ failed_in text = count_by (λ word. is_some (code_in word)) (all_words text)
 -- the packets and pulses that were refused
 abbrev pub refused_in : List ℕ → ℕ
 refused_in text = count_by (λ word. bytes_eq word (codes "refused")) (all_words text)
+
+-- the packets that were queued and aren't committed
+abbrev pub uncommitted_in : List ℕ → ℕ
+uncommitted_in text =
+    count_by (λ word. bytes_eq word (codes "shutdown") || bytes_eq word (codes "stopped")) (all_words text)

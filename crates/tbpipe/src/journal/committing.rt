@@ -175,7 +175,10 @@ impl<S: Store + Drop> Committing<S> {
     }
 
     /// Takes all items and commits what is held at last.
-    pub(crate) fn commit_all(mut self, items: Vec<ScriptItem>) -> Result<Journaled, JournalFault> {
+    pub(crate) fn commit_all(
+        mut self,
+        items: Vec<ScriptItem>,
+    ) -> Result<Journaled<S>, JournalFault> {
         let operations = operations_of(self.alloc, &items)?;
         for item in items {
             self.take(item)?;
@@ -188,8 +191,31 @@ impl<S: Store + Drop> Committing<S> {
             faultless: true,
             remark: String::new(self.alloc),
             operations,
+            lacks_memory: false,
         };
         let stop = self.stop();
-        Ok(Journaled { output, stop })
+        Ok(Journaled {
+            output,
+            stop,
+            store: Some(self.into_store()),
+        })
+    }
+
+    /// Returns the ledger's store.
+    fn into_store(self) -> S {
+        let Committing {
+            alloc: _,
+            ledger,
+            door,
+            settings: _,
+            numbers: _,
+            lines,
+            replies,
+            is_refused: _,
+        } = self;
+        drop(door);
+        drop(lines);
+        drop(replies);
+        ledger.into_store()
     }
 }

@@ -1,5 +1,6 @@
 //! Why the program couldn't do its work.
 
+use sqlite::{Error as SqliteError, ErrorCode};
 use sqlite_trees::error::StoreError;
 use sqlite_trees::store::Store;
 use std::alloc::{AllocError, AllocFailed};
@@ -9,6 +10,9 @@ use tb_durable::{DurableLedger, OpenFault, Settings};
 use tb_layout::NoMemory;
 use tb_program_text::ProgramFault;
 
+/// What is known of a path that the system doesn't open.
+const CANNOT_OPEN: OpenFault = OpenFault::File(SqliteError::SqliteFailure(ErrorCode::CannotOpen));
+
 /// Why a script or a file wasn't taken, or not to its end.
 #[derive(Clone, Copy, Debug, PartialEq, Eq)]
 pub(crate) enum JournalFault {
@@ -16,6 +20,8 @@ pub(crate) enum JournalFault {
     NoFile,
     /// The file is empty, so there is no ledger in it to replay.
     EmptyFile,
+    /// The file has no ledger to replay: its log was moved away, or no script was ever begun.
+    NoLedger,
     /// The file isn't opened as a ledger.
     Open(OpenFault),
     /// The script gives settings, and the file's ledger has these.
@@ -53,6 +59,12 @@ impl fmt::Display for JournalFault {
         match self {
             JournalFault::NoFile => f.write_str("there is no such file"),
             JournalFault::EmptyFile => f.write_str("the file is empty, and has no ledger"),
+            JournalFault::NoLedger => f.write_str(
+                "the file has no ledger; if its log, whose name ends in -wal, was moved away, put it back",
+            ),
+            JournalFault::Open(CANNOT_OPEN) => f.write_str(
+                "the file isn't opened: it must be a plain file with one name, in a folder that is there, and you must be allowed to write both",
+            ),
             JournalFault::Open(fault) => write!(f, "the file isn't opened: {fault}"),
             JournalFault::OtherSettings(kept) => {
                 let Settings {

@@ -25,6 +25,19 @@ impl<S: Store + Drop> Drop for Noting<S> {
     }
 }
 
+impl<S: Store + Drop> Noting<S> {
+    /// Returns the ledger's store.
+    pub(crate) fn into_store(self) -> S {
+        let Noting {
+            ledger,
+            pulses,
+            lacks_memory: _,
+        } = self;
+        drop(pulses);
+        ledger.into_store()
+    }
+}
+
 impl<S: Store + Drop> AnyLedger for Noting<S> {
     ghost use Rattle.tb_durable.specs.clauses.Entries.{IsInFile};
 

@@ -29,37 +29,34 @@ fn put_pulses(out: &mut String, places: &[u64], refused: u64) -> Result<(), Allo
     Ok(())
 }
 
-/// Returns whether memory ran out for a packet, or in the front, which passes nothing on from then on: a line of a packet says so.
-fn lacks_memory(packets: &str) -> bool {
-    packets.as_bytes().split(|byte| *byte == b'\n').any(|line| line.ends_with(b" stopped")
-        || line.ends_with(b" refused 6 NoMemory"))
-}
-
 /// Returns what is written of a run.
 fn journaled<S: Store + Drop>(
     alloc: Global,
     ran: RunOver<Noting<S>>,
-) -> Result<Journaled, AllocError> {
+) -> Result<Journaled<S>, AllocError> {
     let RunOver {
         ledger,
         packets: mut text,
         operations,
         refused_pulses,
     } = ran;
-    let lacks_memory = ledger.lacks_memory || lacks_memory(text.as_str());
+    let lacks_memory = ledger.lacks_memory || tb_program::lacks_memory(text.as_str());
     put_pulses(&mut text, &ledger.pulses, refused_pulses)?;
     put_state(&mut text, ledger.ledger.machine())?;
+    let stop = match stop_of(&ledger.ledger) {
+        None if lacks_memory => Some(JournalFault::NoMemory),
+        stop => stop,
+    };
     Ok(Journaled {
         output: Output {
             text,
             faultless: true,
             remark: String::new(alloc),
             operations,
+            lacks_memory,
         },
-        stop: match stop_of(&ledger.ledger) {
-            None if lacks_memory => Some(JournalFault::NoMemory),
-            stop => stop,
-        },
+        stop,
+        store: Some(ledger.into_store()),
     })
 }
 
@@ -89,7 +86,7 @@ pub(crate) fn run_script<R: Threads + Wait + Clock + Sync, S: Store + Drop + Sen
     alloc: Global,
     store: S,
     script: ScriptParts,
-) -> Result<Journaled, JournalFault>
+) -> Result<Journaled<S>, JournalFault>
     requires { InBounds script.settings }
 {
     let ledger = open_for(alloc, store, &script.settings)?;

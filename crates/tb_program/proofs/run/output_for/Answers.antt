@@ -20,7 +20,7 @@ returns-clause-text g c =
     let limit : limit_of script.settings ≡ limit_of parsed.settings = ap limit_of is.settings in
     let moments : c.in_ok-shares.shares.lines.moments.items ≡ moments_asked (items_of parsed) = search rules in
     let shuts : c.in_ok-shares.shares.lines.shuts ≡ shuts_in (items_of parsed) = search rules in
-    rw (clock, limit, shares, moments, shuts) at c.in_ok-text_for.ensures
+    rw (clock, limit, shares, moments, shuts) at c.in_ok-text.ensures
 
 pub returns-clause-operations : goal.returns-clause-operations
 returns-clause-operations g c =
