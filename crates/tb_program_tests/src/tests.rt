@@ -13,6 +13,7 @@ mod cases;
 mod codes;
 mod examples;
 mod faults;
+mod printed;
 mod streams;
 
 /// Returns what `list` writes for a script.

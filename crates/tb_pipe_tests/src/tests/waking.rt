@@ -7,9 +7,10 @@ use std::sync::Wait;
 use std::thread;
 use std::thread::Threads;
 use std::time::Clock;
+use tb_core::Ledger;
 use tb_drive::{Action, ControlPlan, Driver};
 use tb_layout::CREATE_ACCOUNTS;
-use tb_pipe::{drive_all, open};
+use tb_pipe::{Finished, Report, drive_all, open};
 use tb_test_makers::check;
 use tb_work::{Refusal, Reply};
 
@@ -81,24 +82,28 @@ impl Driver for WakingSender {
     }
 }
 
-/// Runs a driver for each of the seeds and a control that pulses. Asserts that each driver was given a reply to each packet, and that
-/// all packets and pulses are committed.
-fn assert_replies<R: Threads + Wait + Clock + Sync + Abort>(
+/// Runs a driver for each of the seeds and a control that pulses, over a ledger. Asserts that each driver was given a reply to each packet,
+/// and that all packets and pulses are committed. Returns the ledger.
+fn ledger_after<R: Threads + Wait + Clock + Sync + Abort>(
     rt: &R,
     alloc: Global,
+    ledger: Ledger,
     packets: u32,
     longest: u32,
     credit: u32,
     seeds: u32,
     pulses: u32,
-) {
+) -> Ledger {
+    check!(rt; !ledger.stopped());
+    let places = ledger.places();
     let mut drivers = Vec::new(alloc);
     for seed in 1..=seeds {
         let sender = WakingSender::new(packets, longest, credit, seed);
         drivers.push(sender).expect(rt, "memory");
     }
     let submitters = u32::try_from(drivers.len()).expect(rt, "few drivers");
-    let opened = open(alloc, 0, 4, 8, credit, submitters).expect(rt, "it is opened");
+    let mut opened = open(alloc, 0, 4, 8, credit, submitters).expect(rt, "it is opened");
+    opened.pipeline = opened.pipeline.with_ledger(ledger);
     let mut control = ControlPlan::none(alloc);
     control
         .moments
@@ -112,9 +117,25 @@ fn assert_replies<R: Threads + Wait + Clock + Sync + Abort>(
         check!(rt; driver.replies == packets);
     }
     check!(rt; finished.control.refused == 0);
-    let places = u64::from(packets) * u64::from(seeds) + u64::from(pulses);
-    check!(rt; finished.report.ledger.places() == places);
-    drop(finished);
+    let more = u64::from(packets) * u64::from(seeds) + u64::from(pulses);
+    let Finished { report, .. } = finished;
+    let Report { ledger, .. } = report;
+    check!(rt; ledger.places().wrapping_sub(places) == more);
+    ledger
+}
+
+/// Does the same over a new ledger.
+fn assert_replies<R: Threads + Wait + Clock + Sync + Abort>(
+    rt: &R,
+    alloc: Global,
+    packets: u32,
+    longest: u32,
+    credit: u32,
+    seeds: u32,
+    pulses: u32,
+) {
+    let new = Ledger::new(alloc, 0);
+    drop(ledger_after(rt, alloc, new, packets, longest, credit, seeds, pulses));
 }
 
 /// All threads sleep before most of the packets.
@@ -134,8 +155,10 @@ fn thirty_thousand_packets_of_each_of_two(rt: HostRuntime) {
     assert_replies(&rt, rt.alloc(), 30_000, 0, 4, 2, 0);
 }
 
-/// Each pulse is an entry of the journal, and with a credit of one each packet is too.
+/// Each pulse is an entry of the journal, and with a credit of one each packet is too. A second run goes on with that ledger.
 #[test]
 fn seventy_thousand_pulses_among_a_thousand_packets(rt: HostRuntime) {
-    assert_replies(&rt, rt.alloc(), 1000, 0, 1, 1, 70_000);
+    let new = Ledger::new(rt.alloc(), 0);
+    let ledger = ledger_after(&rt, rt.alloc(), new, 1000, 0, 1, 1, 70_000);
+    drop(ledger_after(&rt, rt.alloc(), ledger, 1000, 0, 1, 1, 0));
 }

@@ -3,6 +3,7 @@
 
 use super::driven::{end, end_control};
 use super::gates::Counted;
+use super::joined::over_waiting;
 use super::{Lone, open_lone, queue};
 use crate::tests::in_time;
 use std::alloc::Global;
@@ -25,6 +26,12 @@ const MOST_MILLISECONDS: u32 = 20_000;
 /// the ring before it, and for the last one the batcher waits for a slot.
 const READINGS: [u64; 12] = [
     384, 768, 1_024, 1_152, 1_280, 1_408, 1_536, 1_664, 1_792, 1_920, 2_048, 2_176,
+];
+
+/// The same over a ledger whose commits wait. With the fourth packet the batcher holds a group, and it waits for the committer. So no later
+/// packet wakes it.
+const READINGS_IF_HELD: [u64; 12] = [
+    384, 768, 1_024, 1_152, 1_280, 1_280, 1_280, 1_280, 1_280, 1_280, 1_280, 1_280,
 ];
 
 /// A runtime whose clock stands still and counts its readings.
@@ -68,35 +75,49 @@ struct Senders {
     control: Control,
 }
 
-/// Queues packets, each once all stages sleep. Then lets them through, and ends.
+/// Queues packets, each once all stages sleep. The committer has the second batch by then: what is sealed ahead of it is in the ring of
+/// eight slots, and a batch that has no slot isn't sealed. Then lets them through, and ends.
 fn send_eleven<R: Wait + Clock + Abort>(
     rt: &R,
     alloc: Global,
     senders: Senders,
     gate: &Counted,
     readings: &AtomicU64,
+    waits: bool,
 ) {
     let Senders {
         mut submitter,
         control,
     } = senders;
-    assert_readings(rt, readings, READINGS[0]);
-    for wanted in &READINGS[1..] {
+    let (all_wanted, sealed) = if waits {
+        (&READINGS_IF_HELD, 3)
+    } else {
+        (&READINGS, 10)
+    };
+    assert_readings(rt, readings, all_wanted[0]);
+    for wanted in &all_wanted[1..] {
         queue(rt, alloc, &mut submitter, CREATE_ACCOUNTS, 0);
         assert_readings(rt, readings, *wanted);
     }
+    check!(rt; gate.counts() == (sealed, 1));
     gate.let_through(11);
     drop(end(rt, submitter));
     drop(end_control(rt, control, false));
 }
 
-/// Serves eleven packets, of which the gate lets the first through at once. Returns how many batches were sealed and let through.
-fn serve_eleven<R: Threads + Wait + Clock + Sync + Abort>(rt: &R, alloc: Global) -> (u64, u64) {
+/// Serves eleven packets over a ledger that waits or doesn't. The gate lets the first through at once. Returns how many batches were
+/// sealed and let through.
+fn serve_eleven<R: Threads + Wait + Clock + Sync + Abort>(
+    rt: &R,
+    alloc: Global,
+    waits: bool,
+) -> (u64, u64) {
     let Lone {
         pipeline,
         submitter,
         control,
     } = open_lone(rt, alloc, 4, 16, 16);
+    let pipeline = over_waiting(rt, alloc, pipeline, waits);
     let senders = Senders { submitter, control };
     let counting = Counting {
         _rt: rt,
@@ -106,7 +127,7 @@ fn serve_eleven<R: Threads + Wait + Clock + Sync + Abort>(rt: &R, alloc: Global)
     let (counting, held) = (&counting, &gate);
     thread::scope(thread::scope_env(), rt, |scope| {
         let sender = scope
-            .spawn(move || send_eleven(rt, alloc, senders, held, &counting.readings))
+            .spawn(move || send_eleven(rt, alloc, senders, held, &counting.readings, waits))
             .ok()
             .expect(rt, "a thread can be started");
         check!(rt; pipeline.serve(counting, held).is_ok());
@@ -117,5 +138,8 @@ fn serve_eleven<R: Threads + Wait + Clock + Sync + Abort>(rt: &R, alloc: Global)
 
 #[test]
 fn each_stage_looks_64_times_and_sleeps(rt: HostRuntime) {
-    check!(&rt; in_time(&rt, || serve_eleven(&rt, rt.alloc())) == (11, 11));
+    for (waits, batches) in [(false, 11), (true, 4)] {
+        let counts = in_time(&rt, || serve_eleven(&rt, rt.alloc(), waits));
+        check!(&rt; counts == (batches, batches));
+    }
 }

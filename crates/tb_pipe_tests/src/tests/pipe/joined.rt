@@ -12,11 +12,12 @@ use std::thread::Threads;
 use std::time::Clock;
 use tb_core::{AnyLedger, BareLedger, Outcomes, Parcel, Seed};
 use tb_layout::CREATE_ACCOUNTS;
+use tb_pipe::Pipeline;
 use tb_submit::{Control, Submitter};
 use tb_test_makers::{OutcomeKind, check};
 
 /// A ledger that says whether its commits wait.
-struct WaitingLedger {
+pub(super) struct WaitingLedger {
     bare: BareLedger,
     waits: bool,
 }
@@ -44,6 +45,20 @@ impl AnyLedger for WaitingLedger {
     fn waits(&self) -> bool {
         self.waits
     }
+}
+
+/// Returns a pipeline over a new ledger that waits or doesn't.
+pub(super) fn over_waiting(
+    rt: &impl Abort,
+    alloc: Global,
+    pipeline: Pipeline,
+    waits: bool,
+) -> Pipeline<WaitingLedger> {
+    let bare = BareLedger::with_seed(alloc, 0, Seed::default());
+    let Ok(pipeline) = pipeline.over(WaitingLedger { bare, waits }) else {
+        rt.panic("the ledger hasn't stopped")
+    };
+    pipeline
 }
 
 /// A submitter and the control.
@@ -111,10 +126,7 @@ fn serve_six<R: Threads + Wait + Clock + Sync + Abort>(
         submitter,
         control,
     } = open_lone(rt, alloc, 4, 64, 64);
-    let bare = BareLedger::with_seed(alloc, 0, Seed::default());
-    let Ok(pipeline) = pipeline.over(WaitingLedger { bare, waits }) else {
-        rt.panic("the ledger hasn't stopped")
-    };
+    let pipeline = over_waiting(rt, alloc, pipeline, waits);
     let senders = Senders { submitter, control };
     let gate = Counted::new(0);
     let held = &gate;

@@ -1,4 +1,4 @@
-//! More batches than 16 bits count, each of which the gate sees once and in order.
+//! More batches than 16 bits count, each of which the gate sees once and in order, and is asked for before it is applied.
 
 use super::driven::{end, end_control, wait_for_reply};
 use super::gates::Counted;
@@ -6,10 +6,15 @@ use super::{Lone, open_lone, queue};
 use std::alloc::Global;
 use std::process::Abort;
 use std::sync::Wait;
+use std::sync::atomic::AtomicBool;
+use std::sync::atomic::Ordering::SeqCst;
 use std::thread;
 use std::thread::Threads;
 use std::time::Clock;
+use tb_core::Ledger;
+use tb_figures::{CountedLedger, Figures};
 use tb_layout::{CREATE_ACCOUNTS, CREATE_TRANSFERS};
+use tb_pipe::Gate;
 use tb_submit::{Control, Submitter};
 use tb_test_makers::{OutcomeKind, check};
 
@@ -18,6 +23,27 @@ const PACKETS: u64 = 70_000;
 
 /// How many of them are in flight at most.
 const CREDIT: u64 = 64;
+
+/// Counts as `Counted` does. Notes whether it is ever asked for a batch when more or fewer are applied than were sealed before that batch.
+#[derive(Drop)]
+struct InTurn {
+    counted: Counted,
+    figures: Figures,
+    is_late: AtomicBool,
+}
+
+impl Gate for InTurn {
+    fn sealed(&self, batch: u64) {
+        self.counted.sealed(batch);
+    }
+
+    fn may_commit(&self, batch: u64) -> bool {
+        if self.figures.read().batches != batch {
+            self.is_late.store(true, SeqCst);
+        }
+        self.counted.may_commit(batch)
+    }
+}
 
 /// Waits for the reply to the packet of a number, which is its place.
 fn assert_reply(rt: &impl Abort, submitter: &mut Submitter, number: u64) {
@@ -67,17 +93,29 @@ fn serve_all<R: Threads + Wait + Clock + Sync + Abort>(rt: &R, alloc: Global) ->
         submitter,
         control,
     } = open_lone(rt, alloc, 4, 128, CREDIT as u32);
-    let gate = Counted::new(u64::MAX);
-    let counted = &gate;
+    let figures = Figures::new(alloc, 1, CREDIT as u32).ok();
+    let figures = figures.expect(rt, "memory");
+    let another = figures.clone().ok().expect(rt, "another owner");
+    let ledger = CountedLedger::over(Ledger::new(alloc, 0), another);
+    let Ok(pipeline) = pipeline.over(ledger) else {
+        rt.panic("the ledger hasn't stopped")
+    };
+    let gate = InTurn {
+        counted: Counted::new(u64::MAX),
+        figures,
+        is_late: AtomicBool::new(false),
+    };
+    let in_turn = &gate;
     thread::scope(thread::scope_env(), rt, |scope| {
         let sender = scope
             .spawn(move || send_all(rt, alloc, submitter, control))
             .ok()
             .expect(rt, "a thread can be started");
-        check!(rt; pipeline.serve(rt, counted).is_ok());
+        check!(rt; pipeline.serve(rt, in_turn).is_ok());
         sender.join(rt);
     });
-    gate.counts()
+    check!(rt; !gate.is_late.load(SeqCst));
+    gate.counted.counts()
 }
 
 #[test]
