@@ -82,83 +82,122 @@ impl Driver for WakingSender {
     }
 }
 
-/// Runs a driver for each of the seeds and a control that pulses, over a ledger. Asserts that each driver was given a reply to each packet,
-/// and that all packets and pulses are committed. Returns the ledger.
+/// What the senders of a run do: a driver for each of the seeds, and a control that pulses.
+#[derive(Clone, Copy)]
+struct Load {
+    packets: u32,
+    longest: u32,
+    credit: u32,
+    seeds: u32,
+    pulses: u32,
+}
+
+impl Load {
+    /// Returns how many packets and pulses there are.
+    fn places(self) -> u64 {
+        u64::from(self.packets) * u64::from(self.seeds) + u64::from(self.pulses)
+    }
+
+    /// Returns the drivers.
+    fn drivers(self, rt: &impl Abort, alloc: Global) -> Vec<WakingSender> {
+        let mut drivers = Vec::new(alloc);
+        for seed in 1..=self.seeds {
+            let sender = WakingSender::new(self.packets, self.longest, self.credit, seed);
+            drivers.push(sender).expect(rt, "memory");
+        }
+        drivers
+    }
+}
+
+/// Runs a load over a ledger. Asserts that each driver was given a reply to each packet, and that all packets and pulses are committed.
+/// Returns the ledger.
 fn ledger_after<R: Threads + Wait + Clock + Sync + Abort>(
     rt: &R,
     alloc: Global,
     ledger: Ledger,
-    packets: u32,
-    longest: u32,
-    credit: u32,
-    seeds: u32,
-    pulses: u32,
+    load: Load,
 ) -> Ledger {
     check!(rt; !ledger.stopped());
     let places = ledger.places();
-    let mut drivers = Vec::new(alloc);
-    for seed in 1..=seeds {
-        let sender = WakingSender::new(packets, longest, credit, seed);
-        drivers.push(sender).expect(rt, "memory");
-    }
+    let drivers = load.drivers(rt, alloc);
     let submitters = u32::try_from(drivers.len()).expect(rt, "few drivers");
-    let mut opened = open(alloc, 0, 4, 8, credit, submitters).expect(rt, "it is opened");
+    let mut opened = open(alloc, 0, 4, 8, load.credit, submitters).expect(rt, "it is opened");
     opened.pipeline = opened.pipeline.with_ledger(ledger);
     let mut control = ControlPlan::none(alloc);
     control
         .moments
-        .resize(pulses as usize, 1)
+        .resize(load.pulses as usize, 1)
         .expect(rt, "memory");
     let Ok(finished) = drive_all(rt, alloc, opened, drivers, control.driver()) else {
         rt.panic("the run is given up")
     };
-    check!(rt; finished.drivers.len() == seeds as usize);
+    check!(rt; finished.drivers.len() == load.seeds as usize);
     for driver in &finished.drivers {
-        check!(rt; driver.replies == packets);
+        check!(rt; driver.replies == load.packets);
     }
     check!(rt; finished.control.refused == 0);
-    let more = u64::from(packets) * u64::from(seeds) + u64::from(pulses);
     let Finished { report, .. } = finished;
     let Report { ledger, .. } = report;
-    check!(rt; ledger.places().wrapping_sub(places) == more);
+    check!(rt; ledger.places().wrapping_sub(places) == load.places());
     ledger
 }
 
 /// Does the same over a new ledger.
-fn assert_replies<R: Threads + Wait + Clock + Sync + Abort>(
-    rt: &R,
-    alloc: Global,
-    packets: u32,
-    longest: u32,
-    credit: u32,
-    seeds: u32,
-    pulses: u32,
-) {
-    let new = Ledger::new(alloc, 0);
-    drop(ledger_after(rt, alloc, new, packets, longest, credit, seeds, pulses));
+fn assert_replies<R: Threads + Wait + Clock + Sync + Abort>(rt: &R, alloc: Global, load: Load) {
+    drop(ledger_after(rt, alloc, Ledger::new(alloc, 0), load));
 }
+
+/// One sender, with one packet in flight.
+const ONE: Load = Load {
+    packets: 10_000,
+    longest: 100,
+    credit: 1,
+    seeds: 1,
+    pulses: 0,
+};
 
 /// All threads sleep before most of the packets.
 #[test]
 fn ten_thousand_packets_after_idling(rt: HostRuntime) {
-    assert_replies(&rt, rt.alloc(), 10_000, 100, 1, 1, 0);
+    assert_replies(&rt, rt.alloc(), ONE);
 }
 
 /// Some threads go to sleep while others wake them.
 #[test]
 fn sixteen_senders_at_random_gaps(rt: HostRuntime) {
-    assert_replies(&rt, rt.alloc(), 1000, 30, 1, 16, 100);
+    let load = Load {
+        packets: 1000,
+        longest: 30,
+        seeds: 16,
+        pulses: 100,
+        ..ONE
+    };
+    assert_replies(&rt, rt.alloc(), load);
 }
 
 #[test]
 fn thirty_thousand_packets_of_each_of_two(rt: HostRuntime) {
-    assert_replies(&rt, rt.alloc(), 30_000, 0, 4, 2, 0);
+    let load = Load {
+        packets: 30_000,
+        longest: 0,
+        credit: 4,
+        seeds: 2,
+        ..ONE
+    };
+    assert_replies(&rt, rt.alloc(), load);
 }
 
 /// Each pulse is an entry of the journal, and with a credit of one each packet is too. A second run goes on with that ledger.
 #[test]
 fn seventy_thousand_pulses_among_a_thousand_packets(rt: HostRuntime) {
+    let load = Load {
+        packets: 1000,
+        longest: 0,
+        pulses: 70_000,
+        ..ONE
+    };
     let new = Ledger::new(rt.alloc(), 0);
-    let ledger = ledger_after(&rt, rt.alloc(), new, 1000, 0, 1, 1, 70_000);
-    drop(ledger_after(&rt, rt.alloc(), ledger, 1000, 0, 1, 1, 0));
+    let ledger = ledger_after(&rt, rt.alloc(), new, load);
+    let again = Load { pulses: 0, ..load };
+    drop(ledger_after(&rt, rt.alloc(), ledger, again));
 }
