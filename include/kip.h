@@ -102,7 +102,7 @@ typedef enum KIP_STATUS {
     KIP_MOMENT_TOO_LARGE = 12,
     KIP_CLOSED = 100,
     KIP_ALREADY_OPEN = 101,
-    KIP_NO_REPLY = 102,
+    KIP_NO_REPLY = 102, /* all are read, or none is there: packets that wait have none before kip_flush */
     KIP_TOO_SMALL = 103,
     KIP_NOT_FOUND = 104,
     KIP_NULL_POINTER = 105, /* null data or results of a size above 0 */
@@ -313,7 +313,7 @@ static inline uint32_t kip_leave(kip_t *kip, uint32_t status) {
 }
 
 /* Returns a number in 32 bits. One that needs more is UINT32_MAX, which is no submitter and no setting. */
-static inline uint32_t kip_narrow(uint64_t number) { return number < UINT32_MAX ? (uint32_t)number : UINT32_MAX; }
+static inline uint32_t kip_narrow(uint64_t number) { return number < UINT32_MAX ? number & UINT32_MAX : UINT32_MAX; }
 
 /* Zeroes a reply, and says that none was read. */
 static inline void kip_unread(kip_reply_t *reply) {
@@ -345,7 +345,7 @@ KIP_CHECKED static inline uint32_t kip_guarded_close(kip_t *kip) {
 KIP_CHECKED static inline uint32_t kip_guarded_submit_bytes(kip_t *kip, uint64_t submitter, uint64_t operation,
                                                             const void *data, size_t data_size, uint64_t user_data,
                                                             uint64_t *number) {
-    const uint8_t narrow = operation <= UINT8_MAX ? (uint8_t)operation : 0; /* 0 is no operation */
+    const uint8_t narrow = operation <= UINT8_MAX ? operation & UINT8_MAX : 0; /* 0 is no operation */
     *number = KIP_NUMBER_NONE;
     if (!kip_enter(kip)) return KIP_BUSY;
     return kip_leave(kip, kip_submit_bytes(kip, kip_narrow(submitter), narrow, data, data_size, user_data, number));
@@ -445,15 +445,15 @@ KIP_CHECKED static inline uint32_t kip_guarded_clock(kip_t *kip, uint64_t *nanos
 KIP_CHECKED static inline uint32_t kip_submit(kip_t *kip, uint64_t submitter, uint64_t operation, const void *data,
                                               size_t data_size, uint64_t user_data, uint64_t *number) {
     *number = KIP_NUMBER_NONE;
-    if (data == NULL && data_size != 0) return KIP_NULL_POINTER;
-    return kip_submit_bytes(kip, submitter, operation, data == NULL ? "" : data, data_size, user_data, number);
+    if (!data && data_size != 0) return KIP_NULL_POINTER;
+    return kip_submit_bytes(kip, submitter, operation, data ? data : "", data_size, user_data, number);
 }
 
 KIP_CHECKED static inline uint32_t kip_reply(kip_t *kip, kip_reply_t *reply, void *results, size_t results_size) {
     char nothing;
     kip_unread(reply);
-    if (results == NULL && results_size != 0) return KIP_NULL_POINTER;
-    return kip_reply_bytes(kip, reply, results == NULL ? &nothing : results, results_size);
+    if (!results && results_size != 0) return KIP_NULL_POINTER;
+    return kip_reply_bytes(kip, reply, results ? results : &nothing, results_size);
 }
 
 /* Returns a status's name as in KIP_STATUS, without "KIP_", in lower case; "unknown" for any other number. */
