@@ -334,7 +334,7 @@ impl Ledger {
     }
 
     /// Reads the next reply, which may be another packet's than the last one queued. Its results are in the buffer, in place of what was
-    /// there, and nothing else of it is written.
+    /// there, and nothing else of it is written. `None` doesn't say that all is committed: packets that are held have a reply after `flush`.
     #[must_use = "only the reply says whether its packet is committed"]
     pub fn reply<'a>(&mut self, buffer: &'a mut Vec<u8>) -> Option<Reply<'a>> {
         let head = match self.kept.pop_front() {
