@@ -4,7 +4,8 @@
  * a clock: the same calls give the same replies.
  *
  * A packet that isn't committed has no results, and neither has one whose events all succeeded. So read a reply's outcome
- * before its results, or ask kip_succeeded.
+ * before its results, or ask kip_succeeded, which is false of a reply that wasn't read. Look at each status: compilers warn of
+ * a call whose status is dropped.
  *
  * Proved, of the engine behind a handle, for every sequence of calls: what it committed is a prefix of what was queued
  * ahead of kip_shut, in order; the replies read are a prefix of those due, and each is what the state machine gives that
@@ -18,8 +19,8 @@
  * with that id get again (id_already_failed). Nothing limits failed ids: who may send transfers may fill memory.
  *
  * The caller must ensure, and nothing checks:
- *  - Each pointer is valid, aligned and not null, and its memory belongs to no other argument of the call. Null is
- *    allowed only for data and results of size 0, in kip_submit and kip_reply.
+ *  - Each pointer is valid, aligned and not null, and its memory belongs to no other argument of the call, and to no call
+ *    of another thread. Null is allowed only for data and results of size 0, in kip_submit and kip_reply.
  *  - Buffers are as large as their sizes say.
  *  - A handle is zeroed before its first kip_open. Only the functions below change it, and no copy of it is used.
  *  - One call at a time is made with a handle, on any thread; what one thread did is visible to the next, as by a lock.
@@ -34,19 +35,32 @@
 #include <stdbool.h>
 #include <stddef.h>
 #include <stdint.h>
+#include <string.h>
+
+/* KIP_INIT zeroes a handle or a reply in C and C++: `kip_t kip = KIP_INIT;`. */
+#ifdef __cplusplus
+#define KIP_STATIC_ASSERT static_assert
+#define KIP_INIT {}
+#else
+#define KIP_STATIC_ASSERT __extension__ _Static_assert
+#define KIP_INIT {0}
+#endif
+
+/* Lets the compiler warn of a call whose result nobody looks at. */
+#if (defined(__cplusplus) && __cplusplus >= 201703L) || (defined(__STDC_VERSION__) && __STDC_VERSION__ >= 202311L)
+#define KIP_CHECKED [[nodiscard]]
+#elif defined(__GNUC__)
+#define KIP_CHECKED __attribute__((warn_unused_result))
+#else
+#define KIP_CHECKED
+#endif
 
 #ifdef __cplusplus
 extern "C" {
 #endif
 
-#ifdef __cplusplus
-#define KIP_STATIC_ASSERT static_assert
-#else
-#define KIP_STATIC_ASSERT _Static_assert
-#endif
-
-/* Opaque: a handle is zeroed, then passed by its address. The library reads and writes its first 16 bytes; `entered` is
- * this header's, and 1 during a call. */
+/* Opaque: a handle is zeroed by KIP_INIT, then passed by its address. The library reads and writes its first 16 bytes;
+ * `entered` is this header's, and 1 during a call. */
 typedef struct kip_t {
     void *engine;
     bool is_open;
@@ -66,9 +80,14 @@ typedef enum KIP_OPERATION {
     KIP_OPERATION_LOOKUP_ACCOUNTS = 131,
 } KIP_OPERATION;
 
-/* Up to 99 a status is the number of a refusal of the pipeline. Each function below lists what it returns besides KIP_OK, in
- * the order in which it looks: the first that applies is returned. With another status than KIP_OK nothing is written
- * through its pointers, but kip_reply's head, and the engine is as it was. */
+/* Up to 99 a status is the number of a refusal of the pipeline. The first that applies is returned. kip_submit and kip_reply
+ * look for KIP_NULL_POINTER ahead of all. Each call but kip_version then looks for KIP_BUSY, and then for those that it lists
+ * below, in that order.
+ *
+ * With another status than KIP_OK the engine is as it was, and what a call would have written looks like no result. An account,
+ * a transfer and counts are zeroed. A packet's number, a clock, a pending status and a reply's outcome are numbers that none of
+ * them has: they are defined below. The exports, which callers in other languages use, write only kip_reply_bytes's head, with
+ * KIP_TOO_SMALL. */
 typedef enum KIP_STATUS {
     KIP_OK = 0,
     KIP_INVALID_OPERATION = 1,
@@ -83,7 +102,7 @@ typedef enum KIP_STATUS {
     KIP_MOMENT_TOO_LARGE = 12,
     KIP_CLOSED = 100,
     KIP_ALREADY_OPEN = 101,
-    KIP_NO_REPLY = 102,
+    KIP_NO_REPLY = 102, /* all are read, or none is there: packets that wait have none before kip_flush */
     KIP_TOO_SMALL = 103,
     KIP_NOT_FOUND = 104,
     KIP_NULL_POINTER = 105, /* null data or results of a size above 0 */
@@ -95,6 +114,12 @@ typedef enum KIP_OUTCOME {
     KIP_OUTCOME_SHUTDOWN = 7, /* queued after kip_shut */
     KIP_OUTCOME_STOPPED = 8,  /* there was no place left for its batch */
 } KIP_OUTCOME;
+
+/* What a call leaves when its status isn't KIP_OK. */
+#define KIP_OUTCOME_UNREAD UINT32_MAX  /* of a reply: none was read */
+#define KIP_NUMBER_NONE UINT64_MAX     /* of a packet that isn't queued */
+#define KIP_PENDING_UNKNOWN UINT32_MAX /* of a transfer that wasn't found */
+#define KIP_CLOCK_NONE UINT64_MAX
 
 typedef enum KIP_PENDING_STATUS {
     KIP_PENDING_NONE = 0, /* the transfer isn't pending */
@@ -145,15 +170,16 @@ typedef struct kip_failure {
     uint32_t index, result;
 } kip_failure;
 
+/* A reply belongs to the packet with its submitter and number: the next one may be another packet's. */
 typedef struct kip_reply_t {
     uint64_t user_data; /* the packet's */
     uint64_t number;    /* the packet's, among its submitter's */
     uint64_t place;     /* among all committed packets and pulses; 0 if it isn't committed */
     uint64_t size;      /* the bytes of its results */
     uint32_t submitter;
-    uint32_t outcome;
+    uint32_t outcome; /* a KIP_OUTCOME, or KIP_OUTCOME_UNREAD */
     uint32_t operation;
-    uint32_t reserved;
+    uint32_t is_read; /* this header's, and 1 if kip_reply returned KIP_OK; the exports write 0 */
 } kip_reply_t;
 
 typedef struct kip_counts_t {
@@ -171,12 +197,14 @@ KIP_STATIC_ASSERT(offsetof(kip_transfer, flags) == 118 && offsetof(kip_transfer,
 KIP_STATIC_ASSERT(sizeof(kip_failure) == 8 && offsetof(kip_failure, result) == 4, "kip_failure");
 KIP_STATIC_ASSERT(sizeof(kip_counts_t) == 24 && offsetof(kip_counts_t, failed_ids) == 16, "kip_counts_t");
 KIP_STATIC_ASSERT(sizeof(kip_reply_t) == 48 && offsetof(kip_reply_t, outcome) == 36, "kip_reply_t");
+KIP_STATIC_ASSERT(offsetof(kip_reply_t, is_read) == 44, "kip_reply_t");
 
 /* Returns KIP_VERSION of the library. */
 uint32_t kip_version(void);
 
 /* Opens a closed handle. clock: nanoseconds, at most 2^63 - 1. limit: 1 to 8190 events a batch and a packet. submitters: 1
  * to 16. Statuses: KIP_ALREADY_OPEN, KIP_MOMENT_TOO_LARGE, KIP_BAD_LIMIT, KIP_BAD_SUBMITTERS, KIP_NO_MEMORY. */
+KIP_CHECKED
 uint32_t kip_open(kip_t *kip, uint64_t clock, uint32_t limit, uint32_t submitters);
 
 /* Opens a closed handle as kip_open does, and hashes ids with a seed. Replies don't depend on the seed. Statuses: those of
@@ -186,163 +214,213 @@ uint32_t kip_open(kip_t *kip, uint64_t clock, uint32_t limit, uint32_t submitter
  * source, for example by getentropy, and keep them secret: nothing random is in the library. kip_open hashes with numbers
  * that everybody knows. Two packets of 8,190 transfers with ids crafted for them make each later event cost some 25,000
  * instructions. With a secret seed, ids of the known families cost what fair ids cost. */
+KIP_CHECKED
 uint32_t kip_open_seeded(kip_t *kip, uint64_t clock, uint32_t limit, uint32_t submitters, uint64_t seed_low,
                          uint64_t seed_high);
 
 /* Reserves capacity for accounts and transfers that are still to be made. Until then no commit waits for their maps to
  * grow, which moves all that is stored; failed ids and expiries grow as needed. Statuses: KIP_CLOSED, KIP_NO_MEMORY. */
+KIP_CHECKED
 uint32_t kip_reserve(kip_t *kip, size_t accounts, size_t transfers);
 
 /* Frees all that is behind the handle. Statuses: KIP_CLOSED. */
+KIP_CHECKED
 uint32_t kip_close(kip_t *kip);
 
 /* Queues a packet with a copy of the data, and makes capacity for all that it and the packets that wait can create. It
  * waits for neighbours of its operation, until one that doesn't join it, kip_pulse, kip_shut or kip_flush commits it. A call
  * for which memory runs out, also as it commits what waits, returns KIP_NO_MEMORY: nothing has changed, and what waits still
- * does. Data needs no alignment, and isn't read if the packet is refused. Statuses: KIP_CLOSED, KIP_BAD_SUBMITTERS, KIP_STOPPED,
- * KIP_FULL, KIP_INVALID_OPERATION, KIP_INVALID_DATA_SIZE, KIP_TOO_MUCH_DATA, KIP_NO_MEMORY. kip_submit, below, also takes
- * null data of size 0. */
+ * does. KIP_OK says that it is queued: only its reply says that it is committed. Data needs no alignment, and isn't read if the
+ * packet is refused. Statuses: KIP_CLOSED, KIP_BAD_SUBMITTERS, KIP_STOPPED, KIP_FULL, KIP_INVALID_OPERATION,
+ * KIP_INVALID_DATA_SIZE, KIP_TOO_MUCH_DATA, KIP_NO_MEMORY. kip_submit, below, also takes null data of size 0, and returns
+ * KIP_NULL_POINTER for null data of another size. */
+KIP_CHECKED
 uint32_t kip_submit_bytes(kip_t *kip, uint32_t submitter, uint8_t operation, const void *data, size_t data_size,
                           uint64_t user_data, uint64_t *number);
 
 /* Queues a pulse, which raises the clock to a moment of at most 2^62 nanoseconds; pending transfers whose timeout is over
  * by then expire. Statuses: KIP_CLOSED, KIP_MOMENT_TOO_LARGE, KIP_SHUTDOWN, KIP_STOPPED, KIP_NO_MEMORY. */
+KIP_CHECKED
 uint32_t kip_pulse(kip_t *kip, uint64_t nanoseconds);
 
 /* Queues the Close: packets after it aren't committed. Statuses: KIP_CLOSED, KIP_SHUTDOWN, KIP_NO_MEMORY. */
+KIP_CHECKED
 uint32_t kip_shut(kip_t *kip);
 
 /* Commits the packets that wait. If the engine stops meanwhile, their replies say so. Statuses: KIP_CLOSED, KIP_NO_MEMORY. */
+KIP_CHECKED
 uint32_t kip_flush(kip_t *kip);
 
 /* Reads the next reply, in the order in which packets were queued. Results are kip_failure or, of a look-up,
- * kip_account. With KIP_TOO_SMALL the head is written, its size is the one that is needed, and the reply stays the next
- * one. Statuses: KIP_CLOSED, KIP_NO_REPLY, KIP_TOO_SMALL. kip_reply, below, also takes null results of size 0. */
+ * kip_account. With KIP_TOO_SMALL the reply stays the next one. Its head is written, with the size that is needed, but its
+ * outcome is KIP_OUTCOME_UNREAD. With any other status but KIP_OK the head is zeroed and has that outcome. Statuses:
+ * KIP_CLOSED, KIP_NO_REPLY, KIP_TOO_SMALL. kip_reply, below, also takes null results of size 0, and returns KIP_NULL_POINTER
+ * for null results of another size. */
+KIP_CHECKED
 uint32_t kip_reply_bytes(kip_t *kip, kip_reply_t *reply, void *results, size_t results_size);
 
 /* Returns KIP_STOPPED if the engine stopped. Statuses: KIP_CLOSED, KIP_STOPPED. */
+KIP_CHECKED
 uint32_t kip_stopped(kip_t *kip);
 
 /* Writes the account with an id; packets that wait aren't in it. Statuses: KIP_CLOSED, KIP_NOT_FOUND. */
+KIP_CHECKED
 uint32_t kip_lookup_account(kip_t *kip, uint64_t id_low, uint64_t id_high, kip_account *account);
 
 /* Writes the account at an index in the order of making, from 0. Statuses: KIP_CLOSED, KIP_NOT_FOUND. */
+KIP_CHECKED
 uint32_t kip_account_at(kip_t *kip, size_t index, kip_account *account);
 
 /* Writes the transfer with an id and its KIP_PENDING_STATUS. A post or a void has its resolved fields. Statuses: KIP_CLOSED,
  * KIP_NOT_FOUND. */
+KIP_CHECKED
 uint32_t kip_lookup_transfer(kip_t *kip, uint64_t id_low, uint64_t id_high, kip_transfer *transfer,
                              uint32_t *pending_status);
 
 /* Writes the transfer at an index in the order of making, from 0, and its KIP_PENDING_STATUS. Statuses: KIP_CLOSED,
  * KIP_NOT_FOUND. */
+KIP_CHECKED
 uint32_t kip_transfer_at(kip_t *kip, size_t index, kip_transfer *transfer, uint32_t *pending_status);
 
-/* Writes how many accounts, transfers and failed ids are stored; packets that wait aren't in it. A failed id takes 36 bytes, and nothing
- * limits these ids. A closed handle leaves the counts as they are. Statuses: KIP_CLOSED. */
+/* Writes how many accounts, transfers and failed ids are stored; packets that wait aren't in it. A failed id takes 36 bytes,
+ * and nothing limits these ids. Statuses: KIP_CLOSED. */
+KIP_CHECKED
 uint32_t kip_counts(kip_t *kip, kip_counts_t *counts);
 
 /* Writes the clock in nanoseconds. Statuses: KIP_CLOSED. */
+KIP_CHECKED
 uint32_t kip_clock(kip_t *kip, uint64_t *nanoseconds);
 
-/* Returns whether a packet is committed. If it isn't, it has no results, and nothing of it happened. */
-static inline bool kip_committed(const kip_reply_t *reply) { return reply->outcome == KIP_OUTCOME_COMMITTED; }
+/* Returns whether a reply was read, and its packet is committed. If the packet isn't, it has no results, and nothing of it
+ * happened. */
+KIP_CHECKED static inline bool kip_committed(const kip_reply_t *reply) {
+    return reply->is_read == 1 && reply->outcome == KIP_OUTCOME_COMMITTED;
+}
 
-/* Returns whether a packet is committed and none of its events failed. */
-static inline bool kip_succeeded(const kip_reply_t *reply) {
+/* Returns whether a reply was read, its packet is committed, and none of its events failed. */
+KIP_CHECKED static inline bool kip_succeeded(const kip_reply_t *reply) {
     return kip_committed(reply) && (reply->size == 0 || reply->operation == KIP_OPERATION_LOOKUP_ACCOUNTS);
 }
 
-/* ---- The same calls, each refused with KIP_BUSY during another thread's call. In C and C++ the names above are these. */
+/* ---- The same calls, each refused with KIP_BUSY during another thread's call. In C and C++ the names above are these. They
+ * take wider numbers than the exports, so that one that is too large is refused and not cut. */
 
-static inline bool kip_enter(kip_t *kip) { return __atomic_exchange_n(&kip->entered, 1, __ATOMIC_ACQUIRE) == 0; }
+KIP_CHECKED static inline bool kip_enter(kip_t *kip) { return __atomic_exchange_n(&kip->entered, 1, __ATOMIC_ACQUIRE) == 0; }
 
 static inline uint32_t kip_leave(kip_t *kip, uint32_t status) {
     __atomic_store_n(&kip->entered, 0, __ATOMIC_RELEASE);
     return status;
 }
 
-static inline uint32_t kip_guarded_open(kip_t *kip, uint64_t clock, uint32_t limit, uint32_t submitters) {
-    if (!kip_enter(kip)) return KIP_BUSY;
-    return kip_leave(kip, kip_open(kip, clock, limit, submitters));
+/* Returns a number in 32 bits. One that needs more is UINT32_MAX, which is no submitter and no setting. */
+static inline uint32_t kip_narrow(uint64_t number) { return number < UINT32_MAX ? number & UINT32_MAX : UINT32_MAX; }
+
+/* Zeroes a reply, and says that none was read. */
+static inline void kip_unread(kip_reply_t *reply) {
+    memset(reply, 0, sizeof *reply);
+    reply->outcome = KIP_OUTCOME_UNREAD;
 }
 
-static inline uint32_t kip_guarded_open_seeded(kip_t *kip, uint64_t clock, uint32_t limit, uint32_t submitters,
-                                               uint64_t seed_low, uint64_t seed_high) {
+KIP_CHECKED static inline uint32_t kip_guarded_open(kip_t *kip, uint64_t clock, uint64_t limit, uint64_t submitters) {
     if (!kip_enter(kip)) return KIP_BUSY;
-    return kip_leave(kip, kip_open_seeded(kip, clock, limit, submitters, seed_low, seed_high));
+    return kip_leave(kip, kip_open(kip, clock, kip_narrow(limit), kip_narrow(submitters)));
 }
 
-static inline uint32_t kip_guarded_reserve(kip_t *kip, size_t accounts, size_t transfers) {
+KIP_CHECKED static inline uint32_t kip_guarded_open_seeded(kip_t *kip, uint64_t clock, uint64_t limit, uint64_t submitters,
+                                                           uint64_t seed_low, uint64_t seed_high) {
+    if (!kip_enter(kip)) return KIP_BUSY;
+    return kip_leave(kip, kip_open_seeded(kip, clock, kip_narrow(limit), kip_narrow(submitters), seed_low, seed_high));
+}
+
+KIP_CHECKED static inline uint32_t kip_guarded_reserve(kip_t *kip, size_t accounts, size_t transfers) {
     if (!kip_enter(kip)) return KIP_BUSY;
     return kip_leave(kip, kip_reserve(kip, accounts, transfers));
 }
 
-static inline uint32_t kip_guarded_close(kip_t *kip) {
+KIP_CHECKED static inline uint32_t kip_guarded_close(kip_t *kip) {
     if (!kip_enter(kip)) return KIP_BUSY;
     return kip_leave(kip, kip_close(kip));
 }
 
-static inline uint32_t kip_guarded_submit_bytes(kip_t *kip, uint32_t submitter, uint8_t operation, const void *data,
-                                                size_t data_size, uint64_t user_data, uint64_t *number) {
+KIP_CHECKED static inline uint32_t kip_guarded_submit_bytes(kip_t *kip, uint64_t submitter, uint64_t operation,
+                                                            const void *data, size_t data_size, uint64_t user_data,
+                                                            uint64_t *number) {
+    const uint8_t narrow = operation <= UINT8_MAX ? operation & UINT8_MAX : 0; /* 0 is no operation */
+    *number = KIP_NUMBER_NONE;
     if (!kip_enter(kip)) return KIP_BUSY;
-    return kip_leave(kip, kip_submit_bytes(kip, submitter, operation, data, data_size, user_data, number));
+    return kip_leave(kip, kip_submit_bytes(kip, kip_narrow(submitter), narrow, data, data_size, user_data, number));
 }
 
-static inline uint32_t kip_guarded_pulse(kip_t *kip, uint64_t nanoseconds) {
+KIP_CHECKED static inline uint32_t kip_guarded_pulse(kip_t *kip, uint64_t nanoseconds) {
     if (!kip_enter(kip)) return KIP_BUSY;
     return kip_leave(kip, kip_pulse(kip, nanoseconds));
 }
 
-static inline uint32_t kip_guarded_shut(kip_t *kip) {
+KIP_CHECKED static inline uint32_t kip_guarded_shut(kip_t *kip) {
     if (!kip_enter(kip)) return KIP_BUSY;
     return kip_leave(kip, kip_shut(kip));
 }
 
-static inline uint32_t kip_guarded_flush(kip_t *kip) {
+KIP_CHECKED static inline uint32_t kip_guarded_flush(kip_t *kip) {
     if (!kip_enter(kip)) return KIP_BUSY;
     return kip_leave(kip, kip_flush(kip));
 }
 
-static inline uint32_t kip_guarded_reply_bytes(kip_t *kip, kip_reply_t *reply, void *results, size_t results_size) {
+KIP_CHECKED static inline uint32_t kip_guarded_reply_bytes(kip_t *kip, kip_reply_t *reply, void *results,
+                                                           size_t results_size) {
+    uint32_t status;
+    kip_unread(reply);
     if (!kip_enter(kip)) return KIP_BUSY;
-    return kip_leave(kip, kip_reply_bytes(kip, reply, results, results_size));
+    status = kip_reply_bytes(kip, reply, results, results_size);
+    if (status == KIP_OK)
+        reply->is_read = 1;
+    else
+        reply->outcome = KIP_OUTCOME_UNREAD;
+    return kip_leave(kip, status);
 }
 
-static inline uint32_t kip_guarded_stopped(kip_t *kip) {
+KIP_CHECKED static inline uint32_t kip_guarded_stopped(kip_t *kip) {
     if (!kip_enter(kip)) return KIP_BUSY;
     return kip_leave(kip, kip_stopped(kip));
 }
 
-static inline uint32_t kip_guarded_lookup_account(kip_t *kip, uint64_t id_low, uint64_t id_high,
-                                                  kip_account *account) {
+KIP_CHECKED static inline uint32_t kip_guarded_lookup_account(kip_t *kip, uint64_t id_low, uint64_t id_high,
+                                                              kip_account *account) {
+    memset(account, 0, sizeof *account);
     if (!kip_enter(kip)) return KIP_BUSY;
     return kip_leave(kip, kip_lookup_account(kip, id_low, id_high, account));
 }
 
-static inline uint32_t kip_guarded_account_at(kip_t *kip, size_t index, kip_account *account) {
+KIP_CHECKED static inline uint32_t kip_guarded_account_at(kip_t *kip, size_t index, kip_account *account) {
+    memset(account, 0, sizeof *account);
     if (!kip_enter(kip)) return KIP_BUSY;
     return kip_leave(kip, kip_account_at(kip, index, account));
 }
 
-static inline uint32_t kip_guarded_lookup_transfer(kip_t *kip, uint64_t id_low, uint64_t id_high,
-                                                   kip_transfer *transfer, uint32_t *pending_status) {
+KIP_CHECKED static inline uint32_t kip_guarded_lookup_transfer(kip_t *kip, uint64_t id_low, uint64_t id_high,
+                                                               kip_transfer *transfer, uint32_t *pending_status) {
+    memset(transfer, 0, sizeof *transfer);
+    *pending_status = KIP_PENDING_UNKNOWN;
     if (!kip_enter(kip)) return KIP_BUSY;
     return kip_leave(kip, kip_lookup_transfer(kip, id_low, id_high, transfer, pending_status));
 }
 
-static inline uint32_t kip_guarded_transfer_at(kip_t *kip, size_t index, kip_transfer *transfer,
-                                               uint32_t *pending_status) {
+KIP_CHECKED static inline uint32_t kip_guarded_transfer_at(kip_t *kip, size_t index, kip_transfer *transfer,
+                                                           uint32_t *pending_status) {
+    memset(transfer, 0, sizeof *transfer);
+    *pending_status = KIP_PENDING_UNKNOWN;
     if (!kip_enter(kip)) return KIP_BUSY;
     return kip_leave(kip, kip_transfer_at(kip, index, transfer, pending_status));
 }
 
-static inline uint32_t kip_guarded_counts(kip_t *kip, kip_counts_t *counts) {
+KIP_CHECKED static inline uint32_t kip_guarded_counts(kip_t *kip, kip_counts_t *counts) {
+    memset(counts, 0, sizeof *counts);
     if (!kip_enter(kip)) return KIP_BUSY;
     return kip_leave(kip, kip_counts(kip, counts));
 }
 
-static inline uint32_t kip_guarded_clock(kip_t *kip, uint64_t *nanoseconds) {
+KIP_CHECKED static inline uint32_t kip_guarded_clock(kip_t *kip, uint64_t *nanoseconds) {
+    *nanoseconds = KIP_CLOCK_NONE;
     if (!kip_enter(kip)) return KIP_BUSY;
     return kip_leave(kip, kip_clock(kip, nanoseconds));
 }
@@ -364,16 +442,18 @@ static inline uint32_t kip_guarded_clock(kip_t *kip, uint64_t *nanoseconds) {
 #define kip_counts kip_guarded_counts
 #define kip_clock kip_guarded_clock
 
-static inline uint32_t kip_submit(kip_t *kip, uint32_t submitter, uint8_t operation, const void *data, size_t data_size,
-                                  uint64_t user_data, uint64_t *number) {
-    if (data == NULL && data_size != 0) return KIP_NULL_POINTER;
-    return kip_submit_bytes(kip, submitter, operation, data == NULL ? "" : data, data_size, user_data, number);
+KIP_CHECKED static inline uint32_t kip_submit(kip_t *kip, uint64_t submitter, uint64_t operation, const void *data,
+                                              size_t data_size, uint64_t user_data, uint64_t *number) {
+    *number = KIP_NUMBER_NONE;
+    if (!data && data_size != 0) return KIP_NULL_POINTER;
+    return kip_submit_bytes(kip, submitter, operation, data ? data : "", data_size, user_data, number);
 }
 
-static inline uint32_t kip_reply(kip_t *kip, kip_reply_t *reply, void *results, size_t results_size) {
+KIP_CHECKED static inline uint32_t kip_reply(kip_t *kip, kip_reply_t *reply, void *results, size_t results_size) {
     char nothing;
-    if (results == NULL && results_size != 0) return KIP_NULL_POINTER;
-    return kip_reply_bytes(kip, reply, results == NULL ? &nothing : results, results_size);
+    kip_unread(reply);
+    if (!results && results_size != 0) return KIP_NULL_POINTER;
+    return kip_reply_bytes(kip, reply, results ? results : &nothing, results_size);
 }
 
 /* Returns a status's name as in KIP_STATUS, without "KIP_", in lower case; "unknown" for any other number. */

@@ -1,4 +1,4 @@
-/* Calls that are refused: each returns its status and leaves everything as it was. */
+/* Calls that are refused: each returns its status, leaves the engine as it was, and writes nothing that looks like a result. */
 #undef NDEBUG
 #include <assert.h>
 #include <kip.h>
@@ -12,17 +12,17 @@ static void closed_handle(void) {
     kip_reply_t reply;
     kip_account account;
     assert(kip_close(&kip) == KIP_CLOSED && kip_flush(&kip) == KIP_CLOSED && kip_shut(&kip) == KIP_CLOSED);
-    assert(kip_submit(&kip, 0, 129, bytes, 128, 0, &number) == KIP_CLOSED && number == 99);
+    assert(kip_submit(&kip, 0, 129, bytes, 128, 0, &number) == KIP_CLOSED && number == KIP_NUMBER_NONE);
     assert(kip_reply(&kip, &reply, results, 8) == KIP_CLOSED && results[0] == 7);
-    assert(kip_clock(&kip, &number) == KIP_CLOSED && number == 99);
+    assert(kip_clock(&kip, &number) == KIP_CLOSED && number == KIP_CLOCK_NONE);
     kip_counts_t counts = {.failed_ids = 99};
-    assert(kip_counts(&kip, &counts) == KIP_CLOSED && counts.failed_ids == 99);
+    assert(kip_counts(&kip, &counts) == KIP_CLOSED && counts.failed_ids == 0);
     assert(kip_lookup_account(&kip, 1, 0, &account) == KIP_CLOSED && kip_pulse(&kip, 1) == KIP_CLOSED);
     assert(kip_stopped(&kip) == KIP_CLOSED && kip_account_at(&kip, 0, &account) == KIP_CLOSED);
     kip_transfer transfer = {.code = 7};
     uint32_t pending = 99;
-    assert(kip_transfer_at(&kip, 0, &transfer, &pending) == KIP_CLOSED && transfer.code == 7 && pending == 99);
-    assert(kip_lookup_transfer(&kip, 1, 0, &transfer, &pending) == KIP_CLOSED && transfer.code == 7 && pending == 99);
+    assert(kip_transfer_at(&kip, 0, &transfer, &pending) == KIP_CLOSED && transfer.code == 0 && pending == KIP_PENDING_UNKNOWN);
+    assert(kip_lookup_transfer(&kip, 1, 0, &transfer, &pending) == KIP_CLOSED && pending == KIP_PENDING_UNKNOWN);
     assert(kip_reserve(&kip, 1, 1) == KIP_CLOSED && kip_reserve(&kip, SIZE_MAX, SIZE_MAX) == KIP_CLOSED && !kip.is_open);
 }
 
@@ -71,7 +71,13 @@ static void packets(kip_t *kip) {
     assert(kip_submit(kip, 0, 129, bytes, 127, 0, &number) == KIP_INVALID_DATA_SIZE);
     assert(kip_submit(kip, 0, 131, bytes, 15, 0, &number) == KIP_INVALID_DATA_SIZE);
     assert(kip_submit(kip, 0, 130, bytes, 256, 0, &number) == KIP_TOO_MUCH_DATA);
-    assert(kip_submit(kip, 0, 129, NULL, 128, 0, &number) == KIP_NULL_POINTER && number == 99);
+    assert(kip_submit(kip, 0, 129, NULL, 128, 0, &number) == KIP_NULL_POINTER && number == KIP_NUMBER_NONE);
+    /* Null is looked for ahead of all else, then another thread's call. */
+    kip_t closed = {0};
+    assert(kip_submit(&closed, 0, 129, NULL, 128, 0, &number) == KIP_NULL_POINTER);
+    closed.entered = 1;
+    assert(kip_submit(&closed, 0, 129, NULL, 128, 0, &number) == KIP_NULL_POINTER);
+    assert(kip_submit(&closed, 0, 129, bytes, 128, 0, &number) == KIP_BUSY && kip_close(&closed) == KIP_BUSY);
     assert(kip_pulse(kip, (UINT64_C(1) << 62) + 1) == KIP_MOMENT_TOO_LARGE);
     /* No number was used. A packet without data is a packet, and data needs no alignment. */
     assert(kip_submit(kip, 0, 130, NULL, 0, 0, &number) == KIP_OK && number == 0);
@@ -89,14 +95,15 @@ static void sizes_of_no_memory(kip_t *kip) {
     assert(kip_submit(kip, 0, 131, nowhere, 2 * gigabyte, 0, &number) == KIP_TOO_MUCH_DATA);
     assert(kip_submit(kip, 0, 130, nowhere, gigabyte + 1, 0, &number) == KIP_INVALID_DATA_SIZE);
     assert(kip_submit(kip, 0, 0, nowhere, SIZE_MAX / 2, 0, &number) == KIP_INVALID_OPERATION);
-    assert(kip_submit(kip, 16, 129, nowhere, gigabyte, 0, &number) == KIP_BAD_SUBMITTERS && number == 99);
+    assert(kip_submit(kip, 16, 129, nowhere, gigabyte, 0, &number) == KIP_BAD_SUBMITTERS && number == KIP_NUMBER_NONE);
 }
 
 static void replies(kip_t *kip) {
     unsigned char results[8];
     kip_reply_t reply;
     kip_account account;
-    assert(kip_reply(kip, &reply, NULL, 8) == KIP_NULL_POINTER);
+    kip_t closed = {0};
+    assert(kip_reply(kip, &reply, NULL, 8) == KIP_NULL_POINTER && kip_reply(&closed, &reply, NULL, 8) == KIP_NULL_POINTER);
     assert(kip_reply(kip, &reply, NULL, 0) == KIP_OK && reply.size == 0 && reply.number == 0);
     assert(kip_flush(kip) == KIP_OK);
     memset(results, 0xAA, sizeof results);

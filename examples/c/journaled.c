@@ -80,6 +80,13 @@ static long recover(void) {
     return calls;
 }
 
+/* Returns whether the file's table has this program's columns: that of journaled.py has others. */
+static int is_ours(void) {
+    sqlite3_stmt *columns;
+    int ours = sqlite3_prepare_v2(file, "select * from call", -1, &columns, NULL) == SQLITE_OK && sqlite3_column_count(columns) == 4;
+    return sqlite3_finalize(columns) == SQLITE_OK && ours;
+}
+
 static void store(long number, const call_t *call) {
     sqlite3_bind_int64(insert, 1, number);
     sqlite3_bind_int(insert, 2, call->operation);
@@ -109,6 +116,10 @@ int main(int count, char **words) {
     must(sqlite3_open(words[1], &file) == SQLITE_OK, "open");
     sql("pragma journal_mode=wal; pragma synchronous=full;"
         "create table if not exists call (number integer primary key, operation integer, moment integer, data blob)");
+    if (!is_ours()) {
+        fprintf(stderr, "journaled: %s was written by another program, as journaled.py: give each program a file of its own\n", words[1]);
+        return 2;
+    }
     must(sqlite3_prepare_v2(file, "insert into call values (?, ?, ?, ?)", -1, &insert, NULL) == SQLITE_OK, "insert");
     must(kip_open(&kip, 0, 8190, 1) == KIP_OK, "kip_open");
 

@@ -84,10 +84,10 @@ int main(void) {
     has_at(&kip, 0, 1, KIP_PENDING_POSTED);
     has_at(&kip, 2, 3, KIP_PENDING_EXPIRED);
     has_at(&kip, 5, 12, KIP_PENDING_NONE);
-    assert(kip_transfer_at(&kip, 6, &transfer, &pending) == KIP_NOT_FOUND && transfer.code == 3 && pending == 99);
+    assert(kip_transfer_at(&kip, 6, &transfer, &pending) == KIP_NOT_FOUND && transfer.code == 0 && pending == KIP_PENDING_UNKNOWN);
     assert(kip_transfer_at(&kip, SIZE_MAX, &transfer, &pending) == KIP_NOT_FOUND);
     assert(kip_lookup_transfer(&kip, 5, 0, &transfer, &pending) == KIP_NOT_FOUND);
-    assert(kip_lookup_transfer(&kip, 1, 1, &transfer, &pending) == KIP_NOT_FOUND && transfer.code == 3 && pending == 99);
+    assert(kip_lookup_transfer(&kip, 1, 1, &transfer, &pending) == KIP_NOT_FOUND && transfer.code == 0);
     keeps_ids(&kip);
     assert(kip_close(&kip) == KIP_OK);
     puts("accounts by order, transfers with their status, ids that are kept");

@@ -81,7 +81,7 @@ static int is_again(kip_t *kip, int call, uint32_t status) {
 
 static void submitted(kip_t *kip, int call, uint32_t submitter, uint8_t operation, const void *data, size_t size) {
     uint64_t number = 77;
-    while (is_again(kip, call, kip_submit(kip, submitter, operation, data, size, length, &number))) assert(number == 77);
+    while (is_again(kip, call, kip_submit(kip, submitter, operation, data, size, length, &number))) assert(number == KIP_NUMBER_NONE);
     tell(&number, sizeof number);
 }
 

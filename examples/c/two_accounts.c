@@ -10,8 +10,23 @@ static void must(uint32_t status) {
     }
 }
 
+static void print_reply(const kip_reply_t *reply, const kip_failure *failures) {
+    printf("packet %u %llu, user word %llu: ", reply->submitter, (unsigned long long)reply->number,
+           (unsigned long long)reply->user_data);
+    /* The outcome first: a packet that isn't committed has no results. */
+    if (!kip_committed(reply)) {
+        printf("not committed (%s)\n", reply->outcome == KIP_OUTCOME_SHUTDOWN ? "shutdown" : "stopped");
+        return;
+    }
+    printf("place %llu, %s", (unsigned long long)reply->place, kip_succeeded(reply) ? "all succeeded" : "failed:");
+    for (size_t i = 0; i < reply->size / sizeof *failures; i++) {
+        printf(" %u %s", failures[i].index, kip_transfer_result_name(failures[i].result));
+    }
+    printf("\n");
+}
+
 int main(void) {
-    kip_t kip = {0};
+    kip_t kip = KIP_INIT;
     must(kip_open(&kip, 0, 8190, 2));
 
     kip_account accounts[2] = {
@@ -31,20 +46,11 @@ int main(void) {
 
     kip_reply_t reply;
     kip_failure failures[2];
-    while (kip_reply(&kip, &reply, failures, sizeof failures) == KIP_OK) {
-        printf("packet %u %llu, user word %llu: ", reply.submitter, (unsigned long long)reply.number,
-               (unsigned long long)reply.user_data);
-        /* The outcome first: a packet that isn't committed has no results. */
-        if (!kip_committed(&reply)) {
-            printf("not committed (%s)\n", reply.outcome == KIP_OUTCOME_SHUTDOWN ? "shutdown" : "stopped");
-            continue;
-        }
-        printf("place %llu, %s", (unsigned long long)reply.place, kip_succeeded(&reply) ? "all succeeded" : "failed:");
-        for (size_t i = 0; i < reply.size / sizeof *failures; i++) {
-            printf(" %u %s", failures[i].index, kip_transfer_result_name(failures[i].result));
-        }
-        printf("\n");
+    uint32_t status;
+    while ((status = kip_reply(&kip, &reply, failures, sizeof failures)) == KIP_OK) {
+        print_reply(&reply, failures);
     }
+    if (status != KIP_NO_REPLY) must(status); /* all replies were read */
 
     kip_account found;
     must(kip_lookup_account(&kip, 1, 0, &found));

@@ -1,11 +1,11 @@
 //! Two accounts, one transfer that succeeds and one that fails, and a packet after the Close.
 
-use kip::{failures, Account, CreateTransferResult, Ledger, Outcome, Transfer, CREATE_TRANSFERS};
+use kip::{Account, CreateTransferResult, Ledger, Outcome, Transfer, CREATE_TRANSFERS};
 
 fn main() -> Result<(), kip::Error> {
     let mut ledger = Ledger::open(0, 8190, 1)?;
     let account = Account { ledger: 1, code: 1, ..Account::default() };
-    assert!(ledger.create_accounts(&[Account { id: 1, ..account }, Account { id: 2, ..account }])?.is_empty());
+    ledger.create_accounts(&[Account { id: 1, ..account }, Account { id: 2, ..account }])?.all_created()?;
 
     let transfer = Transfer { id: 1, debit_account_id: 1, credit_account_id: 2, amount: 30, ledger: 1, code: 1, ..Transfer::default() };
     let lost = Transfer { id: 2, credit_account_id: 9, ..transfer };
@@ -21,9 +21,10 @@ fn main() -> Result<(), kip::Error> {
     let mut buffer = Vec::new();
     while let Some(reply) = ledger.reply(&mut buffer) {
         match reply.outcome {
-            Outcome::Committed { place, results } => {
-                println!("packet {}: committed at place {place}, {} failed", reply.user_data, failures(results).count());
-                for failure in failures(results) {
+            Outcome::Committed { place, .. } => {
+                let failures = reply.failures()?;
+                println!("packet {}: committed at place {place}, {} failed", reply.user_data, failures.len());
+                for failure in failures {
                     println!("  {:?}", CreateTransferResult::of(failure.result));
                 }
             }

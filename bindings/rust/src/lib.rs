@@ -2,24 +2,33 @@
 //!
 //! Safe Rust over `include/kip.h`: this crate upholds what that header asks of a caller.
 //!
+//! `Ok` of `create_accounts` and `create_transfers` says that the packet is committed, and has the events that failed. `all_created`
+//! makes an error of these. A reply to a packet says the same by `succeeded` and `failures`.
+//!
 //! ```
 //! use kip::{Account, Ledger, Transfer};
 //!
 //! # fn main() -> Result<(), kip::Error> {
 //! let mut ledger = Ledger::open(0, 8190, 1)?;
 //! let account = Account { ledger: 1, code: 1, ..Account::default() };
-//! ledger.create_accounts(&[Account { id: 1, ..account }, Account { id: 2, ..account }])?;
+//! ledger.create_accounts(&[Account { id: 1, ..account }, Account { id: 2, ..account }])?.all_created()?;
 //! let transfer = Transfer {
 //!     id: kip::id(), debit_account_id: 1, credit_account_id: 2, amount: 30, ledger: 1, code: 1,
 //!     ..Transfer::default()
 //! };
-//! assert!(ledger.create_transfers(&[transfer])?.is_empty());
+//! ledger.create_transfers(&[transfer])?.all_created()?;
 //! assert_eq!(ledger.lookup_accounts(&[1])[0].debits_posted, 30);
+//! for failed in ledger.create_transfers(&[transfer])? {
+//!     assert_eq!(failed.to_string(), "transfer 0: exists");
+//! }
 //! # Ok(())
 //! # }
 //! ```
 
+mod failures;
 mod ids;
+#[cfg(doctest)]
+mod must_warn;
 mod raw;
 mod records;
 mod results;
@@ -27,6 +36,7 @@ mod results;
 use std::collections::VecDeque;
 use std::fmt;
 
+pub use failures::{CreateAccountsResult, CreateTransfersResult, Failed, Failure, Failures};
 pub use ids::id;
 pub use raw::Counts;
 pub use records::{Account, AccountFlags, PendingStatus, Transfer, TransferFlags};
@@ -79,7 +89,7 @@ pub enum NotCommitted {
     Stopped,
 }
 
-/// Why events weren't committed.
+/// Why events weren't committed, or which of them failed.
 #[derive(Clone, Copy, Debug, PartialEq, Eq)]
 pub enum Error {
     /// The packet wasn't queued, and nothing has changed.
@@ -88,11 +98,23 @@ pub enum Error {
     /// `reply` has its results.
     Queued { number: u64 },
     NotCommitted(NotCommitted),
+    /// Accounts of a committed packet weren't created: this many, the first of them so.
+    AccountsFailed { count: usize, first: CreateAccountsResult },
+    /// Transfers of a committed packet weren't created: this many, the first of them so.
+    TransfersFailed { count: usize, first: CreateTransfersResult },
+    /// Events of a reply's committed packet failed: this many, the first of them so.
+    EventsFailed { count: usize, first: Failure },
 }
 
 impl From<Refusal> for Error {
     fn from(refusal: Refusal) -> Error {
         Error::Refused(refusal)
+    }
+}
+
+impl From<NotCommitted> for Error {
+    fn from(why: NotCommitted) -> Error {
+        Error::NotCommitted(why)
     }
 }
 
@@ -120,6 +142,7 @@ fn done(status: u32) -> Result<(), Refusal> {
 
 /// What happened to a packet. Only a committed one has results: 8 bytes for each event that failed, or 128 for each account
 /// found.
+#[must_use = "it says whether the packet is committed"]
 #[derive(Clone, Copy, Debug, PartialEq, Eq)]
 pub enum Outcome<'a> {
     /// Committed at this place among all packets and pulses.
@@ -130,7 +153,8 @@ pub enum Outcome<'a> {
     Stopped,
 }
 
-/// The reply to one packet.
+/// The reply to one packet, which its submitter and number name.
+#[must_use = "it says whether the packet is committed, and what failed"]
 #[derive(Clone, Copy, Debug, PartialEq, Eq)]
 pub struct Reply<'a> {
     pub submitter: u32,
@@ -141,34 +165,37 @@ pub struct Reply<'a> {
     pub outcome: Outcome<'a>,
 }
 
-/// An event that failed, and its result's number.
-#[derive(Clone, Copy, Debug, PartialEq, Eq)]
-pub struct Failure {
-    pub index: u32,
-    pub result: u32,
+impl<'a> Reply<'a> {
+    /// Returns the results of a committed packet.
+    pub fn results(&self) -> Result<&'a [u8], NotCommitted> {
+        match self.outcome {
+            Outcome::Committed { results, .. } => Ok(results),
+            Outcome::Shutdown => Err(NotCommitted::Shutdown),
+            Outcome::Stopped => Err(NotCommitted::Stopped),
+        }
+    }
+
+    /// Returns the events of a committed packet that failed. A look-up has none.
+    pub fn failures(&self) -> Result<Failures<Failure>, NotCommitted> {
+        let results = self.results()?;
+        let failed = if self.operation == LOOKUP_ACCOUNTS { &[] } else { results };
+        Ok(Failures::of(failures_in(failed)))
+    }
+
+    /// Returns whether the packet is committed and none of its events failed.
+    #[must_use]
+    pub fn succeeded(&self) -> bool {
+        self.results().is_ok_and(|results| results.is_empty() || self.operation == LOOKUP_ACCOUNTS)
+    }
 }
 
 /// Returns the failures in the results of a packet that creates.
-pub fn failures(results: &[u8]) -> impl Iterator<Item = Failure> + '_ {
+fn failures_in(results: &[u8]) -> impl Iterator<Item = Failure> + '_ {
     let word = |bytes: &[u8]| u32::from_le_bytes([bytes[0], bytes[1], bytes[2], bytes[3]]);
     results.chunks_exact(8).map(move |each| Failure {
         index: word(each),
         result: word(&each[4..]),
     })
-}
-
-/// An account that wasn't created.
-#[derive(Clone, Copy, Debug, PartialEq, Eq)]
-pub struct CreateAccountsResult {
-    pub index: u32,
-    pub result: CreateAccountResult,
-}
-
-/// A transfer that wasn't created.
-#[derive(Clone, Copy, Debug, PartialEq, Eq)]
-pub struct CreateTransfersResult {
-    pub index: u32,
-    pub result: CreateTransferResult,
 }
 
 /// A reply that was read while another was looked for.
@@ -282,6 +309,7 @@ impl Ledger {
     }
 
     /// Returns whether 2^63 places are used up: nothing more is committed.
+    #[must_use]
     pub fn stopped(&mut self) -> bool {
         unsafe { raw::kip_stopped(&mut *self.handle) == 8 }
     }
@@ -305,7 +333,9 @@ impl Ledger {
         }
     }
 
-    /// Reads the next reply. Its results are in the buffer, in place of what was there, and nothing else of it is written.
+    /// Reads the next reply, which may be another packet's than the last one queued. Its results are in the buffer, in place of what was
+    /// there, and nothing else of it is written. `None` doesn't say that all is committed: packets that are held have a reply after `flush`.
+    #[must_use = "only the reply says whether its packet is committed"]
     pub fn reply<'a>(&mut self, buffer: &'a mut Vec<u8>) -> Option<Reply<'a>> {
         let head = match self.kept.pop_front() {
             Some(kept) => {
@@ -338,31 +368,32 @@ impl Ledger {
         }
     }
 
-    /// Commits one packet of submitter 0, and returns a result for each account that failed. If memory runs out as it is
-    /// committed, the error is `Queued`.
-    pub fn create_accounts(&mut self, accounts: &[Account]) -> Result<Vec<CreateAccountsResult>, Error> {
+    /// Commits one packet of submitter 0, and returns a result for each account that failed: `Ok` doesn't say that they were created. If
+    /// memory runs out as it is committed, the error is `Queued`.
+    pub fn create_accounts(&mut self, accounts: &[Account]) -> Result<Failures<CreateAccountsResult>, Error> {
         let data: Vec<u8> = accounts.iter().flat_map(Account::to_bytes).collect();
         let results = self.committed(CREATE_ACCOUNTS, &data)?;
         let of = |failure: Failure| CreateAccountsResult {
             index: failure.index,
             result: CreateAccountResult::of(failure.result).expect("a result of an account"),
         };
-        Ok(failures(&results).map(of).collect())
+        Ok(Failures::of(failures_in(&results).map(of)))
     }
 
-    /// Commits one packet of submitter 0, and returns a result for each transfer that failed. If memory runs out as it is
-    /// committed, the error is `Queued`.
-    pub fn create_transfers(&mut self, transfers: &[Transfer]) -> Result<Vec<CreateTransfersResult>, Error> {
+    /// Commits one packet of submitter 0, and returns a result for each transfer that failed: `Ok` doesn't say that they were created. If
+    /// memory runs out as it is committed, the error is `Queued`.
+    pub fn create_transfers(&mut self, transfers: &[Transfer]) -> Result<Failures<CreateTransfersResult>, Error> {
         let data: Vec<u8> = transfers.iter().flat_map(Transfer::to_bytes).collect();
         let results = self.committed(CREATE_TRANSFERS, &data)?;
         let of = |failure: Failure| CreateTransfersResult {
             index: failure.index,
             result: CreateTransferResult::of(failure.result).expect("a result of a transfer"),
         };
-        Ok(failures(&results).map(of).collect())
+        Ok(Failures::of(failures_in(&results).map(of)))
     }
 
     /// Returns the account with an id; packets that wait aren't in it.
+    #[must_use]
     pub fn lookup_account(&mut self, id: u128) -> Option<Account> {
         let mut bytes = [0; 128];
         let (low, high) = (id as u64, (id >> 64) as u64);
@@ -374,6 +405,7 @@ impl Ledger {
     }
 
     /// Returns the account at an index in the order of making.
+    #[must_use]
     pub fn account_at(&mut self, index: usize) -> Option<Account> {
         let mut bytes = [0; 128];
         match unsafe { raw::kip_account_at(&mut *self.handle, index, &mut bytes) } {
@@ -394,16 +426,19 @@ impl Ledger {
     }
 
     /// Returns the transfer with an id; a post or a void with its resolved fields.
+    #[must_use]
     pub fn lookup_transfer(&mut self, id: u128) -> Option<Transfer> {
         Some(self.transfer_and_status(id)?.0)
     }
 
     /// Returns the status of the pending transfer with an id.
+    #[must_use]
     pub fn transfer_status(&mut self, id: u128) -> Option<PendingStatus> {
         self.transfer_and_status(id)?.1
     }
 
     /// Returns the transfer at an index in the order of making, with its status if it is pending.
+    #[must_use]
     pub fn transfer_at(&mut self, index: usize) -> Option<(Transfer, Option<PendingStatus>)> {
         let (mut bytes, mut pending) = ([0; 128], 0);
         match unsafe { raw::kip_transfer_at(&mut *self.handle, index, &mut bytes, &mut pending) } {
@@ -414,16 +449,19 @@ impl Ledger {
     }
 
     /// Returns the accounts with these ids, in their order; ids without one are left out.
+    #[must_use]
     pub fn lookup_accounts(&mut self, ids: &[u128]) -> Vec<Account> {
         ids.iter().filter_map(|id| self.lookup_account(*id)).collect()
     }
 
     /// Returns the transfers with these ids, in their order; ids without one are left out.
+    #[must_use]
     pub fn lookup_transfers(&mut self, ids: &[u128]) -> Vec<Transfer> {
         ids.iter().filter_map(|id| self.lookup_transfer(*id)).collect()
     }
 
     /// Returns how many accounts, transfers and failed ids are stored; packets that are held aren't in it.
+    #[must_use]
     pub fn counts(&mut self) -> Counts {
         let mut counts = Counts::default();
         let status = unsafe { raw::kip_counts(&mut *self.handle, &mut counts) };
@@ -432,11 +470,18 @@ impl Ledger {
     }
 
     /// Returns the clock in nanoseconds.
+    #[must_use]
     pub fn clock(&mut self) -> u64 {
         let mut nanoseconds = 0;
         let status = unsafe { raw::kip_clock(&mut *self.handle, &mut nanoseconds) };
         assert_eq!(status, 0);
         nanoseconds
+    }
+}
+
+impl fmt::Debug for Ledger {
+    fn fmt(&self, out: &mut fmt::Formatter<'_>) -> fmt::Result {
+        out.debug_struct("Ledger").finish_non_exhaustive()
     }
 }
 
@@ -447,6 +492,7 @@ impl Drop for Ledger {
 }
 
 /// Returns the library's version: major, minor and patch in a byte each.
+#[must_use]
 pub fn version() -> u32 {
     unsafe { raw::kip_version() }
 }

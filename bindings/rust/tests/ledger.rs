@@ -1,6 +1,6 @@
 use kip::{
-    failures, Account, AccountFlags, Counts, CreateAccountResult, CreateTransferResult, Error, Ledger, NotCommitted, Outcome,
-    PendingStatus, Refusal, Transfer, TransferFlags, CREATE_ACCOUNTS, CREATE_TRANSFERS,
+    Account, AccountFlags, Counts, CreateAccountResult, CreateTransferResult, CreateTransfersResult, Error, Failure, Ledger,
+    NotCommitted, Outcome, PendingStatus, Refusal, Transfer, TransferFlags, CREATE_ACCOUNTS, CREATE_TRANSFERS, LOOKUP_ACCOUNTS,
 };
 
 const ACCOUNT: Account = Account {
@@ -60,7 +60,8 @@ fn linked_pair_fails_whole() -> Result<(), Error> {
     // Event 0 fails with 1 (linked_event_failed), event 1 with 22 (credit_account_not_found).
     let results = [0, 0, 0, 0, 1, 0, 0, 0, 1, 0, 0, 0, 22, 0, 0, 0];
     assert_eq!(reply.outcome, Outcome::Committed { place: 1, results: &results });
-    assert_eq!(failures(&results).map(|it| (it.index, it.result)).collect::<Vec<_>>(), [(0, 1), (1, 22)]);
+    let failed = [Failure { index: 0, result: 1 }, Failure { index: 1, result: 22 }];
+    assert_eq!(reply.failures()?.into_vec(), failed);
     assert_eq!(ledger.reply(&mut buffer), None);
     let account = ledger.lookup_account(1).unwrap();
     assert_eq!((account.debits_posted, account.credits_posted), (0, 0));
@@ -102,7 +103,7 @@ fn calls_of_a_client() -> Result<(), Error> {
 fn ids_are_kept_by_result() -> Result<(), Error> {
     let mut ledger = Ledger::open(0, 8190, 1)?;
     let limited = Account { id: 3, flags: AccountFlags::DEBITS_MUST_NOT_EXCEED_CREDITS, ..ACCOUNT };
-    ledger.create_accounts(&[Account { id: 1, ..ACCOUNT }, Account { id: 2, ..ACCOUNT }, limited])?;
+    ledger.create_accounts(&[Account { id: 1, ..ACCOUNT }, Account { id: 2, ..ACCOUNT }, limited])?.all_created()?;
     let post = Transfer { id: 12, pending_id: 99, flags: TransferFlags::POST_PENDING_TRANSFER, ..Transfer::default() };
     let failing = [transfer(10, 9, 2), transfer(11, 1, 9), post, transfer(13, 3, 1), transfer(14, 1, 1), transfer(15, 0, 1)];
     let results = ledger.create_transfers(&failing)?;
@@ -156,6 +157,60 @@ fn refusals_have_names() {
     assert_eq!(kip::version(), 0x100);
 }
 
+/// Failures end a function by `?`, as this crate's error or as any. A packet whose events succeeded goes on.
+#[test]
+fn failures_become_errors() -> Result<(), Error> {
+    fn post(ledger: &mut Ledger, transfers: &[Transfer]) -> Result<(), Box<dyn std::error::Error>> {
+        ledger.create_transfers(transfers)?.all_created()?;
+        Ok(())
+    }
+    let mut ledger = Ledger::open(0, 8190, 1)?;
+    ledger.create_accounts(&[Account { id: 1, ..ACCOUNT }, Account { id: 2, ..ACCOUNT }])?.all_created()?;
+    assert!(post(&mut ledger, &[transfer(1, 1, 2)]).is_ok());
+    let error = post(&mut ledger, &[transfer(2, 1, 2), transfer(3, 1, 9), transfer(4, 1, 1)]).unwrap_err();
+    assert_eq!(error.to_string(), "2 failed: transfer 1: credit_account_not_found, ..");
+    let failed = ledger.create_transfers(&[transfer(5, 9, 2)])?.all_created().unwrap_err();
+    assert_eq!(failed.failures(), [CreateTransfersResult { index: 0, result: CreateTransferResult::DebitAccountNotFound }]);
+    assert_eq!(failed.to_string(), "1 failed: transfer 0: debit_account_not_found");
+    assert_eq!(Error::from(failed.clone()), Error::TransfersFailed { count: 1, first: failed.failures()[0] });
+    let again = ledger.create_accounts(&[Account { id: 2, ..ACCOUNT }])?;
+    assert_eq!((again.len(), again[0].to_string()), (1, "account 0: exists".to_string()));
+    assert!(matches!(again.all_created().map_err(Error::from), Err(Error::AccountsFailed { count: 1, .. })));
+    Ok(())
+}
+
+/// Only a packet that is committed and whose events all succeeded has succeeded. A look-up has no failures, whatever it finds.
+#[test]
+fn replies_say_whether_they_succeeded() -> Result<(), Error> {
+    let mut ledger = Ledger::open(0, 8190, 1)?;
+    let ids = [1u128, 2, 9].map(u128::to_le_bytes).concat();
+    ledger.submit(0, CREATE_ACCOUNTS, &two_accounts(), 0)?;
+    ledger.submit(0, CREATE_TRANSFERS, &bytes_of(&[transfer(1, 1, 9)]), 0)?;
+    ledger.submit(0, LOOKUP_ACCOUNTS, &ids, 0)?;
+    ledger.shut()?;
+    ledger.submit(0, CREATE_TRANSFERS, &bytes_of(&[transfer(2, 1, 2)]), 0)?;
+    let mut buffer = Vec::new();
+    let reply = ledger.reply(&mut buffer).unwrap();
+    assert!(reply.succeeded() && reply.failures()?.is_empty());
+    let reply = ledger.reply(&mut buffer).unwrap();
+    assert!(!reply.succeeded());
+    let first = Failure { index: 0, result: 22 };
+    assert_eq!(reply.failures()?.all_created().map_err(Error::from), Err(Error::EventsFailed { count: 1, first }));
+    let reply = ledger.reply(&mut buffer).unwrap();
+    assert!(reply.succeeded() && reply.failures()?.is_empty());
+    assert_eq!(reply.results().map(<[u8]>::len), Ok(256));
+    let reply = ledger.reply(&mut buffer).unwrap();
+    assert!(!reply.succeeded());
+    assert_eq!((reply.results(), reply.failures()), (Err(NotCommitted::Shutdown), Err(NotCommitted::Shutdown)));
+    Ok(())
+}
+
+#[test]
+fn a_ledger_can_be_shown() {
+    assert_eq!(Ledger::open(0, 0, 1).unwrap_err(), Refusal::BadLimit);
+    assert_eq!(format!("{:?}", Ledger::open(0, 1, 1)), "Ok(Ledger { .. })");
+}
+
 #[test]
 fn dropped_with_packets_held() {
     for _ in 0..100 {
@@ -167,7 +222,7 @@ fn dropped_with_packets_held() {
 #[test]
 fn moves_from_thread_to_thread() -> Result<(), Error> {
     let mut ledger = Ledger::open(0, 8190, 1)?;
-    ledger.create_accounts(&[Account { id: 1, ..ACCOUNT }, Account { id: 2, ..ACCOUNT }])?;
+    ledger.create_accounts(&[Account { id: 1, ..ACCOUNT }, Account { id: 2, ..ACCOUNT }])?.all_created()?;
     for id in 1..=20 {
         ledger = std::thread::spawn(move || {
             assert!(ledger.create_transfers(&[transfer(id, 1, 2)]).unwrap().is_empty());

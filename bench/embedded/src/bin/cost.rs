@@ -46,14 +46,13 @@ fn main() {
     machine.reserve(1000, transfers);
     ledger.submit(0, CREATE_ACCOUNTS, &accounts, 0).expect("queued");
     ledger.flush().expect("flushed");
-    ledger.reply(&mut results).expect("a reply");
+    assert!(ledger.reply(&mut results).expect("a reply").succeeded());
     machine.create_accounts(&accounts);
     let ours = nanoseconds(transfers as u64, || {
         for packet in data.chunks(128 * events) {
             ledger.submit(0, CREATE_TRANSFERS, packet, 0).expect("queued");
             ledger.flush().expect("flushed");
-            ledger.reply(&mut results).expect("a reply");
-            assert!(results.is_empty());
+            assert!(ledger.reply(&mut results).expect("a reply").succeeded());
         }
     });
     let peers = nanoseconds(transfers as u64, || {

@@ -7,7 +7,7 @@
 //! The submitters send what those of `bench_pipeline` send, and the line printed is theirs. ROOM is how many transfers capacity is
 //! reserved for, or 0. The embedded ledger keeps no journal. `live`: as `peer_lock` does it.
 
-use kip::{Ledger, Outcome, failures};
+use kip::{Ledger, Outcome};
 use peer::layout::{BATCH_MAX, Failure};
 use peer::lock::{self, Committed, Load, line_of_run, run_live};
 use peer::packet::Packet;
@@ -25,8 +25,9 @@ impl lock::Ledger for Embedded {
         self.ledger.submit(submitter, operation, bytes, 0).expect("queued");
         self.ledger.flush().expect("flushed");
         let reply = self.ledger.reply(&mut self.results).expect("a reply");
-        let Outcome::Committed { place, results } = reply.outcome else { panic!("memory ran out") };
-        let failures = failures(results).map(|each| Failure { index: each.index, code: each.result }).collect();
+        let Outcome::Committed { place, .. } = reply.outcome else { panic!("it isn't committed") };
+        let failures = reply.failures().expect("it is committed");
+        let failures = failures.into_iter().map(|each| Failure { index: each.index, code: each.result }).collect();
         Committed { place, failures, packet: Some(packet) }
     }
 

@@ -1,0 +1,41 @@
+//! Calls whose results must be looked at: the compiler warns of each that isn't. Only doc tests.
+
+macro_rules! must_warn {
+    ($($name:ident $call:literal)*) => {$(
+        must_warn! { $name, concat!("```compile_fail\n", head!(), $call, tail!(), "\n\n```\n", head!(), "let _ = ", $call, tail!()) }
+    )*};
+    ($name:ident, $tests:expr) => {
+        #[doc = $tests]
+        pub struct $name;
+    };
+}
+
+macro_rules! head {
+    () => {
+        "#![deny(unused_must_use)]
+fn call(ledger: &mut kip::Ledger, reply: kip::Reply, buffer: &mut Vec<u8>) -> Result<(), Box<dyn std::error::Error>> {
+let _ = (reply, &buffer, &ledger);
+"
+    };
+}
+
+macro_rules! tail {
+    () => {
+        ";
+Ok(())
+}
+```"
+    };
+}
+
+must_warn! {
+    Accounts "ledger.create_accounts(&[])?"
+    Transfers "ledger.create_transfers(&[])?"
+    Failed "ledger.create_transfers(&[])?.all_created()"
+    NextReply "ledger.reply(buffer)"
+    Reply "ledger.reply(buffer).unwrap()"
+    Outcome "reply.outcome"
+    Failures "reply.failures()?"
+    Succeeded "reply.succeeded()"
+    Stopped "ledger.stopped()"
+}
