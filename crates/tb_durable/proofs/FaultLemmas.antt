@@ -12,6 +12,7 @@ next_fault : {rows read : List Row} {bare : BareLedgerState} (row : Row) (left :
 next_fault row left read_journal all fault.NoMemory is = tt
 next_fault row left read_journal all (fault.Store error) is = tt
 next_fault row left read_journal all (fault.File error) is = tt
+next_fault row left read_journal all fault.LogWithoutFile is = tt
 next_fault row left read_journal all fault.NotALedger is = tt
 next_fault row left read_journal all fault.BadSettings is = tt
 next_fault row left read_journal all (fault.OtherVersion version) is = absurd is
@@ -32,6 +33,7 @@ pub row_tells : (place : ℕ) (row : Row) (blamed : Option StoreError) (error : 
 row_tells place row blamed fault.NoMemory is = tt
 row_tells place row blamed (fault.Store error) is = absurd is
 row_tells place row blamed (fault.File error) is = tt
+row_tells place row blamed fault.LogWithoutFile is = tt
 row_tells place row blamed fault.NotALedger is = tt
 row_tells place row blamed fault.BadSettings is = tt
 row_tells place row blamed (fault.OtherVersion version) is = tt
