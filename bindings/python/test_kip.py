@@ -2,12 +2,13 @@
 import os
 import pathlib
 import resource
+import sys
 import threading
 import unittest
 
 import kip
 from kip import (
-    CREATE_ACCOUNTS, CREATE_TRANSFERS, SHUTDOWN, Account, AccountFlags, ClientSync, CreateAccountResult, CreateTransferResult,
+    CREATE_ACCOUNTS, CREATE_TRANSFERS, LOOKUP_ACCOUNTS, SHUTDOWN, Account, AccountFlags, ClientSync, CreateAccountResult, CreateTransferResult,
     KipError, Ledger, NotCommitted, PendingStatus, Transfer, TransferFlags,
 )
 
@@ -133,8 +134,19 @@ class Bank(unittest.TestCase):
             self.assertEqual(ledger.create_transfers([Transfer(id=2, amount=5, **ROUTE)]), [])
             reply = ledger.reply(number)
             self.assertEqual((reply.user_data, reply.results), (7, bytes([0, 0, 0, 0, 22, 0, 0, 0])))
-            self.assertIsNone(ledger.reply(number))
             self.assertIsNone(ledger.reply())
+
+    def test_a_number_without_an_unread_reply_is_refused(self):
+        with Ledger(submitters=2) as ledger:
+            number = ledger.submit(CREATE_ACCOUNTS, b"", submitter=1)
+            self.assertIsNone(ledger.reply(number, submitter=1))
+            ledger.flush()
+            for packet in (number, 0), (number + 1, 1), (-1, 1), ("0", 1):
+                with self.subTest(packet=packet), self.assertRaisesRegex(LookupError, "read already, or no such packet"):
+                    ledger.reply(*packet)
+            self.assertEqual(ledger.reply(number, submitter=1).number, number)
+            with self.assertRaises(LookupError):
+                ledger.reply(number, submitter=1)
 
     def replies_to_colliding_ids(self, ledger):
         """Returns the results of accounts and transfers whose ids all have hash 0 without a seed."""
@@ -158,6 +170,123 @@ class Bank(unittest.TestCase):
             self.assertEqual(self.replies_to_colliding_ids(seeded), replies)
         with self.assertRaises(OverflowError):
             Ledger(seed=(0, 2**64))
+
+
+def interrupted(step, call, handler):
+    """Returns a call's result and whether it had as many steps. A handler runs ahead of this step: an instruction of kip, as for a signal."""
+    left = step
+
+    def each(_frame, event, _argument):
+        nonlocal left
+        if event == "opcode":
+            left -= 1
+            if left == 0:
+                handler()
+        return each
+
+    def begin(frame, _event, _argument):
+        if frame.f_code.co_filename == kip.__file__:
+            frame.f_trace_opcodes = True
+            return each
+
+    before = sys.gettrace()
+    sys.settrace(begin)
+    try:
+        return call(), left <= 0
+    finally:
+        sys.settrace(before)
+
+
+class Handlers(unittest.TestCase):
+    """A signal handler calls the ledger ahead of each instruction of another call, in turn."""
+
+    def each_step(self, call, handler, check, least):
+        """Checks the results of a call and of its handler, which interrupts it at each step. There are some steps at least."""
+        for step in range(1, 100_000):
+            inner = []
+            outer, reached = interrupted(step, call, lambda: inner.append(handler()))
+            if not reached:
+                break
+            check(step, outer, inner[0])
+        self.assertGreater(step, least)
+
+    def test_each_create_has_its_own_results(self):
+        """The call's transfer isn't committed, since its code is 0; the handler's is there already."""
+        with Ledger() as ledger:
+            ledger.create_accounts(PAIR)
+            done, bad = Transfer(id=1, amount=1, **ROUTE), Transfer(id=2, amount=1, **ROUTE | {"code": 0})
+            ledger.create_transfers([done])
+            self.each_step(lambda: ledger.create_transfers([bad]), lambda: ledger.create_transfers([done]),
+                           lambda step, *results: self.assertEqual(results, ([(0, 20)], [(0, 46)]), f"step {step}"), 100)
+            self.assertIsNone(ledger.reply())
+
+    def test_each_look_up_has_its_own_results(self):
+        """A look-up by hand of account 1 or 2, with large replies among them."""
+        def look_up(ledger, id, times):
+            number = ledger.submit(LOOKUP_ACCOUNTS, id.to_bytes(16, "little") * times)
+            ledger.flush()
+            results = ledger.reply(number).results
+            return len(results), set(int.from_bytes(results[at:at + 16], "little") for at in range(0, len(results), 128))
+
+        with Ledger() as ledger:
+            ledger.create_accounts(PAIR)
+            for outer, inner in ((1, 1), (1, 5), (5, 1), (5, 5)):
+                self.each_step(lambda: look_up(ledger, 1, outer), lambda: look_up(ledger, 2, inner),
+                               lambda step, *found: self.assertEqual(found, ((128 * outer, {1}), (128 * inner, {2})), f"step {step}"), 50)
+
+    def test_a_reply_without_a_number_leaves_those_of_other_calls(self):
+        with Ledger() as ledger:
+            ledger.create_accounts(PAIR)
+
+            def take_any():
+                ledger.flush()
+                try:
+                    return ledger.reply()
+                except KipError as why:
+                    return why.name
+
+            def check(step, results, taken):
+                self.assertEqual(results, [(0, 21)], f"step {step}")
+                self.assertIn(taken, ("busy", None), f"step {step}")
+
+            self.each_step(lambda: ledger.create_accounts([PAIR[0]]), take_any, check, 100)
+            with self.assertRaises(KipError) as caught:
+                interrupted(50, lambda: ledger.create_accounts([PAIR[0]]), ledger.reply)
+            self.assertEqual((caught.exception.status, caught.exception.name), (106, "busy"))
+
+    def test_replies_come_once_and_in_order(self):
+        """The call reads the next reply, and the handler that of its own packet, past those that are ahead of it."""
+        with Ledger() as ledger:
+            def call():
+                for user_data in 5, 6, 7:
+                    ledger.submit(CREATE_ACCOUNTS, b"", user_data=user_data)
+                ledger.flush()
+                return [reply.user_data for reply in iter(ledger.reply, None)]
+
+            self.each_step(call, lambda: ledger.create_accounts([Account()]),
+                           lambda step, *results: self.assertEqual(results, ([5, 6, 7], [(0, 6)]), f"step {step}"), 100)
+
+    def test_a_handler_takes_a_reply_that_the_call_was_about_to_return(self):
+        with Ledger() as ledger:
+            numbers = []
+
+            def call():
+                numbers.append(ledger.submit(CREATE_ACCOUNTS, b"", user_data=5))
+                ledger.create_accounts([])
+                return ledger.reply()
+
+            def check(step, outer, inner):
+                taken = [reply.user_data for reply in (outer, inner) if reply is not None]
+                self.assertEqual(taken, [5], f"step {step}")
+
+            def take():
+                try:
+                    return ledger.reply(numbers[-1])
+                except LookupError:
+                    return None
+
+            numbers.append(0)
+            self.each_step(call, take, check, 100)
 
 
 class Threads(unittest.TestCase):

@@ -14,6 +14,7 @@ and submitters. Only events that failed have a result. A packet that isn't commi
 The library is that of the environment variable KIP_SO, else the one in this package, else the one that the system's
 loader finds.
 """
+import collections
 import ctypes
 import dataclasses
 import enum
@@ -31,9 +32,9 @@ from .results import CreateAccountResult, CreateTransferResult
 CREATE_ACCOUNTS, CREATE_TRANSFERS, LOOKUP_ACCOUNTS = 129, 130, 131
 COMMITTED, SHUTDOWN, STOPPED = 0, 7, 8
 STATUSES = {1: "invalid_operation", 2: "invalid_data_size", 3: "too_much_data", 5: "full", 6: "no_memory", 7: "shutdown",
-            8: "stopped", 9: "bad_limit", 11: "bad_submitters", 12: "moment_too_large", 100: "closed", 101: "already_open"}
+            8: "stopped", 9: "bad_limit", 11: "bad_submitters", 12: "moment_too_large", 100: "closed", 101: "already_open", 106: "busy"}
 OUTCOMES = {COMMITTED: "committed", SHUTDOWN: "shutdown", STOPPED: "stopped"}
-NO_REPLY, TOO_SMALL, NOT_FOUND = 102, 103, 104
+NO_REPLY, TOO_SMALL, NOT_FOUND, BUSY = 102, 103, 104, 106
 HALF = 2**64 - 1
 amount_max = 2**128 - 1
 
@@ -293,16 +294,23 @@ class Ledger:
 
     Give a seed if ids can be chosen by someone you don't trust: `seed=(secrets.randbits(64), secrets.randbits(64))`.
     Replies don't depend on it.
+
+    A signal handler or a `__del__` may call the ledger in the middle of another call on the same thread. Both calls have their
+    own results: each packet's reply is found by its number. Only `reply()` without a number raises KipError `busy` there, since it
+    could take the reply that the other call waits for. A list of `accounts` or `transfers` may have some of what such a call changes.
+
+    A handler that raises, as for KeyboardInterrupt, ends a call anywhere. Its packet may be queued or committed, and its reply
+    unread or lost: look up what it makes, or send it again with the same ids.
     """
 
     def __init__(self, clock=0, limit=8190, submitters=1, library=None, seed=None):
         self._is_open = False
         self._lock = threading.RLock()
-        self._replies = {}
+        self._replies = collections.OrderedDict()  # read, and not yet returned
+        self._unread = set()  # packets whose replies aren't returned yet
         self._library = _load(str(library or os.environ.get("KIP_SO") or library_path()))
         self._handle = _Handle()
         self._at = ctypes.addressof(self._handle)
-        self._buffer = ctypes.create_string_buffer(128)
         settings = _number(clock, 64), _number(limit, 32), _number(submitters, 32)
         if seed is None:
             self._must(self._library.kip_open(self._at, *settings))
@@ -352,6 +360,7 @@ class Ledger:
         data = data if isinstance(data, bytes) else bytes(data)
         self._must(self._library.kip_submit_bytes(self._at, _number(submitter, 32), _number(operation, 8), data,
                                                   len(data), _number(user_data, 64), ctypes.byref(number)))
+        self._unread.add((submitter, number.value))
         return number.value
 
     @_locked
@@ -378,32 +387,56 @@ class Ledger:
         return status == STOPPED
 
     def _next(self):
-        head = _Head()
-        while True:
-            status = self._library.kip_reply_bytes(self._at, ctypes.byref(head), self._buffer, len(self._buffer))
-            if status == NO_REPLY:
-                return None
-            if status != TOO_SMALL:
-                break
-            self._buffer = ctypes.create_string_buffer(head.size)
+        """Reads the next reply, or None. The buffer is this call's own: a signal handler that reads replies has another."""
+        head, buffer = _Head(), ctypes.create_string_buffer(128)
+        while (status := self._library.kip_reply_bytes(self._at, ctypes.byref(head), buffer, len(buffer))) == TOO_SMALL:
+            buffer = ctypes.create_string_buffer(head.size)
+        if status == NO_REPLY:
+            return None
         self._must(status)
         return Reply(head.submitter, head.number, head.operation, head.user_data, head.outcome, head.place,
-                     ctypes.string_at(self._buffer, head.size))
+                     ctypes.string_at(buffer, head.size))
 
-    @_locked
-    def reply(self, number=None, submitter=0):
-        """Returns the next reply, or with a number that packet's; None if it isn't there yet.
+    def _oldest(self):
+        """Returns the oldest reply, or None. A signal handler may keep replies meanwhile, or take them."""
+        while True:
+            try:
+                reply = self._replies.popitem(last=False)[1]
+            except KeyError:
+                reply = self._next()
+            if reply is not None:
+                self._unread.discard((reply.submitter, reply.number))
+                return reply
+            if not self._replies:
+                return None
 
-        Replies to other packets that are read meanwhile are kept, and returned by later calls.
-        """
-        if number is None:
-            if self._replies:
-                return self._replies.pop(next(iter(self._replies)))
-            return self._next()
-        wanted = submitter, number
-        while wanted not in self._replies and (reply := self._next()) is not None:
+    def _reply_to(self, packet):
+        """Returns the reply to a packet of a submitter, or None if it isn't there yet."""
+        if packet not in self._unread:
+            submitter, number = packet
+            raise LookupError(f"submitter {submitter} has no packet {number} whose reply is still to be read: it was read already, "
+                              "or no such packet was queued")
+        while packet not in self._replies and (reply := self._next()) is not None:
             self._replies[reply.submitter, reply.number] = reply
-        return self._replies.pop(wanted, None)
+        reply = self._replies.pop(packet, None)
+        if reply is not None:
+            self._unread.discard(packet)
+        return reply
+
+    def reply(self, number=None, submitter=0):
+        """Returns the next reply, or with a number that packet's; None if it isn't there yet, as `flush` makes it be.
+
+        Replies come in the order in which packets were queued, unless a signal handler reads some in the middle. Numbers count each
+        submitter's packets, so give the submitter too. Replies to other packets that are read meanwhile are kept, and returned by
+        later calls. A number raises LookupError if its reply was returned before, or if no such packet was queued.
+
+        Raises KipError `busy` if it has no number and is called in the middle of another call, as by a signal handler.
+        """
+        # (only this thread's own calls matter: another thread's end before this one begins)
+        if number is None and self._lock._is_owned():
+            raise KipError(BUSY)
+        with self._lock:
+            return self._oldest() if number is None else self._reply_to((submitter, number))
 
     def _committed(self, operation, data):
         """Commits one packet of submitter 0, and returns its results."""
@@ -413,7 +446,10 @@ class Ledger:
         except KipError as why:
             why.queued = number
             raise
-        return self.reply(number).results
+        reply = self.reply(number)
+        if reply is None:
+            raise RuntimeError(f"the reply to packet {number} was lost as a signal handler raised: look up what the packet makes")
+        return reply.results
 
     @_locked
     def create_accounts(self, accounts):
