@@ -1,6 +1,8 @@
 """Tests of kip: python3 -m unittest test_kip. KIP_SO may name the library."""
+import copy
 import os
 import pathlib
+import pickle
 import resource
 import sys
 import threading
@@ -55,6 +57,30 @@ class Refused(unittest.TestCase):
         self.refused("closed", ledger.clock)
         self.refused("closed", ledger.stopped)
         self.refused("closed", ledger.accounts)
+
+    def test_an_error_in_a_with_is_the_users(self):
+        with self.assertRaisesRegex(ValueError, "mine"), Ledger() as ledger:
+            ledger.close()
+            raise ValueError("mine")
+        with Ledger() as ledger:
+            ledger.close()
+        self.refused("closed", ledger.close)
+
+    def test_a_ledger_has_one_owner(self):
+        with ClientSync() as client:
+            client.create_accounts([PAIR[0]])
+            for own in copy.copy, copy.deepcopy, pickle.dumps:
+                with self.subTest(own=own.__name__), self.assertRaisesRegex(TypeError, "a ClientSync can't be copied or pickled"):
+                    own(client)
+            self.assertEqual(client.counts().accounts, 1)
+
+    def test_errors_pass_between_processes(self):
+        refused = KipError(6)
+        refused.queued = 5
+        for own in copy.copy, copy.deepcopy, lambda it: pickle.loads(pickle.dumps(it)):
+            again, shut = own(refused), own(NotCommitted(SHUTDOWN))
+            self.assertEqual((type(again), again.status, again.name, again.queued, str(again)), (KipError, 6, "no_memory", 5, "no_memory"))
+            self.assertEqual((type(shut), shut.outcome, str(shut)), (NotCommitted, 7, "shutdown"))
 
     def test_shut(self):
         with Ledger() as ledger:

@@ -52,13 +52,23 @@ class KipError(Exception):
         self.queued = None
         super().__init__(self.name)
 
+    def __reduce__(self):
+        return type(self), (self.status,), self.__dict__
+
 
 class NotCommitted(Exception):
-    """A packet was queued and isn't committed: after `shut`, or because the ledger stopped. `outcome` says which."""
+    """A packet was queued and isn't committed: after `shut`, or because the ledger stopped. `outcome` says which.
+
+    It isn't a KipError. That says of a refused call that nothing has changed, so that the call can be made again. This packet has
+    a number, and its answer is final. Catch both if both can come.
+    """
 
     def __init__(self, outcome):
         self.outcome = outcome
         super().__init__(OUTCOMES[outcome])
+
+    def __reduce__(self):
+        return type(self), (self.outcome,), self.__dict__
 
 
 class AccountFlags(enum.IntFlag):
@@ -299,6 +309,9 @@ class Ledger:
     own results: each packet's reply is found by its number. Only `reply()` without a number raises KipError `busy` there, since it
     could take the reply that the other call waits for. A list of `accounts` or `transfers` may have some of what such a call changes.
 
+    A ledger can't be copied or pickled. Don't use one on both sides of a fork: the child has a copy of its own, and waits for ever
+    if another thread was in a call. Open a ledger in each process.
+
     A handler that raises, as for KeyboardInterrupt, ends a call anywhere. Its packet may be queued or committed, and its reply
     unread or lost: look up what it makes, or send it again with the same ids.
     """
@@ -328,7 +341,11 @@ class Ledger:
         return self
 
     def __exit__(self, *_):
-        self.close()
+        if self._is_open:
+            self.close()
+
+    def __reduce_ex__(self, protocol):
+        raise TypeError(f"a {type(self).__name__} can't be copied or pickled, since it owns what is in the library: open another one")
 
     def __del__(self):
         if getattr(self, "_is_open", False):
