@@ -1,5 +1,7 @@
 """Tests of kip: python3 -m unittest test_kip. KIP_SO may name the library."""
+import array
 import copy
+import dataclasses
 import os
 import pathlib
 import pickle
@@ -40,15 +42,66 @@ class Refused(unittest.TestCase):
                 ledger.submit(CREATE_ACCOUNTS + 256, b"")
             self.assertEqual(ledger.submit(CREATE_ACCOUNTS, b""), 0)
 
-    def test_fields_out_of_range(self):
+    def test_moments(self):
+        """A moment of a pulse is at most 2^62, and one of a start at most 2^63 - 1."""
         with Ledger() as ledger:
-            for field, value in ("id", -1), ("id", 2**128), ("amount", 2**128), ("code", 2**16), ("timestamp", -1):
-                with self.subTest(field=field, value=value), self.assertRaises(OverflowError):
-                    ledger.create_transfers([Transfer(**{field: value})])
-            for field, value in ("debits_posted", -1), ("credits_pending", 2**128), ("reserved", 2**32):
-                with self.subTest(field=field, value=value), self.assertRaises(OverflowError):
-                    ledger.create_accounts([Account(**{field: value})])
+            for moment in 2**62 + 1, 2**63, 2**64 - 1, 2**64, 2**5000:
+                self.refused("moment_too_large", ledger.pulse, moment)
+            for moment, error in (-1, OverflowError), (1.5, TypeError), ("1", TypeError), (None, TypeError), (float("inf"), TypeError):
+                with self.subTest(moment=moment), self.assertRaisesRegex(error, r"^nanoseconds must be an int from 0 to 2\^64 - 1, not "):
+                    ledger.pulse(moment)
+            ledger.pulse(2**62)
+            self.assertEqual(ledger.clock(), 2**62)
+        self.refused("moment_too_large", Ledger, 2**64)
+
+    def test_data_is_bytes(self):
+        account = kip._pack([PAIR[0]], kip._put_account)
+        with Ledger() as ledger:
+            for data in 0, 128, True, 10**13, -1, "", "x" * 128, None, [0] * 128, 1.5, PAIR[0]:
+                with self.subTest(data=data), self.assertRaisesRegex(TypeError, "^data must be bytes-like, as bytes or a bytearray, not "):
+                    ledger.submit(CREATE_ACCOUNTS, data)
+            self.assertEqual(ledger.counts().accounts, 0)
+            for data in account, bytes(account), memoryview(account), memoryview(account).cast("Q"), array.array("Q", bytes(account)):
+                number = ledger.submit(CREATE_ACCOUNTS, data)
+            ledger.flush()
+            self.assertEqual((number, ledger.counts().accounts, ledger.accounts()[0].id), (4, 1, 1))
+
+    def wrong_field(self, error, create, record, field, value, bits):
+        object = record(**{"id": 1, "ledger": 1, "code": 1, field: value})
+        wanted = rf"^event 1: {field} must be an int from 0 to 2\^{bits} - 1, not "
+        with self.subTest(record=record.__name__, field=field, type=type(value).__name__), self.assertRaisesRegex(error, wanted):
+            create([record(id=2, ledger=1, code=1), object])
+
+    def test_fields_out_of_range(self):
+        """Each field has the bits of FORMATS: all that aren't here have 128."""
+        bits = dict(user_data_64=64, user_data_32=32, reserved=32, timeout=32, ledger=32, code=16, flags=16, timestamp=64)
+        with Ledger() as ledger:
+            for create, record in (ledger.create_accounts, Account), (ledger.create_transfers, Transfer):
+                for field in (it.name for it in dataclasses.fields(record)):
+                    size = bits.get(field, 128)
+                    for value in -1, 2**size, 10**5000:
+                        self.wrong_field(OverflowError, create, record, field, value, size)
+                    for value in "1", "", 1.0, 0.0, 1.5, float("nan"), None, [], (), b"", b"1", set(), {1}:
+                        self.wrong_field(TypeError, create, record, field, value, size)
             self.assertIsNone(ledger.reply())
+            self.assertEqual(ledger.counts(), (0, 0, 0))
+
+    def test_largest_fields_and_other_integers(self):
+        """An integer of another type is taken by its value, and a bool as Python takes it."""
+        class Whole:
+            def __init__(self, value):
+                self.value = value
+
+            def __index__(self):
+                return self.value
+
+        with Ledger() as ledger:
+            most = Account(id=2**128 - 2, user_data_128=2**128 - 1, user_data_64=2**64 - 1, user_data_32=2**32 - 1, ledger=2**32 - 1,
+                           code=2**16 - 1, flags=AccountFlags.HISTORY)
+            self.assertEqual(ledger.create_accounts([most, Account(id=Whole(2**70), ledger=True, code=Whole(7), debits_posted=False)]), [])
+            self.assertEqual(ledger.accounts(), [dataclasses.replace(most, timestamp=1),
+                                                 Account(id=2**70, ledger=1, code=7, timestamp=2)])
+            self.assertEqual(ledger.lookup_account(Whole(2**70)).code, 7)
 
     def test_closed(self):
         ledger = Ledger()
@@ -57,6 +110,8 @@ class Refused(unittest.TestCase):
         self.refused("closed", ledger.clock)
         self.refused("closed", ledger.stopped)
         self.refused("closed", ledger.accounts)
+        self.refused("closed", ledger.reply)
+        self.refused("closed", ledger.reply, 0)
 
     def test_an_error_in_a_with_is_the_users(self):
         with self.assertRaisesRegex(ValueError, "mine"), Ledger() as ledger:

@@ -15,16 +15,19 @@ The library is that of the environment variable KIP_SO, else the one in this pac
 loader finds.
 """
 import collections
+import contextlib
 import ctypes
 import dataclasses
 import enum
 import functools
+import operator
 import os
 import pathlib
 import secrets
 import struct
 import threading
 import time
+import types
 import typing
 
 from .results import CreateAccountResult, CreateTransferResult
@@ -34,7 +37,7 @@ COMMITTED, SHUTDOWN, STOPPED = 0, 7, 8
 STATUSES = {1: "invalid_operation", 2: "invalid_data_size", 3: "too_much_data", 5: "full", 6: "no_memory", 7: "shutdown",
             8: "stopped", 9: "bad_limit", 11: "bad_submitters", 12: "moment_too_large", 100: "closed", 101: "already_open", 106: "busy"}
 OUTCOMES = {COMMITTED: "committed", SHUTDOWN: "shutdown", STOPPED: "stopped"}
-NO_REPLY, TOO_SMALL, NOT_FOUND, BUSY = 102, 103, 104, 106
+CLOSED, NO_REPLY, TOO_SMALL, NOT_FOUND, BUSY = 100, 102, 103, 104, 106
 HALF = 2**64 - 1
 amount_max = 2**128 - 1
 
@@ -142,16 +145,35 @@ class Transfer:
 
 
 _RECORD = struct.Struct("<12QQIIIHHQ")
+_BITS = {"user_data_64": 64, "user_data_32": 32, "reserved": 32, "timeout": 32, "ledger": 32, "code": 16, "flags": 16, "timestamp": 64}
+
+
+def _number(name, value, bits):
+    """Returns an integer of so many bits as an int. Another type is a TypeError, and one out of the range an OverflowError."""
+    try:
+        number = operator.index(value)
+    except TypeError:
+        raise TypeError(f"{name} must be an int from 0 to 2^{bits} - 1, not {type(value).__name__}") from None
+    if not 0 <= number < 1 << bits:
+        shown = number if number.bit_length() <= 256 else f"one of {number.bit_length()} bits"
+        raise OverflowError(f"{name} must be an int from 0 to 2^{bits} - 1, not {shown}")
+    return number
+
+
+def _checked(index, record, put):
+    """Returns a copy of an event with its fields as ints. One that isn't an int of its field's size raises an error that names it."""
+    names = (field.name for field in dataclasses.fields(Account if put is _put_account else Transfer))
+    return types.SimpleNamespace(**{name: _number(f"event {index}: {name}", getattr(record, name), _BITS.get(name, 128)) for name in names})
 
 
 def _pack(records, put):
-    """Returns the records' bytes in one buffer. A field out of its range is an OverflowError."""
+    """Returns the records' bytes in one buffer."""
     buffer = bytearray(128 * len(records))
     for index, record in enumerate(records):
         try:
             put(buffer, 128 * index, record)
-        except struct.error as error:
-            raise OverflowError(f"event {index}: {record}") from error
+        except (struct.error, TypeError, OverflowError):  # also of an integer that isn't an int, as numpy's
+            put(buffer, 128 * index, _checked(index, record, put))
     return buffer
 
 
@@ -163,8 +185,10 @@ def _put_account(buffer, offset, it, pack_into=_RECORD.pack_into):
         pack_into(buffer, offset, id & HALF, id >> 64, *halves, user & HALF, user >> 64, it.user_data_64, it.user_data_32,
                   it.reserved, it.ledger, it.code, it.flags, it.timestamp)
         return
-    pack_into(buffer, offset, id & HALF, id >> 64, 0, 0, 0, 0, 0, 0, 0, 0, user & HALF, user >> 64, it.user_data_64,
-              it.user_data_32, it.reserved, it.ledger, it.code, it.flags, it.timestamp)
+    # (packed as they are, since None and an empty list are false too, and no numbers)
+    pack_into(buffer, offset, id & HALF, id >> 64, it.debits_pending, 0, it.debits_posted, 0, it.credits_pending, 0,
+              it.credits_posted, 0, user & HALF, user >> 64, it.user_data_64, it.user_data_32, it.reserved, it.ledger, it.code,
+              it.flags, it.timestamp)
 
 
 def _put_transfer(buffer, offset, it, pack_into=_RECORD.pack_into):
@@ -257,11 +281,19 @@ class Counts(typing.NamedTuple):
     failed_ids: int
 
 
-def _number(value, bits):
-    """Returns the value, which ctypes would cut to so many bits."""
-    if not 0 <= value < 1 << bits:
-        raise OverflowError(value)
-    return value
+def _moment(name, value):
+    """Returns a moment in nanoseconds. One above 64 bits is cut to the largest, which the library refuses as too large."""
+    return _number(name, min(value, HALF) if isinstance(value, int) else value, 64)
+
+
+def _bytes(data):
+    """Returns bytes-like data as bytes. An int is none: `bytes` would make as many zeros of it."""
+    if isinstance(data, bytes):
+        return data
+    try:
+        return bytes(memoryview(data))
+    except TypeError:
+        raise TypeError(f"data must be bytes-like, as bytes or a bytearray, not {type(data).__name__}") from None
 
 
 def library_path():
@@ -324,12 +356,12 @@ class Ledger:
         self._library = _load(str(library or os.environ.get("KIP_SO") or library_path()))
         self._handle = _Handle()
         self._at = ctypes.addressof(self._handle)
-        settings = _number(clock, 64), _number(limit, 32), _number(submitters, 32)
+        settings = _moment("clock", clock), _number("limit", limit, 32), _number("submitters", submitters, 32)
         if seed is None:
             self._must(self._library.kip_open(self._at, *settings))
         else:
             low, high = seed
-            self._must(self._library.kip_open_seeded(self._at, *settings, _number(low, 64), _number(high, 64)))
+            self._must(self._library.kip_open_seeded(self._at, *settings, _number("a seed", low, 64), _number("a seed", high, 64)))
         self._is_open = True
 
     @staticmethod
@@ -363,27 +395,27 @@ class Ledger:
 
         Until then no commit waits for their maps to grow. After `no_memory` the ledger can be used further.
         """
-        self._must(self._library.kip_reserve(self._at, _number(accounts, 64), _number(transfers, 64)))
+        self._must(self._library.kip_reserve(self._at, _number("accounts", accounts, 64), _number("transfers", transfers, 64)))
 
     @_locked
     def submit(self, operation, data, submitter=0, user_data=0):
-        """Queues a packet with a copy of its bytes, and returns its number among its submitter's.
+        """Queues a packet with a copy of its bytes, and returns its number among its submitter's. Data is bytes-like.
 
         A call for which memory runs out, also as it commits what waits, raises `no_memory`: nothing has changed, and it can be
         made again.
         """
-        number = ctypes.c_uint64()
+        number, submitter = ctypes.c_uint64(), _number("submitter", submitter, 32)
         # A bytes object without bytes has an address too, so no null is passed.
-        data = data if isinstance(data, bytes) else bytes(data)
-        self._must(self._library.kip_submit_bytes(self._at, _number(submitter, 32), _number(operation, 8), data,
-                                                  len(data), _number(user_data, 64), ctypes.byref(number)))
+        data = _bytes(data)
+        self._must(self._library.kip_submit_bytes(self._at, submitter, _number("operation", operation, 8), data, len(data),
+                                                  _number("user_data", user_data, 64), ctypes.byref(number)))
         self._unread.add((submitter, number.value))
         return number.value
 
     @_locked
     def pulse(self, nanoseconds):
-        """Queues a pulse, which raises the clock."""
-        self._must(self._library.kip_pulse(self._at, _number(nanoseconds, 64)))
+        """Queues a pulse, which raises the clock. A moment above 2^62 is refused as `moment_too_large`."""
+        self._must(self._library.kip_pulse(self._at, _moment("nanoseconds", nanoseconds)))
 
     @_locked
     def shut(self):
@@ -417,11 +449,10 @@ class Ledger:
     def _oldest(self):
         """Returns the oldest reply, or None. A signal handler may keep replies meanwhile, or take them."""
         while True:
-            try:
+            reply = None
+            with contextlib.suppress(KeyError):  # there is none
                 reply = self._replies.popitem(last=False)[1]
-            except KeyError:
-                reply = self._next()
-            if reply is not None:
+            if reply is not None or (reply := self._next()) is not None:
                 self._unread.discard((reply.submitter, reply.number))
                 return reply
             if not self._replies:
@@ -431,6 +462,8 @@ class Ledger:
         """Returns the reply to a packet of a submitter, or None if it isn't there yet."""
         if packet not in self._unread:
             submitter, number = packet
+            if not self._is_open:
+                raise KipError(CLOSED)
             raise LookupError(f"submitter {submitter} has no packet {number} whose reply is still to be read: it was read already, "
                               "or no such packet was queued")
         while packet not in self._replies and (reply := self._next()) is not None:
@@ -492,11 +525,11 @@ class Ledger:
     @_locked
     def lookup_account(self, id):
         """Returns the account with an id, or None. Packets that wait aren't in it."""
-        buffer, id = ctypes.create_string_buffer(128), _number(id, 128)
+        buffer, id = ctypes.create_string_buffer(128), _number("id", id, 128)
         return self._found(self._library.kip_lookup_account(self._at, id & HALF, id >> 64, buffer), buffer, _account)
 
     def _transfer_and_status(self, id):
-        buffer, pending, id = ctypes.create_string_buffer(128), ctypes.c_uint32(), _number(id, 128)
+        buffer, pending, id = ctypes.create_string_buffer(128), ctypes.c_uint32(), _number("id", id, 128)
         status = self._library.kip_lookup_transfer(self._at, id & HALF, id >> 64, buffer, ctypes.byref(pending))
         return self._found(status, buffer, _transfer), PendingStatus(pending.value)
 
