@@ -6,9 +6,12 @@ import os
 import pathlib
 import pickle
 import resource
+import signal
+import subprocess
 import sys
 import threading
 import unittest
+import unittest.mock
 
 import kip
 from kip import (
@@ -370,6 +373,74 @@ class Handlers(unittest.TestCase):
             self.each_step(call, take, check, 100)
 
 
+class Ids(unittest.TestCase):
+    def test_ids_rise(self):
+        ids = [kip.id() for _ in range(10_000)]
+        self.assertTrue(all(one < other for one, other in zip(ids, ids[1:])))
+        self.assertTrue(0 < ids[0] < 2**128 - 1)
+
+    def rising_at_each_step(self, moments):
+        """Makes ids in a handler at each step of another call. `moments` returns the clock's milliseconds during such a call, in turn."""
+        for step in range(1, 1000):
+            make, inner, clock = kip._Ids(), [], iter(moments)
+            with unittest.mock.patch.object(kip.time, "time_ns", lambda: next(clock, moments[-1]) * 10**6):
+                before = make(), make()
+                outer, reached = interrupted(step, make, lambda: inner.extend((make(), make())))
+                after = make(), make()
+            if not reached:
+                break
+            # The two calls are at once, so either order will do.
+            for made in sorted([outer, *inner]), inner:
+                ids = [*before, *made, *after]
+                self.assertTrue(all(one < other for one, other in zip(ids, ids[1:])), f"step {step}: {[hex(id) for id in ids]}")
+        self.assertGreater(step, 30)
+
+    def test_ids_rise_in_a_signal_handler(self):
+        """The clock stays, rises at each look, or is set back."""
+        for moments in [5], [5, 5, 6, 7, 8, 9, 10, 11, 12], [5, 5, 6], [5, 5, 5, 6], [5, 5, 6, 6, 7], [9, 9, 8, 7, 6, 5, 4, 3], [5, 5, 7, 6]:
+            with self.subTest(moments=moments):
+                self.rising_at_each_step(moments)
+
+    def test_a_signal_handler_makes_ids_without_a_deadlock(self):
+        """The handler runs while the lock is held, in a process of its own, which ends by itself or is killed."""
+        program = ("import signal, time, kip; signal.signal(signal.SIGALRM, lambda *_: kip.id())\n"
+                   "signal.setitimer(signal.ITIMER_REAL, .0001, .0001); end = time.monotonic() + .5\n"
+                   "while time.monotonic() < end: kip.id()\n"
+                   "signal.setitimer(signal.ITIMER_REAL, 0)")
+        environment = {**os.environ, "PYTHONPATH": str(pathlib.Path(kip.__file__).parents[1]), "PYTHONDONTWRITEBYTECODE": "1"}
+        ended = subprocess.run([sys.executable, "-c", program], env=environment, timeout=60)
+        self.assertEqual(ended.returncode, 0)
+
+    def test_a_forked_child_has_ids_of_its_own(self):
+        """The clock stays, so that both would continue one millisecond's ids. Another thread has the lock as the process forks."""
+        with unittest.mock.patch.object(kip.time, "time_ns", lambda: 2**60):
+            last, (reading, writing), held = kip.id(), os.pipe(), threading.Event()
+
+            def hold():
+                with kip.id._lock:
+                    held.set()
+                    done.wait()
+
+            done, thread = threading.Event(), threading.Thread(target=hold)
+            thread.start()
+            held.wait()
+            child = os.fork()
+            if child == 0:
+                signal.alarm(20)  # which kills it if it waits for the lock
+                os.write(writing, kip.id().to_bytes(16, "little"))
+                os._exit(0)
+            done.set()
+            thread.join()
+            mine = kip.id()
+            os.waitpid(child, 0)
+            os.close(writing)
+            with open(reading, "rb") as pipe:
+                theirs = int.from_bytes(pipe.read(), "little")
+        self.assertGreater(mine, last)
+        self.assertGreater(theirs, last)
+        self.assertNotEqual(theirs & 2**80 - 1, mine & 2**80 - 1)
+
+
 class Threads(unittest.TestCase):
     """Four threads with one ledger: each waits for the others' calls, and gets the reply to its own packet."""
 
@@ -439,11 +510,6 @@ class StandIn(unittest.TestCase):
             self.assertEqual([it.id for it in client.accounts()], [1, 2])
             self.assertEqual([(it.id, it.amount, status) for it, status in client.transfers()],
                              [(3, 10, PendingStatus.POSTED), (4, 10, PendingStatus.NONE)])
-
-    def test_ids_rise(self):
-        ids = [kip.id() for _ in range(10_000)]
-        self.assertTrue(all(one < other for one, other in zip(ids, ids[1:])))
-        self.assertTrue(0 < ids[0] < 2**128 - 1)
 
 
 if __name__ == "__main__":

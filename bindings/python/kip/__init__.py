@@ -20,6 +20,7 @@ import ctypes
 import dataclasses
 import enum
 import functools
+import itertools
 import operator
 import os
 import pathlib
@@ -215,22 +216,37 @@ def _transfer(data):
 
 
 class _Ids:
-    """Makes ids as TigerBeetle's clients do: milliseconds since 1970 in 48 bits, above 80 bits that are random and rise."""
+    """Makes ids as TigerBeetle's clients do: milliseconds since 1970 in 48 bits, above 80 bits that are random and rise.
+
+    Ids rise over all threads of a process, in signal handlers too. Those of a forked child differ from its parent's.
+    """
 
     def __init__(self):
-        self._lock = threading.Lock()
-        self._moment = self._random = 0
+        self._rising = {}  # a counter of random parts for the last millisecond, and seldom for one before it
+        self._start()
+        os.register_at_fork(after_in_child=self._start)
+
+    def _start(self):
+        """Takes a lock that no other thread holds, and a later millisecond than any before, so that its random part is new."""
+        self._lock = threading.RLock()
+        self._first = max(self._rising, default=-1) + 1
+        self._rising = {}
 
     def __call__(self):
         with self._lock:
-            now = time.time_ns() // 10**6
-            if now > self._moment:
-                self._moment, self._random = now, secrets.randbits(80)
-            else:
-                self._random += 1
-                if self._random >> 80:
-                    raise OverflowError("no id is left in this millisecond")
-            return self._moment << 80 | self._random
+            moment = None
+            # (each step is one operation, which no signal handler divides: one that makes an id in between uses the same counter, or
+            # a later one)
+            while moment is None or moment < max(self._rising):
+                moment = max([time.time_ns() // 10**6, self._first, *self._rising])
+                rising = self._rising.get(moment) or self._rising.setdefault(moment, itertools.count(secrets.randbits(80)))
+                random = next(rising)
+            if len(self._rising) > 1:
+                for old in sorted(self._rising)[:-1]:
+                    self._rising.pop(old, None)
+            if random >> 80:
+                raise OverflowError("no id is left in this millisecond: make another in the next one")
+            return moment << 80 | random
 
 
 id = _Ids()
