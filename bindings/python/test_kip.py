@@ -147,10 +147,16 @@ class Refused(unittest.TestCase):
             ledger.submit(CREATE_ACCOUNTS, b"", user_data=5)
             reply = ledger.reply()
             self.assertEqual((reply.outcome, reply.user_data), (SHUTDOWN, 5))
-            with self.assertRaises(NotCommitted):
-                reply.results
-            with self.assertRaises(NotCommitted):
-                reply.place
+            self.assertIs(reply.succeeded, False)
+            for name in "results", "failures", "accounts", "place":
+                with self.subTest(name=name), self.assertRaises(NotCommitted):
+                    getattr(reply, name)
+
+    def test_another_version_of_the_library(self):
+        other = unittest.mock.MagicMock()
+        other.kip_version.return_value = 0x000200
+        with unittest.mock.patch.object(kip.ctypes, "CDLL", return_value=other), self.assertRaisesRegex(OSError, "version 0.2 .* needs 0.1"):
+            Ledger(library="libkip-of-another-version.so")
 
     def test_not_committed_never_looks_like_success(self):
         with Ledger() as ledger:
@@ -219,6 +225,22 @@ class Bank(unittest.TestCase):
             reply = ledger.reply(number)
             self.assertEqual((reply.user_data, reply.results), (7, bytes([0, 0, 0, 0, 22, 0, 0, 0])))
             self.assertIsNone(ledger.reply())
+
+    def test_replies_that_succeeded(self):
+        """Succeeded is what is committed without a failure; a packet after the Close has no failure either."""
+        with Ledger() as ledger:
+            ledger.create_accounts(PAIR)
+            good = kip._pack([Transfer(id=1, amount=1, **ROUTE)], kip._put_transfer)
+            ids = b"".join(id.to_bytes(16, "little") for id in (2, 7, 1))
+            numbers = [ledger.submit(CREATE_TRANSFERS, good), ledger.submit(CREATE_ACCOUNTS, kip._pack([PAIR[1]], kip._put_account)),
+                       ledger.submit(CREATE_TRANSFERS, good), ledger.submit(LOOKUP_ACCOUNTS, ids)]
+            ledger.shut()
+            numbers.append(ledger.submit(CREATE_TRANSFERS, good))
+            replies = [ledger.reply(number) for number in numbers]
+            self.assertEqual([reply.succeeded for reply in replies], [True, False, False, True, False])
+            self.assertEqual([reply.failures for reply in replies[:4]],
+                             [[], [(0, CreateAccountResult.EXISTS)], [(0, CreateTransferResult.EXISTS)], []])
+            self.assertEqual([[(it.id, it.debits_posted) for it in reply.accounts] for reply in replies[:4]], [[], [], [], [(2, 0), (1, 1)]])
 
     def test_a_number_without_an_unread_reply_is_refused(self):
         with Ledger(submitters=2) as ledger:

@@ -39,6 +39,7 @@ STATUSES = {1: "invalid_operation", 2: "invalid_data_size", 3: "too_much_data", 
             8: "stopped", 9: "bad_limit", 11: "bad_submitters", 12: "moment_too_large", 100: "closed", 101: "already_open", 106: "busy"}
 OUTCOMES = {COMMITTED: "committed", SHUTDOWN: "shutdown", STOPPED: "stopped"}
 CLOSED, NO_REPLY, TOO_SMALL, NOT_FOUND, BUSY = 100, 102, 103, 104, 106
+VERSION = 0x000100  # of kip.h: major, minor, patch
 HALF = 2**64 - 1
 amount_max = 2**128 - 1
 
@@ -262,9 +263,21 @@ class _Head(ctypes.Structure):
                 ("operation", ctypes.c_uint32), ("reserved", ctypes.c_uint32)]
 
 
+def _failures(operation, results):
+    """Returns the failures in a reply's results; a look-up has none."""
+    if operation == CREATE_ACCOUNTS:
+        return [CreateAccountsResult(index, CreateAccountResult(code)) for index, code in struct.iter_unpack("<II", results)]
+    if operation == CREATE_TRANSFERS:
+        return [CreateTransfersResult(index, CreateTransferResult(code)) for index, code in struct.iter_unpack("<II", results)]
+    return []
+
+
 @dataclasses.dataclass(frozen=True)
 class Reply:
-    """The reply to one packet. `results` and `place` raise `NotCommitted` if the packet isn't committed."""
+    """The reply to one packet. `results`, `failures`, `accounts` and `place` raise `NotCommitted` if the packet isn't committed.
+
+    Ask `succeeded` whether all went well: a packet that isn't committed has no failures either.
+    """
 
     submitter: int
     number: int
@@ -285,8 +298,25 @@ class Reply:
 
     @property
     def results(self):
+        """The bytes of the failures, or of a look-up the accounts."""
         self._checked()
         return self._results
+
+    @property
+    def succeeded(self):
+        """Whether the packet is committed and none of its events failed. A look-up that is committed has no event that fails."""
+        return self.outcome == COMMITTED and (not self._results or self.operation == LOOKUP_ACCOUNTS)
+
+    @property
+    def failures(self):
+        """The events that failed, as `create_accounts` and `create_transfers` return them."""
+        return _failures(self.operation, self.results)
+
+    @property
+    def accounts(self):
+        """The accounts that a look-up found; other packets have none."""
+        data = self.results
+        return [_account(data[at:at + 128]) for at in range(0, len(data), 128)] if self.operation == LOOKUP_ACCOUNTS else []
 
 
 class Counts(typing.NamedTuple):
@@ -335,6 +365,10 @@ def _load(path):
     }.items():
         call = getattr(library, f"kip_{name}")
         call.argtypes, call.restype = arguments, u32
+    version = library.kip_version()
+    if version >> 8 != VERSION >> 8:
+        raise OSError(f"{path} has version {version >> 16}.{version >> 8 & 255} of the library, and this package needs "
+                      f"{VERSION >> 16}.{VERSION >> 8 & 255}: unset KIP_SO, or give it that library's path")
     return library
 
 
@@ -523,14 +557,12 @@ class Ledger:
 
         If memory runs out as it is committed, it stays queued, and `queued` of the error has its number.
         """
-        results = self._committed(CREATE_ACCOUNTS, _pack(accounts, _put_account))
-        return [CreateAccountsResult(index, CreateAccountResult(code)) for index, code in struct.iter_unpack("<II", results)]
+        return _failures(CREATE_ACCOUNTS, self._committed(CREATE_ACCOUNTS, _pack(accounts, _put_account)))
 
     @_locked
     def create_transfers(self, transfers):
         """Commits one packet, and returns a result for each event that failed, as `create_accounts` does."""
-        results = self._committed(CREATE_TRANSFERS, _pack(transfers, _put_transfer))
-        return [CreateTransfersResult(index, CreateTransferResult(code)) for index, code in struct.iter_unpack("<II", results)]
+        return _failures(CREATE_TRANSFERS, self._committed(CREATE_TRANSFERS, _pack(transfers, _put_transfer)))
 
     def _found(self, status, buffer, made):
         if status == NOT_FOUND:
