@@ -31,8 +31,21 @@ def get_requires_for_build_wheel(config_settings=None):
     return []
 
 
+get_requires_for_build_editable = get_requires_for_build_wheel
+
+
 def build_wheel(wheel_directory, config_settings=None, metadata_directory=None):
     """Writes the wheel and returns its name."""
+    return _write(wheel_directory, _files())
+
+
+def build_editable(wheel_directory, config_settings=None, metadata_directory=None):
+    """Writes a wheel that only names this folder, for `pip install -e`, and returns its name. It has all modules of this folder."""
+    return _write(wheel_directory, {"kip.pth": f"{HERE}\n".encode()})
+
+
+def _write(wheel_directory, files):
+    """Writes a wheel of these files and its own, and returns its name."""
     project = dict(re.findall(r'^([\w-]+) = "(.*)"$', (HERE / "pyproject.toml").read_text().partition("[project]")[2], re.M))
     name = f"{project['name']}-{project['version']}"
     info = f"{name}.dist-info"
@@ -40,7 +53,6 @@ def build_wheel(wheel_directory, config_settings=None, metadata_directory=None):
         "Metadata-Version": "2.1", "Name": project["name"], "Version": project["version"],
         "Summary": project["description"], "Requires-Python": project["requires-python"],
     }.items())
-    files = _files()
     files[f"{info}/METADATA"] = metadata.encode()
     files[f"{info}/WHEEL"] = f"Wheel-Version: 1.0\nGenerator: wheel_backend\nRoot-Is-Purelib: false\nTag: {TAG}\n".encode()
     record = "".join(_line(*file) for file in files.items()) + f"{info}/RECORD,,\n"

@@ -14,16 +14,21 @@ and submitters. Only events that failed have a result. A packet that isn't commi
 The library is that of the environment variable KIP_SO, else the one in this package, else the one that the system's
 loader finds.
 """
+import collections
+import contextlib
 import ctypes
 import dataclasses
 import enum
 import functools
+import itertools
+import operator
 import os
 import pathlib
 import secrets
 import struct
 import threading
 import time
+import types
 import typing
 
 from .results import CreateAccountResult, CreateTransferResult
@@ -31,9 +36,10 @@ from .results import CreateAccountResult, CreateTransferResult
 CREATE_ACCOUNTS, CREATE_TRANSFERS, LOOKUP_ACCOUNTS = 129, 130, 131
 COMMITTED, SHUTDOWN, STOPPED = 0, 7, 8
 STATUSES = {1: "invalid_operation", 2: "invalid_data_size", 3: "too_much_data", 5: "full", 6: "no_memory", 7: "shutdown",
-            8: "stopped", 9: "bad_limit", 11: "bad_submitters", 12: "moment_too_large", 100: "closed", 101: "already_open"}
+            8: "stopped", 9: "bad_limit", 11: "bad_submitters", 12: "moment_too_large", 100: "closed", 101: "already_open", 106: "busy"}
 OUTCOMES = {COMMITTED: "committed", SHUTDOWN: "shutdown", STOPPED: "stopped"}
-NO_REPLY, TOO_SMALL, NOT_FOUND = 102, 103, 104
+CLOSED, NO_REPLY, TOO_SMALL, NOT_FOUND, BUSY = 100, 102, 103, 104, 106
+VERSION = 0x000100  # of kip.h: major, minor, patch
 HALF = 2**64 - 1
 amount_max = 2**128 - 1
 
@@ -51,13 +57,23 @@ class KipError(Exception):
         self.queued = None
         super().__init__(self.name)
 
+    def __reduce__(self):
+        return type(self), (self.status,), self.__dict__
+
 
 class NotCommitted(Exception):
-    """A packet was queued and isn't committed: after `shut`, or because the ledger stopped. `outcome` says which."""
+    """A packet was queued and isn't committed: after `shut`, or because the ledger stopped. `outcome` says which.
+
+    It isn't a KipError. That says of a refused call that nothing has changed, so that the call can be made again. This packet has
+    a number, and its answer is final. Catch both if both can come.
+    """
 
     def __init__(self, outcome):
         self.outcome = outcome
         super().__init__(OUTCOMES[outcome])
+
+    def __reduce__(self):
+        return type(self), (self.outcome,), self.__dict__
 
 
 class AccountFlags(enum.IntFlag):
@@ -131,16 +147,35 @@ class Transfer:
 
 
 _RECORD = struct.Struct("<12QQIIIHHQ")
+_BITS = {"user_data_64": 64, "user_data_32": 32, "reserved": 32, "timeout": 32, "ledger": 32, "code": 16, "flags": 16, "timestamp": 64}
+
+
+def _number(name, value, bits):
+    """Returns an integer of so many bits as an int. Another type is a TypeError, and one out of the range an OverflowError."""
+    try:
+        number = operator.index(value)
+    except TypeError:
+        raise TypeError(f"{name} must be an int from 0 to 2^{bits} - 1, not {type(value).__name__}") from None
+    if not 0 <= number < 1 << bits:
+        shown = number if number.bit_length() <= 256 else f"one of {number.bit_length()} bits"
+        raise OverflowError(f"{name} must be an int from 0 to 2^{bits} - 1, not {shown}")
+    return number
+
+
+def _checked(index, record, put):
+    """Returns a copy of an event with its fields as ints. One that isn't an int of its field's size raises an error that names it."""
+    names = (field.name for field in dataclasses.fields(Account if put is _put_account else Transfer))
+    return types.SimpleNamespace(**{name: _number(f"event {index}: {name}", getattr(record, name), _BITS.get(name, 128)) for name in names})
 
 
 def _pack(records, put):
-    """Returns the records' bytes in one buffer. A field out of its range is an OverflowError."""
+    """Returns the records' bytes in one buffer."""
     buffer = bytearray(128 * len(records))
     for index, record in enumerate(records):
         try:
             put(buffer, 128 * index, record)
-        except struct.error as error:
-            raise OverflowError(f"event {index}: {record}") from error
+        except (struct.error, TypeError, OverflowError):  # also of an integer that isn't an int, as numpy's
+            put(buffer, 128 * index, _checked(index, record, put))
     return buffer
 
 
@@ -152,8 +187,10 @@ def _put_account(buffer, offset, it, pack_into=_RECORD.pack_into):
         pack_into(buffer, offset, id & HALF, id >> 64, *halves, user & HALF, user >> 64, it.user_data_64, it.user_data_32,
                   it.reserved, it.ledger, it.code, it.flags, it.timestamp)
         return
-    pack_into(buffer, offset, id & HALF, id >> 64, 0, 0, 0, 0, 0, 0, 0, 0, user & HALF, user >> 64, it.user_data_64,
-              it.user_data_32, it.reserved, it.ledger, it.code, it.flags, it.timestamp)
+    # (packed as they are, since None and an empty list are false too, and no numbers)
+    pack_into(buffer, offset, id & HALF, id >> 64, it.debits_pending, 0, it.debits_posted, 0, it.credits_pending, 0,
+              it.credits_posted, 0, user & HALF, user >> 64, it.user_data_64, it.user_data_32, it.reserved, it.ledger, it.code,
+              it.flags, it.timestamp)
 
 
 def _put_transfer(buffer, offset, it, pack_into=_RECORD.pack_into):
@@ -180,22 +217,37 @@ def _transfer(data):
 
 
 class _Ids:
-    """Makes ids as TigerBeetle's clients do: milliseconds since 1970 in 48 bits, above 80 bits that are random and rise."""
+    """Makes ids as TigerBeetle's clients do: milliseconds since 1970 in 48 bits, above 80 bits that are random and rise.
+
+    Ids rise over all threads of a process, in signal handlers too. Those of a forked child differ from its parent's.
+    """
 
     def __init__(self):
-        self._lock = threading.Lock()
-        self._moment = self._random = 0
+        self._rising = {}  # a counter of random parts for the last millisecond, and seldom for one before it
+        self._start()
+        os.register_at_fork(after_in_child=self._start)
+
+    def _start(self):
+        """Takes a lock that no other thread holds, and a later millisecond than any before, so that its random part is new."""
+        self._lock = threading.RLock()
+        self._first = max(self._rising, default=-1) + 1
+        self._rising = {}
 
     def __call__(self):
         with self._lock:
-            now = time.time_ns() // 10**6
-            if now > self._moment:
-                self._moment, self._random = now, secrets.randbits(80)
-            else:
-                self._random += 1
-                if self._random >> 80:
-                    raise OverflowError("no id is left in this millisecond")
-            return self._moment << 80 | self._random
+            moment = None
+            # (each step is one operation, which no signal handler divides: one that makes an id in between uses the same counter, or
+            # a later one)
+            while moment is None or moment < max(self._rising):
+                moment = max([time.time_ns() // 10**6, self._first, *self._rising])
+                rising = self._rising.get(moment) or self._rising.setdefault(moment, itertools.count(secrets.randbits(80)))
+                random = next(rising)
+            if len(self._rising) > 1:
+                for old in sorted(self._rising)[:-1]:
+                    self._rising.pop(old, None)
+            if random >> 80:
+                raise OverflowError("no id is left in this millisecond: make another in the next one")
+            return moment << 80 | random
 
 
 id = _Ids()
@@ -211,9 +263,21 @@ class _Head(ctypes.Structure):
                 ("operation", ctypes.c_uint32), ("reserved", ctypes.c_uint32)]
 
 
+def _failures(operation, results):
+    """Returns the failures in a reply's results; a look-up has none."""
+    if operation == CREATE_ACCOUNTS:
+        return [CreateAccountsResult(index, CreateAccountResult(code)) for index, code in struct.iter_unpack("<II", results)]
+    if operation == CREATE_TRANSFERS:
+        return [CreateTransfersResult(index, CreateTransferResult(code)) for index, code in struct.iter_unpack("<II", results)]
+    return []
+
+
 @dataclasses.dataclass(frozen=True)
 class Reply:
-    """The reply to one packet. `results` and `place` raise `NotCommitted` if the packet isn't committed."""
+    """The reply to one packet. `results`, `failures`, `accounts` and `place` raise `NotCommitted` if the packet isn't committed.
+
+    Ask `succeeded` whether all went well: a packet that isn't committed has no failures either.
+    """
 
     submitter: int
     number: int
@@ -234,8 +298,25 @@ class Reply:
 
     @property
     def results(self):
+        """The bytes of the failures, or of a look-up the accounts."""
         self._checked()
         return self._results
+
+    @property
+    def succeeded(self):
+        """Whether the packet is committed and none of its events failed. A look-up that is committed has no event that fails."""
+        return self.outcome == COMMITTED and (not self._results or self.operation == LOOKUP_ACCOUNTS)
+
+    @property
+    def failures(self):
+        """The events that failed, as `create_accounts` and `create_transfers` return them."""
+        return _failures(self.operation, self.results)
+
+    @property
+    def accounts(self):
+        """The accounts that a look-up found; other packets have none."""
+        data = self.results
+        return [_account(data[at:at + 128]) for at in range(0, len(data), 128)] if self.operation == LOOKUP_ACCOUNTS else []
 
 
 class Counts(typing.NamedTuple):
@@ -246,11 +327,19 @@ class Counts(typing.NamedTuple):
     failed_ids: int
 
 
-def _number(value, bits):
-    """Returns the value, which ctypes would cut to so many bits."""
-    if not 0 <= value < 1 << bits:
-        raise OverflowError(value)
-    return value
+def _moment(name, value):
+    """Returns a moment in nanoseconds. One above 64 bits is cut to the largest, which the library refuses as too large."""
+    return _number(name, min(value, HALF) if isinstance(value, int) else value, 64)
+
+
+def _bytes(data):
+    """Returns bytes-like data as bytes. An int is none: `bytes` would make as many zeros of it."""
+    if isinstance(data, bytes):
+        return data
+    try:
+        return bytes(memoryview(data))
+    except TypeError:
+        raise TypeError(f"data must be bytes-like, as bytes or a bytearray, not {type(data).__name__}") from None
 
 
 def library_path():
@@ -276,6 +365,10 @@ def _load(path):
     }.items():
         call = getattr(library, f"kip_{name}")
         call.argtypes, call.restype = arguments, u32
+    version = library.kip_version()
+    if version >> 8 != VERSION >> 8:
+        raise OSError(f"{path} has version {version >> 16}.{version >> 8 & 255} of the library, and this package needs "
+                      f"{VERSION >> 16}.{VERSION >> 8 & 255}: unset KIP_SO, or give it that library's path")
     return library
 
 
@@ -293,22 +386,32 @@ class Ledger:
 
     Give a seed if ids can be chosen by someone you don't trust: `seed=(secrets.randbits(64), secrets.randbits(64))`.
     Replies don't depend on it.
+
+    A signal handler or a `__del__` may call the ledger in the middle of another call on the same thread. Both calls have their
+    own results: each packet's reply is found by its number. Only `reply()` without a number raises KipError `busy` there, since it
+    could take the reply that the other call waits for. A list of `accounts` or `transfers` may have some of what such a call changes.
+
+    A ledger can't be copied or pickled. Don't use one on both sides of a fork: the child has a copy of its own, and waits for ever
+    if another thread was in a call. Open a ledger in each process.
+
+    A handler that raises, as for KeyboardInterrupt, ends a call anywhere. Its packet may be queued or committed, and its reply
+    unread or lost: look up what it makes, or send it again with the same ids.
     """
 
     def __init__(self, clock=0, limit=8190, submitters=1, library=None, seed=None):
         self._is_open = False
         self._lock = threading.RLock()
-        self._replies = {}
+        self._replies = collections.OrderedDict()  # read, and not yet returned
+        self._unread = set()  # packets whose replies aren't returned yet
         self._library = _load(str(library or os.environ.get("KIP_SO") or library_path()))
         self._handle = _Handle()
         self._at = ctypes.addressof(self._handle)
-        self._buffer = ctypes.create_string_buffer(128)
-        settings = _number(clock, 64), _number(limit, 32), _number(submitters, 32)
+        settings = _moment("clock", clock), _number("limit", limit, 32), _number("submitters", submitters, 32)
         if seed is None:
             self._must(self._library.kip_open(self._at, *settings))
         else:
             low, high = seed
-            self._must(self._library.kip_open_seeded(self._at, *settings, _number(low, 64), _number(high, 64)))
+            self._must(self._library.kip_open_seeded(self._at, *settings, _number("a seed", low, 64), _number("a seed", high, 64)))
         self._is_open = True
 
     @staticmethod
@@ -320,7 +423,11 @@ class Ledger:
         return self
 
     def __exit__(self, *_):
-        self.close()
+        if self._is_open:
+            self.close()
+
+    def __reduce_ex__(self, protocol):
+        raise TypeError(f"a {type(self).__name__} can't be copied or pickled, since it owns what is in the library: open another one")
 
     def __del__(self):
         if getattr(self, "_is_open", False):
@@ -338,26 +445,27 @@ class Ledger:
 
         Until then no commit waits for their maps to grow. After `no_memory` the ledger can be used further.
         """
-        self._must(self._library.kip_reserve(self._at, _number(accounts, 64), _number(transfers, 64)))
+        self._must(self._library.kip_reserve(self._at, _number("accounts", accounts, 64), _number("transfers", transfers, 64)))
 
     @_locked
     def submit(self, operation, data, submitter=0, user_data=0):
-        """Queues a packet with a copy of its bytes, and returns its number among its submitter's.
+        """Queues a packet with a copy of its bytes, and returns its number among its submitter's. Data is bytes-like.
 
         A call for which memory runs out, also as it commits what waits, raises `no_memory`: nothing has changed, and it can be
         made again.
         """
-        number = ctypes.c_uint64()
+        number, submitter = ctypes.c_uint64(), _number("submitter", submitter, 32)
         # A bytes object without bytes has an address too, so no null is passed.
-        data = data if isinstance(data, bytes) else bytes(data)
-        self._must(self._library.kip_submit_bytes(self._at, _number(submitter, 32), _number(operation, 8), data,
-                                                  len(data), _number(user_data, 64), ctypes.byref(number)))
+        data = _bytes(data)
+        self._must(self._library.kip_submit_bytes(self._at, submitter, _number("operation", operation, 8), data, len(data),
+                                                  _number("user_data", user_data, 64), ctypes.byref(number)))
+        self._unread.add((submitter, number.value))
         return number.value
 
     @_locked
     def pulse(self, nanoseconds):
-        """Queues a pulse, which raises the clock."""
-        self._must(self._library.kip_pulse(self._at, _number(nanoseconds, 64)))
+        """Queues a pulse, which raises the clock. A moment above 2^62 is refused as `moment_too_large`."""
+        self._must(self._library.kip_pulse(self._at, _moment("nanoseconds", nanoseconds)))
 
     @_locked
     def shut(self):
@@ -378,32 +486,57 @@ class Ledger:
         return status == STOPPED
 
     def _next(self):
-        head = _Head()
-        while True:
-            status = self._library.kip_reply_bytes(self._at, ctypes.byref(head), self._buffer, len(self._buffer))
-            if status == NO_REPLY:
-                return None
-            if status != TOO_SMALL:
-                break
-            self._buffer = ctypes.create_string_buffer(head.size)
+        """Reads the next reply, or None. The buffer is this call's own: a signal handler that reads replies has another."""
+        head, buffer = _Head(), ctypes.create_string_buffer(128)
+        while (status := self._library.kip_reply_bytes(self._at, ctypes.byref(head), buffer, len(buffer))) == TOO_SMALL:
+            buffer = ctypes.create_string_buffer(head.size)
+        if status == NO_REPLY:
+            return None
         self._must(status)
         return Reply(head.submitter, head.number, head.operation, head.user_data, head.outcome, head.place,
-                     ctypes.string_at(self._buffer, head.size))
+                     ctypes.string_at(buffer, head.size))
 
-    @_locked
-    def reply(self, number=None, submitter=0):
-        """Returns the next reply, or with a number that packet's; None if it isn't there yet.
+    def _oldest(self):
+        """Returns the oldest reply, or None. A signal handler may keep replies meanwhile, or take them."""
+        while True:
+            reply = None
+            with contextlib.suppress(KeyError):  # there is none
+                reply = self._replies.popitem(last=False)[1]
+            if reply is not None or (reply := self._next()) is not None:
+                self._unread.discard((reply.submitter, reply.number))
+                return reply
+            if not self._replies:
+                return None
 
-        Replies to other packets that are read meanwhile are kept, and returned by later calls.
-        """
-        if number is None:
-            if self._replies:
-                return self._replies.pop(next(iter(self._replies)))
-            return self._next()
-        wanted = submitter, number
-        while wanted not in self._replies and (reply := self._next()) is not None:
+    def _reply_to(self, packet):
+        """Returns the reply to a packet of a submitter, or None if it isn't there yet."""
+        if packet not in self._unread:
+            submitter, number = packet
+            if not self._is_open:
+                raise KipError(CLOSED)
+            raise LookupError(f"submitter {submitter} has no packet {number} whose reply is still to be read: it was read already, "
+                              "or no such packet was queued")
+        while packet not in self._replies and (reply := self._next()) is not None:
             self._replies[reply.submitter, reply.number] = reply
-        return self._replies.pop(wanted, None)
+        reply = self._replies.pop(packet, None)
+        if reply is not None:
+            self._unread.discard(packet)
+        return reply
+
+    def reply(self, number=None, submitter=0):
+        """Returns the next reply, or with a number that packet's; None if it isn't there yet, as `flush` makes it be.
+
+        Replies come in the order in which packets were queued, unless a signal handler reads some in the middle. Numbers count each
+        submitter's packets, so give the submitter too. Replies to other packets that are read meanwhile are kept, and returned by
+        later calls. A number raises LookupError if its reply was returned before, or if no such packet was queued.
+
+        Raises KipError `busy` if it has no number and is called in the middle of another call, as by a signal handler.
+        """
+        # (only this thread's own calls matter: another thread's end before this one begins)
+        if number is None and self._lock._is_owned():
+            raise KipError(BUSY)
+        with self._lock:
+            return self._oldest() if number is None else self._reply_to((submitter, number))
 
     def _committed(self, operation, data):
         """Commits one packet of submitter 0, and returns its results."""
@@ -413,7 +546,10 @@ class Ledger:
         except KipError as why:
             why.queued = number
             raise
-        return self.reply(number).results
+        reply = self.reply(number)
+        if reply is None:
+            raise RuntimeError(f"the reply to packet {number} was lost as a signal handler raised: look up what the packet makes")
+        return reply.results
 
     @_locked
     def create_accounts(self, accounts):
@@ -421,14 +557,12 @@ class Ledger:
 
         If memory runs out as it is committed, it stays queued, and `queued` of the error has its number.
         """
-        results = self._committed(CREATE_ACCOUNTS, _pack(accounts, _put_account))
-        return [CreateAccountsResult(index, CreateAccountResult(code)) for index, code in struct.iter_unpack("<II", results)]
+        return _failures(CREATE_ACCOUNTS, self._committed(CREATE_ACCOUNTS, _pack(accounts, _put_account)))
 
     @_locked
     def create_transfers(self, transfers):
         """Commits one packet, and returns a result for each event that failed, as `create_accounts` does."""
-        results = self._committed(CREATE_TRANSFERS, _pack(transfers, _put_transfer))
-        return [CreateTransfersResult(index, CreateTransferResult(code)) for index, code in struct.iter_unpack("<II", results)]
+        return _failures(CREATE_TRANSFERS, self._committed(CREATE_TRANSFERS, _pack(transfers, _put_transfer)))
 
     def _found(self, status, buffer, made):
         if status == NOT_FOUND:
@@ -439,11 +573,11 @@ class Ledger:
     @_locked
     def lookup_account(self, id):
         """Returns the account with an id, or None. Packets that wait aren't in it."""
-        buffer, id = ctypes.create_string_buffer(128), _number(id, 128)
+        buffer, id = ctypes.create_string_buffer(128), _number("id", id, 128)
         return self._found(self._library.kip_lookup_account(self._at, id & HALF, id >> 64, buffer), buffer, _account)
 
     def _transfer_and_status(self, id):
-        buffer, pending, id = ctypes.create_string_buffer(128), ctypes.c_uint32(), _number(id, 128)
+        buffer, pending, id = ctypes.create_string_buffer(128), ctypes.c_uint32(), _number("id", id, 128)
         status = self._library.kip_lookup_transfer(self._at, id & HALF, id >> 64, buffer, ctypes.byref(pending))
         return self._found(status, buffer, _transfer), PendingStatus(pending.value)
 
