@@ -12,6 +12,7 @@ import sys
 import threading
 import unittest
 import unittest.mock
+import warnings
 
 import kip
 from kip import (
@@ -292,10 +293,11 @@ def interrupted(step, call, handler):
 
     def begin(frame, _event, _argument):
         if frame.f_code.co_filename == kip.__file__:
-            frame.f_trace_opcodes = True
+            frame.f_trace, frame.f_trace_opcodes = each, True
             return each
 
     before = sys.gettrace()
+    sys._getframe().f_trace_opcodes = True  # Python 3.12 looks at it here
     sys.settrace(begin)
     try:
         return call(), left <= 0
@@ -446,7 +448,9 @@ class Ids(unittest.TestCase):
             done, thread = threading.Event(), threading.Thread(target=hold)
             thread.start()
             held.wait()
-            child = os.fork()
+            with warnings.catch_warnings():
+                warnings.simplefilter("ignore", DeprecationWarning)  # of a fork with threads, which is what is tried
+                child = os.fork()
             if child == 0:
                 signal.alarm(20)  # which kills it if it waits for the lock
                 os.write(writing, kip.id().to_bytes(16, "little"))

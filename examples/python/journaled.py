@@ -25,10 +25,12 @@ COLUMNS = "number", "operation", "moment", "submitter", "user_data", "data"
 
 def whole(name, value, size):
     """Returns an integer of so many bytes. Any other value is refused here, ahead of its row."""
-    value = operator.index(value)
-    if not 0 <= value < 256**size:
-        raise OverflowError(f"{name} must be an int from 0 to 2^{8 * size} - 1, not {value}")
-    return value
+    wanted = f"{name} must be an int from 0 to 2^{8 * size} - 1"
+    if not hasattr(value, "__index__"):
+        raise TypeError(f"{wanted}, not {type(value).__name__}")
+    if not 0 <= operator.index(value) < 256**size:
+        raise OverflowError(wanted)
+    return operator.index(value)
 
 
 class JournaledClient(tb.ClientSync):
