@@ -235,8 +235,8 @@ fn print_tills(rt: &HostRuntime, ledger: &FileLedger) {
 }
 
 /// Copies the log into the file, so that a copy of the file by itself has all that is committed.
-fn finish_file(rt: &HostRuntime, ledger: FileLedger) {
-    let mut store = ledger.into_store();
+fn finish_file(rt: &HostRuntime, store: LedgerFile) {
+    let mut store = store;
     if let Err(error) = copy_log(&mut store) {
         let _ = eprintln!(rt; "the log isn't copied into the file, so keep both together: {error}");
     }
@@ -278,7 +278,7 @@ fn main(rt: HostRuntime) -> ExitCode {
     print_tills(&rt, &ledger);
     let went_on = went_on(&rt, &ledger);
     if went_on {
-        finish_file(&rt, ledger);
+        finish_file(&rt, ledger.into_store());
     } else {
         drop(ledger);
     }
