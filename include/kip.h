@@ -120,6 +120,7 @@ typedef enum KIP_OUTCOME {
 #define KIP_NUMBER_NONE UINT64_MAX     /* of a packet that isn't queued */
 #define KIP_PENDING_UNKNOWN UINT32_MAX /* of a transfer that wasn't found */
 #define KIP_CLOCK_NONE UINT64_MAX
+#define KIP_PLACES_NONE UINT64_MAX
 
 typedef enum KIP_PENDING_STATUS {
     KIP_PENDING_NONE = 0, /* the transfer isn't pending */
@@ -291,6 +292,11 @@ uint32_t kip_counts(kip_t *kip, kip_counts_t *counts);
 KIP_CHECKED
 uint32_t kip_clock(kip_t *kip, uint64_t *nanoseconds);
 
+/* Writes how many packets and pulses are committed: the place of the next one. Right after kip_pulse that pulse is at the place
+ * before. Statuses: KIP_CLOSED. */
+KIP_CHECKED
+uint32_t kip_places(kip_t *kip, uint64_t *places);
+
 /* Returns whether a reply was read, and its packet is committed. If the packet isn't, it has no results, and nothing of it
  * happened. */
 KIP_CHECKED static inline bool kip_committed(const kip_reply_t *reply) {
@@ -425,6 +431,12 @@ KIP_CHECKED static inline uint32_t kip_guarded_clock(kip_t *kip, uint64_t *nanos
     return kip_leave(kip, kip_clock(kip, nanoseconds));
 }
 
+KIP_CHECKED static inline uint32_t kip_guarded_places(kip_t *kip, uint64_t *places) {
+    *places = KIP_PLACES_NONE;
+    if (!kip_enter(kip)) return KIP_BUSY;
+    return kip_leave(kip, kip_places(kip, places));
+}
+
 #define kip_open kip_guarded_open
 #define kip_open_seeded kip_guarded_open_seeded
 #define kip_reserve kip_guarded_reserve
@@ -441,6 +453,7 @@ KIP_CHECKED static inline uint32_t kip_guarded_clock(kip_t *kip, uint64_t *nanos
 #define kip_transfer_at kip_guarded_transfer_at
 #define kip_counts kip_guarded_counts
 #define kip_clock kip_guarded_clock
+#define kip_places kip_guarded_places
 
 KIP_CHECKED static inline uint32_t kip_submit(kip_t *kip, uint64_t submitter, uint64_t operation, const void *data,
                                               size_t data_size, uint64_t user_data, uint64_t *number) {

@@ -189,7 +189,7 @@ class Bank(unittest.TestCase):
             ledger.pulse(10 * 10**9)
             self.assertEqual(ledger.lookup_account(1).debits_pending, 0)
             self.assertEqual(ledger.transfer_status(3), PendingStatus.EXPIRED)
-            self.assertEqual(ledger.clock(), 10 * 10**9)
+            self.assertEqual((ledger.clock(), ledger.places()), (10 * 10**9, 3))
 
     def test_results_larger_than_the_buffer(self):
         with Ledger() as ledger:

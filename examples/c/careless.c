@@ -86,11 +86,13 @@ static void nothing_is_found(kip_t *kip) {
 }
 
 static void nothing_is_counted_or_queued(kip_t *kip) {
-    uint64_t number = 0, clock = 7;
+    uint64_t number = 0, clock = 7, places = 7;
     kip_counts_t counts = {1, 2, 3};
     dropped(kip_counts(kip, &counts));
     dropped(kip_clock(kip, &clock));
-    assert(counts.accounts == 0 && counts.transfers == 0 && counts.failed_ids == 0 && clock == KIP_CLOCK_NONE);
+    dropped(kip_places(kip, &places));
+    assert(counts.accounts == 0 && counts.transfers == 0 && counts.failed_ids == 0);
+    assert(clock == KIP_CLOCK_NONE && places == KIP_PLACES_NONE);
     dropped(kip_submit(kip, 0, KIP_OPERATION_CREATE_ACCOUNTS, made, sizeof made, 0, &number));
     assert(number == KIP_NUMBER_NONE);
     number = 0;

@@ -15,6 +15,8 @@ static void closed_handle(void) {
     assert(kip_submit(&kip, 0, 129, bytes, 128, 0, &number) == KIP_CLOSED && number == KIP_NUMBER_NONE);
     assert(kip_reply(&kip, &reply, results, 8) == KIP_CLOSED && results[0] == 7);
     assert(kip_clock(&kip, &number) == KIP_CLOSED && number == KIP_CLOCK_NONE);
+    number = 99;
+    assert(kip_places(&kip, &number) == KIP_CLOSED && number == KIP_PLACES_NONE);
     kip_counts_t counts = {.failed_ids = 99};
     assert(kip_counts(&kip, &counts) == KIP_CLOSED && counts.failed_ids == 0);
     assert(kip_lookup_account(&kip, 1, 0, &account) == KIP_CLOSED && kip_pulse(&kip, 1) == KIP_CLOSED);

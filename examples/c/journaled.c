@@ -1,137 +1,179 @@
-/* A ledger that survives the process: each call is stored in SQLite before it is made, and the stored calls are made again at the start.
- * What was queued decides the state and the replies, so the ledger is then as it was.
+/* A ledger that survives the process: what is committed is stored in SQLite before its reply is printed, and committed again at the start.
+ * The file has the table of docs/DURABLE.md, so `tbpipe replay FILE` reads it, and so does kip.durable of Python.
  *
  *   journaled FILE CALLS
  *
- * Makes the calls of a little bank up to number CALLS: two accounts, then transfers, and now and then a pulse. Calls are committed to the
- * file by fours, and only then are their replies read. Each is printed as `committed PLACE`. */
-#define _DEFAULT_SOURCE /* flock */
-#include <fcntl.h>
+ * Makes the calls of a little bank up to number CALLS: two accounts, then transfers, and now and then a pulse. Each takes one place of the
+ * ledger, and is printed as `committed PLACE`. The file is synced once for four calls. */
 #include <kip.h>
 #include <sqlite3.h>
 #include <stdio.h>
 #include <stdlib.h>
-#include <sys/file.h>
 
-enum { PULSE = 0, GROUP = 4 };
+enum { SETTINGS_PLACE = -1, FORMAT_VERSION = 1, PULSE = 0, GROUP = 4 };
 
+#define TABLE \
+    "CREATE TABLE entry (place INTEGER PRIMARY KEY, operation INTEGER NOT NULL, moment INTEGER NOT NULL, stubs BLOB NOT NULL, body " \
+    "BLOB NOT NULL) STRICT"
+
+/* Of a packet its number in its run, its submitter, and its count of events. */
 typedef struct {
-    int operation; /* or PULSE */
-    uint64_t moment;
-    const void *data;
-    int size;
-} call_t;
+    uint64_t number;
+    uint32_t submitter, events;
+} stub_t;
+KIP_STATIC_ASSERT(sizeof(stub_t) == 16, "a stub has 16 bytes");
+
+/* The bytes of a packet, until it is in the file. */
+typedef union {
+    kip_account accounts[2];
+    kip_transfer transfer;
+} data_t;
 
 static kip_t kip;
 static sqlite3 *file;
 static sqlite3_stmt *insert;
+static data_t sent[GROUP];
+static uint64_t first_number; /* of this run's packets: as many are in the file */
 
 static void must(int holds, const char *what) {
     if (!holds) {
-        fprintf(stderr, "journaled: %s: %s\n", what, file ? sqlite3_errmsg(file) : "it failed");
+        int code = file ? sqlite3_errcode(file) : SQLITE_OK;
+        int failed = code != SQLITE_OK && code != SQLITE_ROW && code != SQLITE_DONE;
+        fprintf(stderr, "journaled: %s%s%s\n", what, failed ? ": " : "", failed ? sqlite3_errmsg(file) : "");
         exit(2);
     }
 }
 
 static void sql(const char *text) { must(sqlite3_exec(file, text, NULL, NULL, NULL) == SQLITE_OK, text); }
 
-static void make(const call_t *call) {
-    uint64_t number;
-    uint32_t status = call->operation == PULSE
-                          ? kip_pulse(&kip, call->moment)
-                          : kip_submit(&kip, 0, call->operation, call->data, call->size, 0, &number);
-    must(status == KIP_OK, kip_status_name(status)); /* a call that is refused isn't committed to the file */
-}
-
-/* Commits what is held, and reads all replies. A packet of this bank has at most two events that fail. */
-static void read_replies(int shown) {
-    kip_failure failures[2];
-    kip_reply_t reply;
-    uint32_t status;
-    must(kip_flush(&kip) == KIP_OK, "flush");
-    while ((status = kip_reply(&kip, &reply, failures, sizeof failures)) == KIP_OK) {
-        must(kip_committed(&reply), "a reply");
-        if (shown)
-            printf("committed %llu\n", (unsigned long long)reply.place);
-    }
-    must(status == KIP_NO_REPLY, kip_status_name(status));
-}
-
-/* Locks the file FILE.lock until the process ends. Two processes with one file would each miss the other's calls. */
-static int is_locked(const char *path) {
-    char name[4096];
-    snprintf(name, sizeof name, "%s.lock", path);
-    int lock = open(name, O_RDWR | O_CREAT, 0600);
-    return lock >= 0 && flock(lock, LOCK_EX | LOCK_NB) == 0;
-}
-
-/* Makes the stored calls again. Returns how many there are. */
-static long recover(void) {
-    sqlite3_stmt *stored;
-    long calls = 0;
-    must(sqlite3_prepare_v2(file, "select operation, moment, data from call order by number", -1, &stored, NULL) == SQLITE_OK, "select");
-    for (; sqlite3_step(stored) == SQLITE_ROW; calls++) {
-        call_t call = {sqlite3_column_int(stored, 0), sqlite3_column_int64(stored, 1), sqlite3_column_blob(stored, 2),
-                       sqlite3_column_bytes(stored, 2)};
-        make(&call);
-    }
-    must(sqlite3_finalize(stored) == SQLITE_OK, "select");
-    read_replies(0);
-    return calls;
-}
-
-/* Returns whether the file's table has this program's columns: that of journaled.py has others. */
-static int is_ours(void) {
-    sqlite3_stmt *columns;
-    int ours = sqlite3_prepare_v2(file, "select * from call", -1, &columns, NULL) == SQLITE_OK && sqlite3_column_count(columns) == 4;
-    return sqlite3_finalize(columns) == SQLITE_OK && ours;
-}
-
-static void store(long number, const call_t *call) {
-    sqlite3_bind_int64(insert, 1, number);
-    sqlite3_bind_int(insert, 2, call->operation);
-    sqlite3_bind_int64(insert, 3, call->moment);
-    sqlite3_bind_blob(insert, 4, call->data, call->size, SQLITE_STATIC);
+static void store(sqlite3_int64 place, int operation, sqlite3_int64 moment, const stub_t *stub, const void *body, int size) {
+    sqlite3_bind_int64(insert, 1, place);
+    sqlite3_bind_int(insert, 2, operation);
+    sqlite3_bind_int64(insert, 3, moment);
+    sqlite3_bind_blob(insert, 4, stub ? (const void *)stub : "", stub ? sizeof *stub : 0, SQLITE_STATIC);
+    sqlite3_bind_blob(insert, 5, size ? body : "", size, SQLITE_STATIC);
     must(sqlite3_step(insert) == SQLITE_DONE && sqlite3_reset(insert) == SQLITE_OK, "insert");
 }
 
-/* Stores call `number` of the bank, and makes it. */
-static void go_on(long number) {
-    kip_account accounts[2] = {{.id = {1, 0}, .ledger = 1, .code = 1}, {.id = {2, 0}, .ledger = 1, .code = 1}};
-    kip_transfer transfer = {.id = {number, 0}, .debit_account_id = {1, 0}, .credit_account_id = {2, 0}, .amount = {number, 0},
-                             .ledger = 1, .code = 1};
-    call_t call = {KIP_OPERATION_CREATE_TRANSFERS, 0, &transfer, sizeof transfer};
-    if (number == 0)
-        call = (call_t){KIP_OPERATION_CREATE_ACCOUNTS, 0, accounts, sizeof accounts};
-    else if (number % 10 == 0)
-        call = (call_t){PULSE, number * 1000000000ull, NULL, 0};
-    store(number, &call);
-    make(&call);
+/* Returns whether the file may be written here: pages with sums, as tb_durable makes them, would lose these. */
+static int has_no_sums(const char *path) {
+    unsigned char head[21] = {0};
+    FILE *read = fopen(path, "rb");
+    size_t count = read ? fread(head, 1, sizeof head, read) : 0;
+    if (read) fclose(read);
+    return count < sizeof head || head[20] == 0;
+}
+
+/* Returns whether the file has a ledger's table and nothing else. */
+static int is_ledger(void) {
+    sqlite3_stmt *tables;
+    int same = sqlite3_prepare_v2(file, "select count(*) = 1 and max(sql) = '" TABLE "' from sqlite_master", -1, &tables, NULL) == SQLITE_OK &&
+               sqlite3_step(tables) == SQLITE_ROW && sqlite3_column_int(tables, 0);
+    return sqlite3_finalize(tables) == SQLITE_OK && same;
+}
+
+/* Opens the file for this process only, and makes the table of a new one. `begin exclusive` fails if another process has it. */
+static void open_file(const char *path) {
+    const stub_t settings = {0, 1, KIP_BATCH_MAX};
+    must(has_no_sums(path), "the pages of the file have sums, which this SQLite doesn't write: continue it by tbpipe");
+    must(sqlite3_open(path, &file) == SQLITE_OK, path);
+    sql("pragma locking_mode=exclusive; pragma synchronous=full; begin exclusive");
+    int is_new = sqlite3_exec(file, "select 1 from entry", NULL, NULL, NULL) != SQLITE_OK;
+    if (is_new) sql(TABLE);
+    must(is_ledger(), "the file has the tables of another program");
+    must(sqlite3_prepare_v2(file, "insert into entry values (?, ?, ?, ?, ?)", -1, &insert, NULL) == SQLITE_OK, "insert");
+    if (is_new) store(SETTINGS_PLACE, FORMAT_VERSION, 0, &settings, NULL, 0);
+    sql("commit");
+}
+
+/* Reads the next reply; false if there is none. A packet of this bank has at most two events that fail. */
+static int next_reply(kip_reply_t *reply) {
+    kip_failure failures[2];
+    uint32_t status = kip_reply(&kip, reply, failures, sizeof failures);
+    must(status == KIP_NO_REPLY || (status == KIP_OK && kip_committed(reply)), kip_status_name(status));
+    return status == KIP_OK;
+}
+
+/* Commits the packets of a row again, and drops their replies. */
+static void commit_again(int operation, const stub_t *stubs, int count, const char *body, int size) {
+    kip_reply_t reply;
+    uint64_t number;
+    int at = 0;
+    for (int i = 0; i < count; i++, first_number++) {
+        int events = size / 128 < (int)stubs[i].events ? -1 : (int)stubs[i].events * 128;
+        must(operation != KIP_OPERATION_LOOKUP_ACCOUNTS && events >= 0 && at + events <= size, "a row has no packets of this bank");
+        must(kip_submit(&kip, stubs[i].submitter, operation, body + at, events, 0, &number) == KIP_OK, "a row has a packet that is refused");
+        at += events;
+    }
+    must(count > 0 && at == size, "a row has no packets, or bytes of none");
+    must(kip_flush(&kip) == KIP_OK, "flush");
+    while (next_reply(&reply)) {}
+}
+
+/* Commits what is in the file. The replies were given when it was committed first. */
+static void recover(void) {
+    sqlite3_stmt *rows;
+    uint64_t places;
+    must(sqlite3_prepare_v2(file, "select * from entry order by place", -1, &rows, NULL) == SQLITE_OK, "select");
+    must(sqlite3_step(rows) == SQLITE_ROW && sqlite3_column_int64(rows, 0) == SETTINGS_PLACE && sqlite3_column_int(rows, 1) == FORMAT_VERSION,
+         "the first row has no settings");
+    must(kip_open(&kip, sqlite3_column_int64(rows, 2), KIP_BATCH_MAX, 1) == KIP_OK, "kip_open");
+    while (sqlite3_step(rows) == SQLITE_ROW) {
+        must(kip_places(&kip, &places) == KIP_OK && sqlite3_column_int64(rows, 0) == (sqlite3_int64)places, "a row is missing");
+        if (sqlite3_column_int(rows, 1) == PULSE)
+            must(kip_pulse(&kip, sqlite3_column_int64(rows, 2)) == KIP_OK, "a pulse");
+        else
+            commit_again(sqlite3_column_int(rows, 1), sqlite3_column_blob(rows, 3), sqlite3_column_bytes(rows, 3) / sizeof(stub_t),
+                         sqlite3_column_blob(rows, 4), sqlite3_column_bytes(rows, 4));
+    }
+    must(sqlite3_finalize(rows) == SQLITE_OK, "select");
+    sql("pragma journal_mode=wal"); /* (a file that is refused stays as it was) */
+}
+
+/* Makes call `number` of the bank. A pulse has no reply, so it is stored here, at the place that it took. */
+static void go_on(uint64_t call) {
+    uint64_t places, number = 0;
+    data_t *data = &sent[call % GROUP];
+    if (call == 0) {
+        *data = (data_t){.accounts = {{.id = {1, 0}, .ledger = 1, .code = 1}, {.id = {2, 0}, .ledger = 1, .code = 1}}};
+        must(kip_submit(&kip, 0, KIP_OPERATION_CREATE_ACCOUNTS, data->accounts, sizeof data->accounts, call, &number) == KIP_OK, "submit");
+    } else if (call % 10 != 0) {
+        data->transfer = (kip_transfer){.id = {call, 0}, .debit_account_id = {1, 0}, .credit_account_id = {2, 0}, .amount = {call, 0},
+                                        .ledger = 1, .code = 1};
+        must(kip_submit(&kip, 0, KIP_OPERATION_CREATE_TRANSFERS, &data->transfer, sizeof data->transfer, call, &number) == KIP_OK, "submit");
+    } else {
+        must(kip_pulse(&kip, call * 1000000000) == KIP_OK && kip_places(&kip, &places) == KIP_OK, "pulse");
+        store(places - 1, PULSE, call * 1000000000, NULL, NULL, 0);
+    }
+}
+
+/* Stores what is committed: each packet's user data is its call, by which its bytes are found. */
+static void store_replies(void) {
+    kip_reply_t reply;
+    must(kip_flush(&kip) == KIP_OK, "flush");
+    while (next_reply(&reply)) {
+        const data_t *data = &sent[reply.user_data % GROUP];
+        int events = reply.operation == KIP_OPERATION_CREATE_ACCOUNTS ? 2 : 1;
+        stub_t stub = {reply.number - first_number, reply.submitter, events};
+        store(reply.place, reply.operation, 0, &stub, data, events * 128);
+    }
 }
 
 int main(int count, char **words) {
     must(count == 3, "usage: journaled FILE CALLS");
     setvbuf(stdout, NULL, _IOLBF, 0); /* each line at once, also into a pipe */
-    must(is_locked(words[1]), "another process has the file open");
-    must(sqlite3_open(words[1], &file) == SQLITE_OK, "open");
-    sql("pragma journal_mode=wal; pragma synchronous=full;"
-        "create table if not exists call (number integer primary key, operation integer, moment integer, data blob)");
-    if (!is_ours()) {
-        fprintf(stderr, "journaled: %s was written by another program, as journaled.py: give each program a file of its own\n", words[1]);
-        return 2;
-    }
-    must(sqlite3_prepare_v2(file, "insert into call values (?, ?, ?, ?)", -1, &insert, NULL) == SQLITE_OK, "insert");
-    must(kip_open(&kip, 0, 8190, 1) == KIP_OK, "kip_open");
-
-    long calls = atol(words[2]);
-    long number = recover();
-    printf("recovered %ld\n", number);
-    while (number < calls) {
+    open_file(words[1]);
+    recover();
+    uint64_t calls = strtoull(words[2], NULL, 10), place;
+    must(kip_places(&kip, &place) == KIP_OK, "kip_places");
+    printf("recovered %llu\n", (unsigned long long)place);
+    while (place < calls) {
+        uint64_t end = place + GROUP < calls ? place + GROUP : calls;
         sql("begin");
-        for (long end = number + GROUP; number < end && number < calls; number++)
-            go_on(number);
-        sql("commit"); /* now the calls are on the disk, and their replies may be read */
-        read_replies(1);
+        for (uint64_t call = place; call < end; call++) go_on(call);
+        store_replies();
+        sql("commit"); /* what is committed is on the disk, so it may be printed */
+        for (; place < end; place++) printf("committed %llu\n", (unsigned long long)place);
     }
 
     kip_account account = {0};

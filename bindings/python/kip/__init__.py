@@ -38,7 +38,7 @@ COMMITTED, SHUTDOWN, STOPPED = 0, 7, 8
 STATUSES = {1: "invalid_operation", 2: "invalid_data_size", 3: "too_much_data", 5: "full", 6: "no_memory", 7: "shutdown",
             8: "stopped", 9: "bad_limit", 11: "bad_submitters", 12: "moment_too_large", 100: "closed", 101: "already_open", 106: "busy"}
 OUTCOMES = {COMMITTED: "committed", SHUTDOWN: "shutdown", STOPPED: "stopped"}
-CLOSED, NO_REPLY, TOO_SMALL, NOT_FOUND, BUSY = 100, 102, 103, 104, 106
+NO_MEMORY, CLOSED, NO_REPLY, TOO_SMALL, NOT_FOUND, BUSY = 6, 100, 102, 103, 104, 106
 VERSION = 0x000100  # of kip.h: major, minor, patch
 HALF = 2**64 - 1
 amount_max = 2**128 - 1
@@ -361,7 +361,7 @@ def _load(path):
         "shut": [address], "flush": [address], "reply_bytes": [address, address, address, size], "stopped": [address],
         "lookup_account": [address, u64, u64, address], "account_at": [address, size, address], "transfer_at": [address, size, address, address],
         "lookup_transfer": [address, u64, u64, address, address], "clock": [address, address],
-        "counts": [address, address],
+        "counts": [address, address], "places": [address, address],
     }.items():
         call = getattr(library, f"kip_{name}")
         call.argtypes, call.restype = arguments, u32
@@ -634,6 +634,13 @@ class Ledger:
         now = ctypes.c_uint64()
         self._must(self._library.kip_clock(self._at, ctypes.byref(now)))
         return now.value
+
+    @_locked
+    def places(self):
+        """Returns how many packets and pulses are committed: the place of the next one."""
+        places = ctypes.c_uint64()
+        self._must(self._library.kip_places(self._at, ctypes.byref(places)))
+        return places.value
 
 
 class ClientSync(Ledger):

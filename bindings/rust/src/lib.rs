@@ -477,6 +477,15 @@ impl Ledger {
         assert_eq!(status, 0);
         nanoseconds
     }
+
+    /// Returns how many packets and pulses are committed: the place of the next one.
+    #[must_use]
+    pub fn places(&mut self) -> u64 {
+        let mut places = 0;
+        let status = unsafe { raw::kip_places(&mut *self.handle, &mut places) };
+        assert_eq!(status, 0);
+        places
+    }
 }
 
 impl fmt::Debug for Ledger {

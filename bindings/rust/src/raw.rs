@@ -96,4 +96,5 @@ extern "C" {
     pub(crate) fn kip_stopped(kip: *mut Handle) -> u32;
     pub(crate) fn kip_counts(kip: *mut Handle, counts: *mut Counts) -> u32;
     pub(crate) fn kip_clock(kip: *mut Handle, nanoseconds: *mut u64) -> u32;
+    pub(crate) fn kip_places(kip: *mut Handle, places: *mut u64) -> u32;
 }

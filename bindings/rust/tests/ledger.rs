@@ -145,7 +145,9 @@ fn refusals_have_names() {
     assert_eq!(ledger.submit(0, CREATE_ACCOUNTS, &[0], 0), Err(Refusal::InvalidDataSize));
     assert_eq!(ledger.submit(0, CREATE_ACCOUNTS, &two_accounts(), 0), Err(Refusal::TooMuchData));
     assert_eq!(ledger.pulse(u64::MAX), Err(Refusal::MomentTooLarge));
-    assert_eq!(ledger.clock(), 7);
+    assert_eq!((ledger.clock(), ledger.places()), (7, 0));
+    assert_eq!(ledger.pulse(8), Ok(()));
+    assert_eq!((ledger.clock(), ledger.places()), (8, 1));
     assert_eq!(ledger.shut(), Ok(()));
     assert_eq!(ledger.shut().unwrap_err().to_string(), "Shutdown");
     assert_eq!(ledger.submit(0, CREATE_ACCOUNTS, &[], 3), Ok(0));

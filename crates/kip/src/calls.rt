@@ -9,7 +9,7 @@ ghost use Rattle.tb_work.specs.declared.item.Item.TheVariants as item;
 ghost use Rattle.tb_work.specs.declared.refusal.Refusal.TheVariants.{NoMemory as NoMemoryRefusal};
 ghost use Rattle.tb_embed.specs.clauses.Engine.{EngineState, IsOpened, Queues, Continues, IsRefusal, packet_with, submit_refusal, pulse_refusal, shut_refusal, state_of};
 ghost use Rattle.tb_embed.specs.clauses.Queued.{packet_ticket, ticket_of};
-ghost use Rattle.kip.specs.clauses.Handle.{Moves, IsOpen, IsStatus, IsStatusOf, IsOpeningStatus, IsClosingStatus, IsPeek, IsReading, IsReadingOf, IsAccount, IsAccountIn, IsTransfer, IsTransferIn, IsClockOf, IsCountsOf, id_of, open_refusal, pending_number, stopped_status};
+ghost use Rattle.kip.specs.clauses.Handle.{Moves, IsOpen, IsStatus, IsStatusOf, IsOpeningStatus, IsClosingStatus, IsPeek, IsReading, IsReadingOf, IsAccount, IsAccountIn, IsTransfer, IsTransferIn, IsClockOf, IsCountsOf, IsPlacesOf, id_of, open_refusal, pending_number, stopped_status};
 
 use crate::counts::KipCounts;
 use crate::handle::Kip;
@@ -536,5 +536,18 @@ pub extern "C" fn kip_clock(kip: &mut Kip, nanoseconds: &mut u64) -> u32
         return CLOSED;
     };
     *nanoseconds = engine.clock();
+    0
+}
+
+/// Writes how many packets and pulses are committed.
+#[unsafe(no_mangle)]
+pub extern "C" fn kip_places(kip: &mut Kip, places: &mut u64) -> u32
+    ensures places { IsPlacesOf result places.old places.new kip.old.pointer.engine }
+    ensures same { kip.new.pointer.engine ≡ kip.old.pointer.engine }
+{
+    let Some(engine) = kip.engine() else {
+        return CLOSED;
+    };
+    *places = engine.places();
     0
 }

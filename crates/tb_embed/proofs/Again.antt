@@ -1,7 +1,7 @@
 -- Engines in which the same was queued.
 use Rattle.std.proofs.Common.{◌≡◌, sym, ap, ◌∙◌, List, [], ◌++◌, append-nil, map, length}
 use Rattle.tb_machine.specs.claim.Replay.{replay}
-use Rattle.tb_embed.proofs.Words.{inputs-parts, all_due, LedgerState, inputs, inputs_since, Admitted, inputs_in, ahead, items_in, ReplyValue, Ticket, EngineState, HasPlaces, Serves, IsServed, ServingIsLawful, AreAlike, QueueDecides}
+use Rattle.tb_embed.proofs.Words.{inputs-parts, all_due, LedgerState, inputs, inputs_since, Admitted, inputs_in, ahead, items_in, ReplyValue, Ticket, EngineState, HasPlaces, Serves, IsServed, ServingIsLawful, AreAlike, JournalRestores, QueueDecides}
 
 -- all that is ahead of the Close is committed, behind what was there
 all_committed : {start : LedgerState} {queue : List Ticket} {read : List ReplyValue} {engine : EngineState}
@@ -29,3 +29,9 @@ module _ (lawful : ServingIsLawful) (start : LedgerState) (queue : List Ticket) 
 
 pub queue_decides : ServingIsLawful → QueueDecides
 queue_decides = are_alike
+
+pub journal_restores : ServingIsLawful → JournalRestores
+journal_restores lawful start queue read engine serves places none =
+    let is = lawful start queue read engine serves in
+    let all = all_committed is places none in
+    (is.replayed ∙ ap (replay start.opening) all, is.counted ∙ ap length all)

@@ -638,6 +638,13 @@ impl Engine {
         self.ledger.stopped()
     }
 
+    /// Returns how many packets and pulses are committed, in this engine and those whose ledger it continues: the place of the next one.
+    pub fn places(&self) -> u64
+        ensures { result ≡ self.now.ledger.places }
+    {
+        self.ledger.places()
+    }
+
     /// Returns the clock in nanoseconds.
     pub fn clock(&self) -> u64
         ensures { result ≡ (state_of self.now).clock }

@@ -1,7 +1,7 @@
 //! What follows from an engine's calls.
 
 ghost use Rattle.tb_embed.specs.clauses.AnyEngine.{AnyServingIsLawful};
-ghost use Rattle.tb_embed.specs.clauses.Engine.{QueueDecides, RepliesCome, ServingIsLawful};
+ghost use Rattle.tb_embed.specs.clauses.Engine.{JournalRestores, QueueDecides, RepliesCome, ServingIsLawful};
 
 use tb_core::{AnyLedger, each_part_is_lawful, run_is_lawful};
 
@@ -38,6 +38,15 @@ pub fn replies_come()
 /// crash, give the ledger again.
 pub fn queue_decides()
     ensures { QueueDecides }
+{
+    serving_is_lawful();
+}
+
+/// Establishes what an engine is in which the packets and pulses of a journal were queued in order. Once nothing is held it is in the
+/// state that the journal gives, and at the next place. It holds while there are places. So a host that stores what is committed, each
+/// packet at its place, can have the ledger again.
+pub fn journal_restores()
+    ensures { JournalRestores }
 {
     serving_is_lawful();
 }

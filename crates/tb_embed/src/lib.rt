@@ -11,7 +11,8 @@
 //! A packet that waits is held as it is until another joins it. So one that is flushed by itself is committed from its own data, without
 //! a copy.
 //!
-//! What is queued decides the rest (`queue_decides`): a host that stores its calls can make them again after a crash.
+//! What is queued decides the rest (`queue_decides`): a host that stores its calls can make them again after a crash. One that stores
+//! what is committed can queue that again (`journal_restores`).
 //!
 //! An engine that holds nothing yields its ledger (`Engine::into_ledger`), and another goes on with it (`Engine::over`).
 //!
@@ -28,5 +29,7 @@ mod waiting;
 
 pub use any_engine::AnyEngine;
 pub use engine::Engine;
-pub use laws::{any_serving_is_lawful, queue_decides, replies_come, serving_is_lawful};
+pub use laws::{
+    any_serving_is_lawful, journal_restores, queue_decides, replies_come, serving_is_lawful,
+};
 pub use tb_core::Seed;

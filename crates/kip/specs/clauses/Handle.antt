@@ -159,6 +159,11 @@ abbrev pub IsClockOf : ℕ → ℕ → ℕ → Option EngineState → Type 0
 IsClockOf status before after (Some engine) = (status ≡ 0) × (after ≡ (state_of engine).clock)
 IsClockOf status before after None = (status ≡ closed) × (after ≡ before)
 
+-- 0 with the number of packets and pulses that are committed
+abbrev pub IsPlacesOf : ℕ → ℕ → ℕ → Option EngineState → Type 0
+IsPlacesOf status before after (Some engine) = (status ≡ 0) × (after ≡ engine.ledger.places)
+IsPlacesOf status before after None = (status ≡ closed) × (after ≡ before)
+
 -- 0 with how much is stored
 abbrev pub IsCountsOf : ℕ → KipCounts → KipCounts → Option EngineState → Type 0
 IsCountsOf status before after (Some engine) =

@@ -294,3 +294,12 @@ QueueDecides =
     (start : LedgerState) (queue : List Ticket) (read other_read : List ReplyValue) (engine other : EngineState)
     → Serves start queue read engine → Serves start queue other_read other → HasPlaces start (items_in queue)
     → engine.front.held ≡ [] → other.front.held ≡ [] → AreAlike read other_read engine other
+
+-- The state of an engine that holds nothing is the replay of what was committed before it and then queued ahead of the Close. Its
+-- next place is after these. So it is as a journal says whose packets and pulses are queued in order.
+abbrev pub JournalRestores : Type 0
+JournalRestores =
+    (start : LedgerState) (queue : List Ticket) (read : List ReplyValue) (engine : EngineState)
+    → Serves start queue read engine → HasPlaces start (items_in queue) → engine.front.held ≡ []
+    → (state_of engine ≡ replay start.opening (inputs start ++ ahead (items_in queue)))
+    × (engine.ledger.places ≡ length (inputs start ++ ahead (items_in queue)))

@@ -1,0 +1,255 @@
+"""A client whose ledger is in an SQLite file, and is there again after a crash.
+
+    import kip as tb
+    from kip.durable import DurableClient
+
+    with DurableClient("ledger.db") as client:
+        client.create_accounts([tb.Account(id=1, ledger=1, code=1)])
+
+The file has one table, `entry`: a row with the settings, and one for each packet and pulse that is committed, by its place
+(docs/DURABLE.md has the columns). `tbpipe replay FILE` and `tbpipe list --journal FILE` open it too, and so do programs over `tb_durable`.
+"""
+import collections
+import contextlib
+import functools
+import os
+import sqlite3
+import struct
+
+from . import BUSY, CLOSED, COMMITTED, LOOKUP_ACCOUNTS, NO_MEMORY, ClientSync, KipError, _bytes, _moment, _number
+
+TABLE = ("CREATE TABLE entry (place INTEGER PRIMARY KEY, operation INTEGER NOT NULL, moment INTEGER NOT NULL, stubs BLOB NOT NULL, "
+         "body BLOB NOT NULL) STRICT")
+SETTINGS = "clock", "limit", "submitters"
+# The place of the settings, the version of the format, which is their operation, and what a pulse has for an operation.
+SETTINGS_PLACE, FORMAT_VERSION, PULSE = -1, 1, 0
+# Of a packet its number in its run, its submitter, and its count of events.
+_STUB = struct.Struct("<QII")
+
+
+class BadFile(ValueError):
+    """The file isn't a ledger's, or its rows aren't a journal. It stays as it was."""
+
+
+def _event_size(operation):
+    return 16 if operation == LOOKUP_ACCOUNTS else 128
+
+
+def _size(path):
+    return os.path.getsize(path) if os.path.exists(path) else 0
+
+
+def _refuse_other_files(path):
+    """Refuses a file that this SQLite would spoil: one whose pages end in sums, as `tb_durable` makes it, and a log without its file."""
+    if _size(path) == 0 and _size(f"{path}-wal") > 0:
+        raise BadFile(f"{path}: there is no file, but its log has pages: put the file back, or move the log away")
+    with contextlib.suppress(FileNotFoundError), open(path, "rb") as file:
+        if file.read(21)[20:] not in (b"", b"\0"):
+            raise BadFile(f"{path}: its pages have sums, which Python's SQLite doesn't write: continue it by tbpipe or tb_durable")
+
+
+def _is_new(path, database):
+    """Returns whether a database has no table. One that has anything but a ledger's table is refused."""
+    found = database.execute("select type, name, sql from sqlite_master").fetchall()
+    if found not in ([], [("table", "entry", TABLE)]):
+        raise BadFile(f"{path}: it has the tables of another program: give another file")
+    return not found
+
+
+def _opened(path, settings):
+    """Opens a ledger's file, or makes one with these settings, and locks it until it is closed."""
+    _refuse_other_files(path)
+    database = sqlite3.connect(path, isolation_level=None, timeout=0, check_same_thread=False)
+    try:
+        database.execute("pragma locking_mode = exclusive")
+        database.execute("pragma synchronous = full")
+        database.execute("begin exclusive")
+        if _is_new(path, database):
+            clock, limit, submitters = settings
+            database.execute(TABLE)
+            row = SETTINGS_PLACE, FORMAT_VERSION, clock, _STUB.pack(0, submitters, limit), b""
+            database.execute("insert into entry values (?, ?, ?, ?, ?)", row)
+        database.execute("commit")
+    except BaseException as why:
+        database.close()
+        if isinstance(why, sqlite3.OperationalError) and "locked" in str(why):
+            raise BlockingIOError(f"{path}: another process or client has it open: wait until it ends") from None
+        if type(why) is sqlite3.DatabaseError:  # no database, or a damaged one
+            raise BadFile(f"{path}: {why}") from None
+        raise
+    return database
+
+
+class DurableClient(ClientSync):
+    """A client whose ledger is in a file. What is committed is on the disk before `flush`, `pulse`, a `create_` call or `reply` returns.
+
+    A new file is made with these settings: by default the clock 0, a limit of 8190 and one submitter. A file keeps its settings, and
+    other ones raise BadFile. One client at a time has a file open: another raises BlockingIOError.
+
+    Many packets may be submitted ahead of one `flush`, which waits for the disk once. What waits for a flush isn't in the file, and
+    look-ups may show what a `submit` committed ahead of the next flush. `shut` isn't stored: it ends only this client's run. User data
+    and results aren't stored either. Opening applies all rows, some 50,000 packets a second.
+
+    A submitter's packets have the numbers that count on from those in the file. If the file can't be written, the call raises
+    sqlite3.Error and the client is closed: open the file again, which has all that was acknowledged. So it is if a signal handler raises
+    in the middle of a call. A handler that calls the client while it writes gets KipError `busy`.
+    """
+
+    def __init__(self, path, clock=None, limit=None, submitters=None, **more):
+        self._is_open = self._is_writing = False
+        self._refusal = None  # the last one of the library
+        self._data = {}  # of each packet that isn't in the file yet
+        self._stored = collections.deque()  # replies that weren't returned, to packets that are in the file
+        if sqlite3.sqlite_version_info < (3, 37):
+            raise RuntimeError(f"SQLite {sqlite3.sqlite_version} has no strict tables: Python needs one with SQLite 3.37 or newer")
+        path, asked = os.path.abspath(os.fspath(path)), (clock, limit, submitters)
+        settings = [default if it is None else it for it, default in zip(asked, (0, 8190, 1))]
+        ClientSync(**dict(zip(SETTINGS, settings)), **more).close()  # wrong settings are refused ahead of a file
+        self._database = _opened(path, settings)
+        try:
+            super().__init__(**self._kept_settings(path, asked), **more)
+            self._restore_all(path)
+            self._database.execute("pragma journal_mode = wal")
+        except BaseException as why:
+            self._end()
+            if type(why) is sqlite3.DatabaseError:  # a damaged one
+                raise BadFile(f"{path}: {why}") from None
+            raise
+
+    def _kept_settings(self, path, asked):
+        """Returns the settings in the first row. Those that are asked for must be the same."""
+        first = self._database.execute("select * from entry order by place limit 1").fetchone()
+        if first is None or first[0] != SETTINGS_PLACE or len(first[3]) != _STUB.size:
+            raise BadFile(f"{path}: its first row has no settings")
+        if first[1] != FORMAT_VERSION:
+            raise BadFile(f"{path}: its format has version {first[1]}, and this program reads version {FORMAT_VERSION}")
+        _, submitters, limit = _STUB.unpack(first[3])
+        kept = dict(zip(SETTINGS, (first[2], limit, submitters)))
+        for name, wanted in zip(SETTINGS, asked):
+            if wanted not in (None, kept[name]):
+                raise BadFile(f"{path}: its {name} is {kept[name]}, not {wanted}: leave it out, or give another file")
+        return kept
+
+    def _restore_all(self, path):
+        """Commits what is in the file. The replies were given when it was committed first."""
+        self._first = collections.Counter()  # of each submitter how many packets were in the file
+        following = collections.Counter()
+        for row in self._database.execute(f"select * from entry where place > {SETTINGS_PLACE} order by place"):
+            try:
+                self._restore(following, *row)
+            except (BadFile, KipError, struct.error, OverflowError, TypeError) as why:
+                if getattr(why, "status", None) == NO_MEMORY:
+                    raise
+                raise BadFile(f"{path}: the row at place {row[0]} is no entry of a journal: {why}") from None
+
+    def _restore(self, following, place, operation, moment, stubs, body):
+        if place != self.places():
+            raise BadFile(f"the next place is {self.places()}")
+        if operation == PULSE:
+            super().pulse(moment)
+            return
+        packets, at = list(_STUB.iter_unpack(stubs)), 0
+        for number, submitter, events in packets:
+            if number not in (0, following[submitter]):
+                raise BadFile(f"packet {number} of submitter {submitter} isn't the next")
+            following[submitter] = number + 1
+            self._first[submitter] += 1
+            end = at + events * _event_size(operation)
+            super().submit(operation, body[at:end], submitter)
+            at = end
+        super().flush()
+        if at != len(body) or not packets or self.places() != place + len(packets):
+            raise BadFile("its packets and its bytes don't fit")
+        while super()._next() is not None:
+            pass
+        self._unread.clear()
+
+    def _must(self, status):
+        if status:
+            self._refusal = KipError(status)
+            raise self._refusal
+
+    def _alone(self, call):
+        """Makes a call that a signal handler's calls may not divide. What fails and isn't refused by the library closes the client."""
+        with self._lock:
+            if self._is_writing:
+                raise KipError(BUSY)
+            try:
+                self._is_writing = True
+                if not self._is_open:  # (looked at here, since a signal handler may have closed it just before)
+                    self._must(CLOSED)
+                return call()
+            except BaseException as why:
+                # (what is committed may not be in the file, and a packet may be queued whose data isn't kept)
+                if why is not self._refusal:
+                    self._end()
+                raise
+            finally:
+                self._is_writing = False
+
+    def _end(self):
+        self._database.close()
+        if self._is_open:
+            super().close()
+
+    def _row(self, reply):
+        data = self._data[reply.submitter, reply.number]
+        number, events = reply.number - self._first[reply.submitter], len(data) // _event_size(reply.operation)
+        return reply._place, reply.operation, 0, _STUB.pack(number, reply.submitter, events), data
+
+    def _store(self, pulses=()):
+        """Stores what is committed and isn't in the file yet, in one transaction, and keeps the replies."""
+        replies = list(iter(super()._next, None))
+        rows = [*(self._row(reply) for reply in replies if reply.outcome == COMMITTED), *pulses]
+        if rows:
+            self._database.execute("begin")
+            self._database.executemany("insert into entry values (?, ?, ?, ?, ?)", rows)
+            self._database.execute("commit")
+        for reply in replies:
+            del self._data[reply.submitter, reply.number]
+        self._stored.extend(replies)
+
+    def _next(self):
+        """Returns the next reply, or None. Its packet is in the file."""
+        if not self._stored:
+            self._alone(self._store)
+        with contextlib.suppress(IndexError):  # there is none
+            return self._stored.popleft()
+
+    def _submit_and_keep(self, operation, data, submitter, user_data):
+        number = super().submit(operation, data, submitter, user_data)
+        self._data[submitter, number] = data
+        return number
+
+    def submit(self, operation, data, submitter=0, user_data=0):
+        """Queues a packet and returns its number, as `Ledger.submit` does."""
+        words = _number("operation", operation, 8), _bytes(data), _number("submitter", submitter, 32), _number("user_data", user_data, 64)
+        return self._alone(functools.partial(self._submit_and_keep, *words))
+
+    def _pulse_and_store(self, moment):
+        super().pulse(moment)
+        self._store([(self.places() - 1, PULSE, moment, b"", b"")])
+
+    def pulse(self, nanoseconds):
+        """Queues a pulse, which raises the clock, and stores it with what was committed ahead of it."""
+        self._alone(functools.partial(self._pulse_and_store, _moment("nanoseconds", nanoseconds)))
+
+    def shut(self):
+        """Queues the Close: packets after it aren't committed. It isn't stored."""
+        self._alone(super().shut)
+
+    def _flush_and_store(self):
+        super().flush()
+        self._store()
+
+    def flush(self):
+        """Commits the packets that wait for others to join, and stores them."""
+        self._alone(self._flush_and_store)
+
+    def close(self):
+        """Commits and stores what waits, and frees the ledger. A second close raises `closed`."""
+        try:
+            self._alone(self._flush_and_store)
+        finally:
+            if not self._is_writing:
+                self._end()

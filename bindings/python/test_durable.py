@@ -1,0 +1,219 @@
+"""Tests of kip.durable: python3 -m unittest test_durable. KIP_SO may name the library."""
+import contextlib
+import os
+import pathlib
+import resource
+import shutil
+import signal
+import sqlite3
+import struct
+import tempfile
+import threading
+import unittest
+
+from kip import CREATE_ACCOUNTS, CREATE_TRANSFERS, LOOKUP_ACCOUNTS, Account, KipError, NotCommitted, Transfer
+from kip.durable import TABLE, BadFile, DurableClient
+
+ROUTE = dict(debit_account_id=1, credit_account_id=2, ledger=1, code=1)
+EVENT = struct.pack("<16s96sIHHQ", (1).to_bytes(16, "little"), bytes(96), 1, 1, 0, 0)
+IDS = (1).to_bytes(16, "little")
+
+
+def stub(number=0, submitter=0, events=1):
+    return struct.pack("<QII", number, submitter, events)
+
+
+SETTINGS = -1, 1, 0, stub(0, 1, 8190), b""
+MADE = 0, CREATE_ACCOUNTS, 0, stub(), EVENT
+
+
+class InFolder(unittest.TestCase):
+    def setUp(self):
+        folder = tempfile.TemporaryDirectory()
+        self.addCleanup(folder.cleanup)
+        self.path = pathlib.Path(folder.name) / "ledger.db"
+
+    def write(self, *rows, table=TABLE):
+        """Writes a file with these rows."""
+        with contextlib.closing(sqlite3.connect(self.path)) as database:
+            database.execute(table)
+            database.executemany("insert into entry values (?, ?, ?, ?, ?)", rows)
+            database.commit()
+
+    def rows(self):
+        """Returns the rows, of copies of the file and its log: as a crash would leave them."""
+        for end in "", "-wal":
+            with contextlib.suppress(FileNotFoundError):
+                shutil.copy(f"{self.path}{end}", f"{self.path}.copy{end}")
+        with contextlib.closing(sqlite3.connect(f"{self.path}.copy")) as database:
+            return database.execute("select place, operation, moment, stubs, length(body) from entry order by place").fetchall()
+
+
+class Committing(InFolder):
+    def test_what_is_committed_is_there_again(self):
+        with DurableClient(self.path) as client:
+            self.assertEqual(client.create_accounts([Account(id=1, ledger=1, code=1), Account(id=2, ledger=1, code=1)]), [])
+            self.assertEqual(client.create_transfers([Transfer(id=1, amount=30, **ROUTE), Transfer(id=1, amount=31, **ROUTE)]), [(1, 39)])
+            client.pulse(10**9)
+        with DurableClient(self.path) as client:
+            self.assertEqual((client.places(), client.clock(), client.lookup_account(1).debits_posted), (3, 10**9, 30))
+            self.assertEqual(client.create_transfers([Transfer(id=1, amount=31, **ROUTE)]), [(0, 39)])
+            self.assertIsNone(client.reply())
+        self.assertEqual([row[:3] for row in self.rows()], [(-1, 1, 0), (0, 129, 0), (1, 130, 0), (2, 0, 10**9), (3, 130, 0)])
+
+    def test_packets_share_a_transaction_and_have_rows_of_their_own(self):
+        with DurableClient(self.path, submitters=2) as client:
+            numbers = [client.submit(CREATE_ACCOUNTS, EVENT * count, submitter, 7) for submitter, count in ((0, 1), (1, 2), (0, 0))]
+            self.assertEqual((numbers, self.rows()[1:]), ([0, 0, 1], []))
+            client.submit(LOOKUP_ACCOUNTS, IDS, 1)
+            client.flush()
+            copied = self.rows()
+            replies = [client.reply() for _ in range(4)]
+            self.assertEqual([(it.submitter, it.number, it.place, it.user_data) for it in replies],
+                             [(0, 0, 0, 7), (1, 0, 1, 7), (0, 1, 2, 7), (1, 1, 3, 0)])
+            self.assertEqual(replies[3].accounts[0].id, 1)
+        self.assertEqual(copied[1:], self.rows()[1:])
+        self.assertEqual([row[3:] for row in self.rows()[1:]], [(stub(), 128), (stub(0, 1, 2), 256), (stub(1, 0, 0), 0), (stub(1, 1), 16)])
+
+    def test_numbers_count_on_and_each_run_begins_at_0_in_the_file(self):
+        for run in range(3):
+            with DurableClient(self.path) as client:
+                self.assertEqual([client.submit(CREATE_ACCOUNTS, EVENT) for _ in range(2)], [2 * run, 2 * run + 1])
+        self.assertEqual([row[3] for row in self.rows()[1:]], [stub(), stub(1)] * 3)
+
+    def test_a_packet_of_8190_events(self):
+        with DurableClient(self.path) as client:
+            self.assertEqual(len(client.create_accounts([Account()] * 8190)), 8190)
+        with DurableClient(self.path) as client:
+            self.assertEqual((client.places(), client.clock()), (1, 8190))
+
+    def test_the_close_ends_a_run_and_is_not_stored(self):
+        with DurableClient(self.path) as client:
+            client.shut()
+            with self.assertRaises(NotCommitted):
+                client.create_accounts([Account(id=1, ledger=1, code=1)])
+        with DurableClient(self.path) as client:
+            self.assertEqual((client.places(), client.create_accounts([Account(id=1, ledger=1, code=1)])), (0, []))
+
+    def test_threads_share_a_client(self):
+        with DurableClient(self.path) as client:
+            def make(first):
+                for id in range(first, first + 50):
+                    client.create_accounts([Account(id=id, ledger=1, code=1)])
+            threads = [threading.Thread(target=make, args=(1 + 50 * it,)) for it in range(4)]
+            for thread in threads:
+                thread.start()
+            for thread in threads:
+                thread.join()
+        with DurableClient(self.path) as client:
+            self.assertEqual(sorted(it.id for it in client.accounts()), list(range(1, 201)))
+
+    def test_a_closed_client_refuses(self):
+        client = DurableClient(self.path)
+        client.close()
+        for call in client.close, client.flush, lambda: client.pulse(1), lambda: client.submit(CREATE_ACCOUNTS, EVENT), client.reply:
+            with self.assertRaises(KipError) as caught:
+                call()
+            self.assertEqual(caught.exception.name, "closed")
+
+
+class Failing(InFolder):
+    def test_a_file_that_can_not_grow_closes_the_client_and_keeps_what_was_acknowledged(self):
+        made, soft = 0, resource.getrlimit(resource.RLIMIT_FSIZE)
+        self.addCleanup(signal.signal, signal.SIGXFSZ, signal.signal(signal.SIGXFSZ, signal.SIG_IGN))
+        client = DurableClient(self.path)
+        resource.setrlimit(resource.RLIMIT_FSIZE, (64 << 10, soft[1]))
+        try:
+            with self.assertRaises(sqlite3.Error):
+                for made in range(1000):
+                    client.create_accounts([Account(id=made + 1, ledger=1, code=1)])
+            with self.assertRaises(KipError):
+                client.flush()
+        finally:
+            resource.setrlimit(resource.RLIMIT_FSIZE, soft)
+        self.assertGreater(made, 3)
+        with DurableClient(self.path) as client:
+            self.assertIn(client.counts().accounts, (made, made + 1))
+            self.assertEqual(len(client.create_accounts([Account(id=2000, ledger=1, code=1)])), 0)
+
+    def test_wrong_settings_make_no_file(self):
+        for settings, error in ({"limit": 0}, KipError), ({"submitters": 17}, KipError), ({"clock": 2**63}, KipError), ({"clock": -1}, OverflowError):
+            with self.assertRaises(error):
+                DurableClient(self.path, **settings)
+            self.assertFalse(self.path.exists())
+
+    def test_a_file_keeps_its_settings(self):
+        DurableClient(self.path, clock=5, limit=100, submitters=3).close()
+        with DurableClient(self.path) as client:
+            self.assertEqual(client.clock(), 5)
+        for settings in {"clock": 6}, {"limit": 8190}, {"submitters": 1}:
+            with self.assertRaisesRegex(BadFile, next(iter(settings))):
+                DurableClient(self.path, **settings)
+        DurableClient(self.path, clock=5, limit=100, submitters=3).close()
+
+    def test_one_client_has_a_file(self):
+        with DurableClient(self.path) as client:
+            with self.assertRaises(BlockingIOError):
+                DurableClient(self.path)
+            self.assertEqual(client.create_accounts([Account(id=1, ledger=1, code=1)]), [])
+
+
+class BadFiles(InFolder):
+    def refused(self, word):
+        before = self.path.read_bytes()
+        with self.assertRaisesRegex(BadFile, word):
+            DurableClient(self.path)
+        self.assertEqual(self.path.read_bytes(), before)
+
+    def test_bad_rows(self):
+        cases = {
+            "next place is 1": [SETTINGS, MADE, (2, 0, 1, b"", b"")],
+            "next place is 0": [SETTINGS, (1, CREATE_ACCOUNTS, 0, stub(), EVENT)],
+            "no settings": [MADE],
+            "version 2": [(-1, 2, *SETTINGS[2:])],
+            "invalid_operation": [SETTINGS, (0, 77, 0, stub(), EVENT)],
+            "packet 2 of submitter 0": [SETTINGS, MADE, (1, CREATE_ACCOUNTS, 0, stub(2), EVENT)],
+            "packet 1 of submitter 0": [SETTINGS, (0, CREATE_ACCOUNTS, 0, stub(1), EVENT)],
+            "bad_submitters": [SETTINGS, (0, CREATE_ACCOUNTS, 0, stub(0, 1), EVENT)],
+            "fit": [SETTINGS, (0, CREATE_ACCOUNTS, 0, stub(), EVENT * 2)],
+            "buffer|invalid_data_size|fit": [SETTINGS, (0, CREATE_ACCOUNTS, 0, stub(0, 0, 2), EVENT)],
+            "moment_too_large": [SETTINGS, (0, 0, 2**62 + 1, b"", b"")],
+            "multiple": [SETTINGS, (0, CREATE_ACCOUNTS, 0, stub()[1:], EVENT)],
+        }
+        for word, rows in cases.items():
+            with self.subTest(word):
+                self.path.unlink(missing_ok=True)
+                self.write(*rows)
+                self.refused(word)
+
+    def test_empty_stubs(self):
+        self.write(SETTINGS, (0, CREATE_ACCOUNTS, 0, b"", b""))
+        self.refused("fit")
+
+    def test_other_tables(self):
+        self.write(SETTINGS, table=TABLE.replace(" STRICT", ""))
+        self.refused("another program")
+
+    def test_no_database(self):
+        for data in b"no database, but a text of some length" * 20, bytes(4096):
+            self.path.write_bytes(data)
+            self.refused("not a database|sums")
+
+    def test_a_damaged_page(self):
+        with DurableClient(self.path) as client:
+            for id in range(200):
+                client.submit(CREATE_ACCOUNTS, EVENT)
+        data = bytearray(self.path.read_bytes())
+        data[4096:4200] = bytes(104)
+        self.path.write_bytes(data)
+        self.refused("malformed|journal|settings|next place")
+
+    def test_a_log_without_its_file(self):
+        pathlib.Path(f"{self.path}-wal").write_bytes(b"pages")
+        with self.assertRaisesRegex(BadFile, "log"):
+            DurableClient(self.path)
+        self.assertEqual(os.listdir(self.path.parent), ["ledger.db-wal"])
+
+
+if __name__ == "__main__":
+    unittest.main()
