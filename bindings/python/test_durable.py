@@ -151,6 +151,17 @@ class Failing(InFolder):
                 DurableClient(self.path, **settings)
         DurableClient(self.path, clock=5, limit=100, submitters=3).close()
 
+    def test_a_table_without_rows_is_a_new_ledger(self):
+        self.write()
+        with DurableClient(self.path, limit=7) as client:
+            self.assertEqual(client.places(), 0)
+        self.assertEqual(self.rows(), [(-1, 1, 0, stub(0, 1, 7), 0)])
+
+    def test_a_path_that_is_no_file_is_named(self):
+        for path in self.path.parent, self.path.parent / "none/ledger.db", bytes(self.path.parent):
+            with self.assertRaisesRegex((sqlite3.OperationalError, IsADirectoryError), str(self.path.parent)):
+                DurableClient(path)
+
     def test_one_client_has_a_file(self):
         with DurableClient(self.path) as client:
             with self.assertRaises(BlockingIOError):

@@ -56,28 +56,31 @@ def _is_new(path, database):
     return not found
 
 
-def _opened(path, settings):
-    """Opens a ledger's file, or makes one with these settings, and locks it until it is closed."""
-    _refuse_other_files(path)
-    database = sqlite3.connect(path, isolation_level=None, timeout=0, check_same_thread=False)
+@contextlib.contextmanager
+def _naming(path):
+    """Has errors of SQLite name the file. One that is no database, or damaged, is a BadFile."""
     try:
-        database.execute("pragma locking_mode = exclusive")
-        database.execute("pragma synchronous = full")
-        database.execute("begin exclusive")
-        if _is_new(path, database):
-            clock, limit, submitters = settings
-            database.execute(TABLE)
-            row = SETTINGS_PLACE, FORMAT_VERSION, clock, _STUB.pack(0, submitters, limit), b""
-            database.execute("insert into entry values (?, ?, ?, ?, ?)", row)
-        database.execute("commit")
-    except BaseException as why:
-        database.close()
-        if isinstance(why, sqlite3.OperationalError) and "locked" in str(why):
+        yield
+    except sqlite3.OperationalError as why:
+        if "locked" in str(why):
             raise BlockingIOError(f"{path}: another process or client has it open: wait until it ends") from None
-        if type(why) is sqlite3.DatabaseError:  # no database, or a damaged one
-            raise BadFile(f"{path}: {why}") from None
-        raise
-    return database
+        raise sqlite3.OperationalError(f"{path}: {why}") from None
+    except sqlite3.DatabaseError as why:
+        raise BadFile(f"{path}: {why}") from None
+
+
+def _lock(path, database, settings):
+    """Locks a ledger's file until it is closed, and makes the table of a new one, with these settings."""
+    database.execute("pragma locking_mode = exclusive")
+    database.execute("pragma synchronous = full")
+    database.execute("begin exclusive")
+    if _is_new(path, database):
+        database.execute(TABLE)
+    if database.execute("select * from entry limit 1").fetchone() is None:
+        clock, limit, submitters = settings
+        row = SETTINGS_PLACE, FORMAT_VERSION, clock, _STUB.pack(0, submitters, limit), b""
+        database.execute("insert into entry values (?, ?, ?, ?, ?)", row)
+    database.execute("commit")
 
 
 class DurableClient(ClientSync):
@@ -102,19 +105,20 @@ class DurableClient(ClientSync):
         self._stored = collections.deque()  # replies that weren't returned, to packets that are in the file
         if sqlite3.sqlite_version_info < (3, 37):
             raise RuntimeError(f"SQLite {sqlite3.sqlite_version} has no strict tables: Python needs one with SQLite 3.37 or newer")
-        path, asked = os.path.abspath(os.fspath(path)), (clock, limit, submitters)
-        settings = [default if it is None else it for it, default in zip(asked, (0, 8190, 1))]
+        path, asked = os.path.abspath(os.fsdecode(path)), (clock, limit, submitters)
+        settings = [_number(name, default if it is None else it, 64) for name, it, default in zip(SETTINGS, asked, (0, 8190, 1))]
         ClientSync(**dict(zip(SETTINGS, settings)), **more).close()  # wrong settings are refused ahead of a file
-        self._database = _opened(path, settings)
-        try:
-            super().__init__(**self._kept_settings(path, asked), **more)
-            self._restore_all(path)
-            self._database.execute("pragma journal_mode = wal")
-        except BaseException as why:
-            self._end()
-            if type(why) is sqlite3.DatabaseError:  # a damaged one
-                raise BadFile(f"{path}: {why}") from None
-            raise
+        _refuse_other_files(path)
+        with _naming(path):
+            self._database = sqlite3.connect(path, isolation_level=None, timeout=0, check_same_thread=False)
+            try:
+                _lock(path, self._database, settings)
+                super().__init__(**self._kept_settings(path, asked), **more)
+                self._restore_all(path)
+                self._database.execute("pragma journal_mode = wal")
+            except BaseException:
+                self._end()
+                raise
 
     def _kept_settings(self, path, asked):
         """Returns the settings in the first row. Those that are asked for must be the same."""
