@@ -6,7 +6,7 @@
 //! `start` of both starts a thread that ends its sender after its work, since `serve` waits for each end. The thread's end is the
 //! sender's own (`OwnEnd`, `OwnOpenEnd`), as `settle` requires.
 //!
-//! `crates/example_own_threads` is an example that the gate compiles.
+//! `own_threads` of `crates/examples` is an example that the gate compiles.
 #![tactic(auto)]
 
 mod client;

@@ -23,7 +23,8 @@
 //! before that. `drive_over` and `settle_over` do the same over any ledger, of which they say that there is one, of those that the value
 //! may be, with such a report.
 //!
-//! `crates/example_two_tellers`, `crates/example_days` with a run a day over one ledger, and, with threads of its own, `crates/example_own_threads` are examples that the gate compiles.
+//! `crates/examples` has examples that the gate compiles: `two_tellers`, `days` with a run a day over one ledger, `payments`, and, with
+//! threads of its own, `own_threads`.
 #![tactic(auto)]
 
 mod batching;

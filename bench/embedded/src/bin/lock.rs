@@ -4,7 +4,7 @@
 //!     lock EVENTS PACKETS SUBMITTERS ROOM
 //!     lock live SUBMITTERS LOADS
 //!
-//! The submitters send what those of `bench_pipeline` send, and the line printed is theirs. ROOM is how many transfers capacity is
+//! The submitters send what those of `benchmarks pipeline` send, and the line printed is theirs. ROOM is how many transfers capacity is
 //! reserved for, or 0. The embedded ledger keeps no journal. `live`: as `peer_lock` does it.
 
 use kip::{Ledger, Outcome};

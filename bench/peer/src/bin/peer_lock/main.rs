@@ -4,7 +4,7 @@
 //!     peer_lock indexed|strong run|bare EVENTS PACKETS SUBMITTERS ROOM
 //!     peer_lock indexed|strong live SUBMITTERS LOADS
 //!
-//! The submitters send what those of `peer_pipeline` and `bench_pipeline` send, and the line printed is theirs. `run` keeps each
+//! The submitters send what those of `peer_pipeline` and `benchmarks pipeline` send, and the line printed is theirs. `run` keeps each
 //! committed packet's bytes in a journal, `bare` keeps none. ROOM is how many transfers capacity is reserved for, or 0.
 //!
 //! `live`: the first thread commits a packet of one event for each byte of the standard input, and writes a byte after it. LOADS others
