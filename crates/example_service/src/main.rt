@@ -36,7 +36,7 @@ use std::thread::Threads;
 use std::time::Clock;
 use tb_core::{AnyLedger, Seed};
 use tb_drive::ControlPlan;
-use tb_durable::{DurableLedger, LedgerFile, Settings, copy_log, open_file};
+use tb_durable::{DurableLedger, LedgerFile, OpenFault, Settings, copy_log, open_file};
 use tb_figures::{CountedDriver, CountedLedger, Figures};
 use tb_layout::BATCH_MAX;
 use tb_pipe::{Finished, Report, drive_over, open};
@@ -53,8 +53,6 @@ const SETTINGS: Settings = Settings {
 
 /// How many packets of a till may be in flight.
 const CREDIT: u32 = 16;
-
-type FileLedger = DurableLedger<LedgerFile>;
 
 type CountedTill = CountedDriver<Till, HostRuntime>;
 
@@ -76,30 +74,27 @@ fn asked(rt: &HostRuntime) -> Option<(String, u64)> {
     }
 }
 
-/// Opens the ledger in a file. None if it can't be opened or isn't a service's, after a line that says why.
-fn open_ledger(rt: &HostRuntime, path: &str) -> Option<FileLedger> {
-    let opened = match open_file(rt, path) {
-        Ok(store) => match DurableLedger::over(rt.alloc(), store, SETTINGS, Seed::default()) {
-            Ok(ledger) => Ok(ledger),
-            Err((fault, store)) => {
-                drop(store);
-                Err(fault)
-            }
-        },
-        Err(fault) => Err(fault),
+/// Says why the ledger can't be opened.
+fn say_fault(rt: &HostRuntime, fault: OpenFault) {
+    let _ = eprintln!(rt; "the ledger can't be opened: {fault}");
+}
+
+/// Opens the ledger of a store. None if it can't be opened or isn't a service's, after a line that says why.
+fn open_ledger<S: Store + Drop>(rt: &HostRuntime, store: S) -> Option<DurableLedger<S>> {
+    let ledger = match DurableLedger::over(rt.alloc(), store, SETTINGS, Seed::default()) {
+        Ok(ledger) => ledger,
+        Err((fault, store)) => {
+            drop(store);
+            say_fault(rt, fault);
+            return None;
+        }
     };
-    match opened {
-        Ok(ledger) if ledger.settings() == SETTINGS => Some(ledger),
-        Ok(ledger) => {
-            drop(ledger);
-            let _ = eprintln!(rt; "the file has the ledger of another program");
-            None
-        }
-        Err(fault) => {
-            let _ = eprintln!(rt; "the ledger can't be opened: {fault}");
-            None
-        }
+    if ledger.settings() != SETTINGS {
+        drop(ledger);
+        let _ = eprintln!(rt; "the file has the ledger of another program");
+        return None;
     }
+    Some(ledger)
 }
 
 /// Returns a till that continues after its packets that are stored, and that is counted. The first writes the figures.
@@ -206,7 +201,7 @@ fn run<R: Threads + Wait + Clock + Sync, S: Store + Drop + Send>(
 }
 
 /// Says what stopped a ledger, if anything did. Returns whether nothing did.
-fn went_on(rt: &HostRuntime, ledger: &FileLedger) -> bool {
+fn went_on<S: Store + Drop>(rt: &HostRuntime, ledger: &DurableLedger<S>) -> bool {
     if !ledger.stopped() {
         return true;
     }
@@ -225,7 +220,7 @@ fn went_on(rt: &HostRuntime, ledger: &FileLedger) -> bool {
 }
 
 /// Prints what each till has paid in all.
-fn print_tills(rt: &HostRuntime, ledger: &FileLedger) {
+fn print_tills<S: Store + Drop>(rt: &HostRuntime, ledger: &DurableLedger<S>) {
     for till in 0..TILLS {
         if let Some(wallet) = ledger.machine().account(TillAccounts::of(till).wallet) {
             let paid = wallet.debits_posted;
@@ -242,31 +237,42 @@ fn finish_file(rt: &HostRuntime, store: LedgerFile) {
     }
 }
 
-fn main(rt: HostRuntime) -> ExitCode {
-    let Some((path, payments)) = asked(&rt) else {
-        let _ = eprintln!(rt; "usage: example_service FILE [PAYMENTS]");
-        return ExitCode::from(1);
-    };
-    let Some(ledger) = open_ledger(&rt, path.as_str()) else {
-        return ExitCode::from(2);
-    };
+/// Runs new tills over a ledger, as `run` does.
+fn run_tills<R: Threads + Wait + Clock + Sync, S: Store + Drop + Send>(
+    threads: &R,
+    rt: &HostRuntime,
+    ledger: DurableLedger<S>,
+    figures: &Figures,
+    payments: u64,
+) -> Option<(DurableLedger<S>, bool)> {
+    match figures_and_tills(rt, figures, ledger.packets(), payments) {
+        Some((counted, tills)) => run(threads, rt.alloc(), ledger, counted, tills),
+        None => {
+            drop(ledger);
+            None
+        }
+    }
+}
+
+/// Runs the service over a store until all tills have ended, and prints what they have paid. Returns the store, and whether no till gave
+/// up. None if it failed or the ledger stopped, after a line that says why. Only `main` has a runtime with threads, so they come apart.
+fn serve<R: Threads + Wait + Clock + Sync, S: Store + Drop + Send>(
+    threads: &R,
+    rt: &HostRuntime,
+    store: S,
+    payments: u64,
+) -> Option<(S, bool)> {
+    let ledger = open_ledger(rt, store)?;
     let places = ledger.places();
     let _ = println!(rt; "the ledger has {places} places");
     let Ok(figures) = Figures::new(rt.alloc(), TILLS, CREDIT) else {
         drop(ledger);
         let _ = eprintln!(rt; "memory or a thread failed");
-        return ExitCode::from(2);
+        return None;
     };
-    let ran = match figures_and_tills(&rt, &figures, ledger.packets(), payments) {
-        Some((counted, tills)) => run(&rt, rt.alloc(), ledger, counted, tills),
-        None => {
-            drop(ledger);
-            None
-        }
-    };
-    let Some((ledger, complete)) = ran else {
+    let Some((ledger, complete)) = run_tills(threads, rt, ledger, &figures, payments) else {
         let _ = eprintln!(rt; "memory or a thread failed");
-        return ExitCode::from(2);
+        return None;
     };
     if !complete {
         let _ = eprintln!(rt;
@@ -275,12 +281,29 @@ fn main(rt: HostRuntime) -> ExitCode {
     }
     let read = figures.read();
     let _ = eprintln!(rt; "{read}");
-    print_tills(&rt, &ledger);
-    let went_on = went_on(&rt, &ledger);
-    if went_on {
-        finish_file(&rt, ledger.into_store());
-    } else {
+    print_tills(rt, &ledger);
+    if !went_on(rt, &ledger) {
         drop(ledger);
+        return None;
     }
-    ExitCode::from(if went_on && complete { 0 } else { 2 })
+    Some((ledger.into_store(), complete))
+}
+
+fn main(rt: HostRuntime) -> ExitCode {
+    let Some((path, payments)) = asked(&rt) else {
+        let _ = eprintln!(rt; "usage: example_service FILE [PAYMENTS]");
+        return ExitCode::from(1);
+    };
+    let served = match open_file(&rt, path.as_str()) {
+        Ok(store) => serve(&rt, &rt, store, payments),
+        Err(fault) => {
+            say_fault(&rt, fault);
+            None
+        }
+    };
+    let Some((store, complete)) = served else {
+        return ExitCode::from(2);
+    };
+    finish_file(&rt, store);
+    ExitCode::from(if complete { 0 } else { 2 })
 }

@@ -4,7 +4,7 @@ ghost use Rattle.std.specs.Prelude.{◌≡◌, ◌≤◌, false, IfOk};
 ghost use Rattle.tb_core.specs.claim.Journal.{LedgerState};
 ghost use Rattle.tb_durable.specs.clauses.Entries.{IsInFile};
 ghost use Rattle.tb_layout.specs.claim.Limits.{clock_max};
-ghost use Rattle.tb_program_text.specs.clauses.Script.{clock_of};
+ghost use Rattle.tb_program_text.specs.clauses.Script.{InBounds, clock_of};
 
 mod committing;
 mod door;
@@ -130,6 +130,19 @@ fn of_faulty(alloc: Global, faulty: FaultyScript) -> Journaled<LedgerFile> {
     }
 }
 
+/// Commits a script to the ledger of a store, in its order.
+fn list_script<S: Store + Drop>(
+    alloc: Global,
+    store: S,
+    script: ScriptParts,
+) -> Result<Journaled<S>, JournalFault>
+    requires { InBounds script.settings }
+{
+    let ScriptParts { settings, items } = script;
+    let ledger = open_for(alloc, store, &settings)?;
+    Committing::over(alloc, ledger)?.commit_all(items)
+}
+
 /// Reads a script and commits it to the ledger at a path, in its order. Returns what is written of it, as `tb_program::list_output` does.
 pub(crate) fn list_into(
     rt: &HostRuntime,
@@ -138,9 +151,8 @@ pub(crate) fn list_into(
     match read_source(rt.alloc(), &mut rt.reader())? {
         Source::Faulty(faulty) => Ok(of_faulty(rt.alloc(), faulty)),
         Source::Script(script) => {
-            let ScriptParts { settings, items } = script.finish()?;
-            let ledger = open_for(rt.alloc(), open_file(rt, path)?, &settings)?;
-            Committing::over(rt.alloc(), ledger)?.commit_all(items)
+            let script = script.finish()?;
+            list_script(rt.alloc(), open_file(rt, path)?, script)
         }
     }
 }
@@ -201,13 +213,18 @@ fn reopen<S: Store + Drop>(alloc: Global, store: S) -> Result<DurableLedger<S>, 
     }
 }
 
-/// Returns the clock and the accounts of the ledger at a path, as lines. No ledger is made.
-pub(crate) fn replay(rt: &HostRuntime, path: &str) -> Result<String, JournalFault> {
-    refuse_without_ledger(rt, path)?;
-    let ledger = reopen(rt.alloc(), open_file(rt, path)?)?;
-    let mut out = String::new(rt.alloc());
+/// Returns the clock and the accounts of the ledger of a store that has one, as lines.
+fn state_text<S: Store + Drop>(alloc: Global, store: S) -> Result<String, JournalFault> {
+    let ledger = reopen(alloc, store)?;
+    let mut out = String::new(alloc);
     let put = put_state(&mut out, ledger.machine());
     drop(ledger);
     put?;
     Ok(out)
+}
+
+/// Returns the clock and the accounts of the ledger at a path, as lines. No ledger is made.
+pub(crate) fn replay(rt: &HostRuntime, path: &str) -> Result<String, JournalFault> {
+    refuse_without_ledger(rt, path)?;
+    state_text(rt.alloc(), open_file(rt, path)?)
 }

@@ -112,6 +112,22 @@ fn finish_file(rt: &HostRuntime, store: LedgerFile) {
     }
 }
 
+/// Finishes the file of a ledger, if there is one, or returns what stopped the ledger.
+fn finish(
+    rt: &HostRuntime,
+    stop: Option<JournalFault>,
+    store: Option<LedgerFile>,
+) -> Result<(), JournalFault> {
+    match (stop, store) {
+        (Some(stop), _) => Err(stop),
+        (None, Some(store)) => {
+            finish_file(rt, store);
+            Ok(())
+        }
+        (None, None) => Ok(()),
+    }
+}
+
 /// Prints what was made of a script that was committed to a file. Returns how the program ends. An output that fails then doesn't undo
 /// what is committed.
 fn print_journaled(
@@ -121,17 +137,12 @@ fn print_journaled(
 ) -> Result<Ending, JournalFault> {
     let (output, stop, store) = made.into_parts();
     let ending = print_output(rt, options, &output);
-    if let Some(stop) = stop {
-        return Err(stop);
-    }
-    if let Some(store) = store {
-        finish_file(rt, store);
-    }
+    let is_committed = output.faultless;
+    drop(output);
+    finish(rt, stop, store)?;
     match ending {
-        Ending::Failed(ProgramFault::Write) if output.faultless => {
-            Err(JournalFault::WriteCommitted)
-        }
-        Ending::Failed(ProgramFault::NoMemory) if output.faultless => Err(JournalFault::NoMemory),
+        Ending::Failed(ProgramFault::Write) if is_committed => Err(JournalFault::WriteCommitted),
+        Ending::Failed(ProgramFault::NoMemory) if is_committed => Err(JournalFault::NoMemory),
         ending => Ok(ending),
     }
 }
