@@ -114,7 +114,7 @@ fn feed_all(rt: &(impl Abort + Alloc<A = Global>), front: &mut Front, ledger: &m
 
 /// Takes the packets and the pulse of the example to a ledger, and asserts its journal and its machine.
 fn assert_pulse_between(rt: &(impl Abort + Alloc<A = Global>), ledger: &mut Ledger) {
-    let mut front = small_front(rt.alloc()).expect(rt, "memory");
+    let mut front = small_front(rt);
     feed_all(rt, &mut front, ledger);
     drop(front);
     let entries = [

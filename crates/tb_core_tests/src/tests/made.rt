@@ -1,6 +1,8 @@
 //! What the tests hand in: jobs and items.
 
+use super::number_of;
 use std::alloc::Global;
+use std::process::Abort;
 use tb_layout::{Account, LOOKUP_ACCOUNTS, MOMENT_MAX, NoMemory, Transfer};
 use tb_test_makers::{account, accounts_packet, job, transfers_packet, zeros};
 use tb_work::{Item, Job, Moment, Packet, Refusal};
@@ -97,4 +99,36 @@ pub(super) fn item(alloc: Global, sender: u32, made: Made) -> Result<Item, Refus
         Made::End => Item::End,
         Made::Close => Item::Close,
     })
+}
+
+/// Returns what a word says that a sender pushes: `close`, `end`, `pulse5` at moment 5, `129x7` for a packet of seven zeros, or
+/// `packet0=1`, number 0, which creates account 1.
+fn made_of(rt: &impl Abort, pushed: &str) -> Made {
+    match pushed {
+        "close" => return Made::Close,
+        "end" => return Made::End,
+        _ => {}
+    }
+    if let Some(moment) = pushed.strip_prefix("pulse") {
+        return Made::Pulse(u64::from(number_of(rt, moment)));
+    }
+    if let Some((operation, count)) = pushed.split_once('x') {
+        return Made::Zeros {
+            number: 0,
+            operation: operation.parse::<u8>().ok().expect(rt, "an operation"),
+            count: number_of(rt, count),
+        };
+    }
+    let packet = pushed.strip_prefix("packet").expect(rt, "a packet");
+    let (number, id) = packet.split_once('=').expect(rt, "a number and an id");
+    Made::Packet {
+        number: u64::from(number_of(rt, number)),
+        id: u128::from(number_of(rt, id)),
+    }
+}
+
+/// Returns a sender's number, which a word has up to a colon, and what the rest says that it pushes.
+pub(super) fn pushed_by(rt: &impl Abort, word: &str) -> (u32, Made) {
+    let (sender, pushed) = word.split_once(':').expect(rt, "a sender");
+    (number_of(rt, sender), made_of(rt, pushed))
 }

@@ -1,6 +1,6 @@
 //! The World, by worked examples. Who owns a World drops it by name, at one place.
 
-use super::made::{Made, item};
+use super::made::{Made, item, pushed_by};
 use super::number_of;
 use super::outcomes::{EntryKind, assert_entries, assert_kinds};
 use std::alloc::Global;
@@ -67,25 +67,6 @@ const STAGES: [(&str, Step); 8] = [
     ("reply-push", Step::ReplyPush),
 ];
 
-/// Returns what a sender pushes: `close`, `end`, `pulse5` at moment 5, or `packet0=1`, number 0, which creates account
-/// 1.
-fn made_of(rt: &impl Abort, pushed: &str) -> Made {
-    match pushed {
-        "close" => return Made::Close,
-        "end" => return Made::End,
-        _ => {}
-    }
-    if let Some(moment) = pushed.strip_prefix("pulse") {
-        return Made::Pulse(u64::from(number_of(rt, moment)));
-    }
-    let packet = pushed.strip_prefix("packet").expect(rt, "a packet");
-    let (number, id) = packet.split_once('=').expect(rt, "a number and an id");
-    Made::Packet {
-        number: u64::from(number_of(rt, number)),
-        id: u128::from(number_of(rt, id)),
-    }
-}
-
 /// Returns the step of a word: the name of a stage's step, or a sender's number, a colon, and `reply` or what it
 /// pushes.
 fn step_of(rt: &impl Abort, word: &str) -> Step {
@@ -94,12 +75,11 @@ fn step_of(rt: &impl Abort, word: &str) -> Step {
             return *step;
         }
     }
-    let (sender, act) = word.split_once(':').expect(rt, "a sender");
-    let sender = number_of(rt, sender);
-    match act {
-        "reply" => Step::ReplyPop(sender),
-        pushed => Step::Push(sender, made_of(rt, pushed)),
+    if let Some(sender) = word.strip_suffix(":reply") {
+        return Step::ReplyPop(number_of(rt, sender));
     }
+    let (sender, made) = pushed_by(rt, word);
+    Step::Push(sender, made)
 }
 
 /// Returns the step of a word, and what the World answers to it: false after a `!`, and else true.

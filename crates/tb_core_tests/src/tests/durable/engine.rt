@@ -1,6 +1,6 @@
 //! An engine over a ledger in a store, and over one that stops.
 
-use crate::tests::{empty_store, facts, largest_packet, opened, two_accounts};
+use super::{MIDDLE, empty_store, facts, largest_packet, opened, two_accounts};
 use sqlite::MemStore;
 use std::alloc::Global;
 use std::process::Abort;
@@ -71,15 +71,11 @@ fn read<L: AnyLedger>(engine: &mut AnyEngine<L>) -> Option<(u32, OutcomeKind)> {
 }
 
 fn one_account(rt: &(impl Abort + Alloc<A = Global>), id: u128) -> Packet {
-    accounts_packet(rt.alloc(), &[account(id, 0)])
-        .ok()
-        .expect(rt, "memory")
+    accounts_packet(rt.alloc(), &[account(id, 0)]).expect(rt, "memory")
 }
 
 fn one_transfer(rt: &(impl Abort + Alloc<A = Global>), id: u128) -> Packet {
-    transfers_packet(rt.alloc(), &[transfer(id, [1, 2], 1, 0)])
-        .ok()
-        .expect(rt, "memory")
+    transfers_packet(rt.alloc(), &[transfer(id, [1, 2], 1, 0)]).expect(rt, "memory")
 }
 
 /// Places count on in the engine over what is opened again, and packets are numbered from 0.
@@ -109,7 +105,7 @@ fn an_engine_over_rows_continues(rt: HostRuntime) {
 
 /// Returns an id whose highest bit is set.
 fn wide_id(n: u64) -> u128 {
-    (1u128 << 127) + u128::from(n)
+    MIDDLE.saturating_add(u128::from(n))
 }
 
 /// As many packets of one event as a batch takes, of sixteen submitters, join one batch, which is one row. Each has its reply, and the

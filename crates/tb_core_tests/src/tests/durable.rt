@@ -6,6 +6,9 @@ ghost use Rattle.sqlite_trees.specs.View.{is_int};
 
 mod engine;
 
+use super::ledger::alone;
+use super::outcomes::first_reply;
+use super::push;
 use sqlite::MemStore;
 use sqlite_trees::schema::Object;
 use sqlite_trees::store::{Shape, Store};
@@ -13,10 +16,10 @@ use sqlite_value::row::Row;
 use sqlite_value::value::ValueRef;
 use std::alloc::{AllocError, Global};
 use std::process::Abort;
-use tb_batch::{Batch, Batcher};
+use tb_batch::Batch;
 use tb_core::{Outcomes, Parcel, Seed};
 use tb_durable::{DurableLedger, OpenFault, Settings};
-use tb_layout::{BATCH_MAX, MOMENT_MAX, Transfer};
+use tb_layout::MOMENT_MAX;
 use tb_test_makers::{
     OutcomeKind, account, accounts_packet, check, job, kind_of, transfer, transfers_packet,
 };
@@ -55,26 +58,14 @@ fn batch_of(
     number: u64,
     packet: Packet,
 ) -> Batch {
-    let mut batcher = Batcher::new(rt.alloc(), BATCH_MAX)
-        .ok()
-        .expect(rt, "a limit");
-    let job = job(rt.alloc(), submitter, number, packet)
-        .ok()
-        .expect(rt, "a packet");
-    drop(batcher.offer(job));
-    batcher.seal().expect(rt, "a batch")
+    let job = job(rt.alloc(), submitter, number, packet);
+    alone(rt, job.expect(rt, "a packet"))
 }
 
 /// Returns the place in the first reply of a batch; None if it wasn't committed.
 fn first_place(outcomes: Outcomes) -> Option<u64> {
-    match outcomes {
-        Outcomes::Cut(mut cutter) => {
-            let reply = cutter.next()?;
-            match kind_of(&reply) {
-                OutcomeKind::Committed(place) => Some(place),
-                _ => None,
-            }
-        }
+    match kind_of(&first_reply(outcomes)?) {
+        OutcomeKind::Committed(place) => Some(place),
         _ => None,
     }
 }
@@ -84,26 +75,21 @@ fn commit(rt: &impl Abort, ledger: &mut DurableLedger<MemStore>, batch: Batch) -
     first_place(ledger.apply(Parcel::Batch(batch))).expect(rt, "a committed batch")
 }
 
-/// Returns a packet of 8,190 transfers of 1, whose ids begin above 2^127.
+/// 2^127, whose highest bit is set.
+const MIDDLE: u128 = 0x8000_0000_0000_0000_0000_0000_0000_0000;
+
+/// Returns a packet of 8,190 transfers of 1, whose ids begin at 2^127.
 fn largest_packet(rt: &(impl Abort + Alloc<A = Global>)) -> Packet {
-    let mut events: Vec<Transfer> = Vec::new(rt.alloc());
-    let mut id = 1u128 << 127;
-    for _ in 0..8190 {
-        events
-            .push(transfer(id, [1, 2], 1, 0))
-            .ok()
-            .expect(rt, "memory");
-        id = id.wrapping_add(1);
+    let mut events = Vec::new(rt.alloc());
+    for number in 0..8190u32 {
+        let id = MIDDLE.saturating_add(u128::from(number));
+        push(rt, &mut events, transfer(id, [1, 2], 1, 0));
     }
-    transfers_packet(rt.alloc(), events.as_slice())
-        .ok()
-        .expect(rt, "memory")
+    transfers_packet(rt.alloc(), events.as_slice()).expect(rt, "memory")
 }
 
 fn two_accounts(rt: &(impl Abort + Alloc<A = Global>)) -> Packet {
-    accounts_packet(rt.alloc(), &[account(1, 0), account(2, 0)])
-        .ok()
-        .expect(rt, "memory")
+    accounts_packet(rt.alloc(), &[account(1, 0), account(2, 0)]).expect(rt, "memory")
 }
 
 /// Returns what a test compares of a ledger: places, clock, debits of account 1, credits of account 2.
