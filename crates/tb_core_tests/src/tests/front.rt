@@ -10,7 +10,7 @@ use std::alloc::Global;
 use std::process::Abort;
 use std::slice;
 use tb_core::{Cause, Front, Ledger, Outcomes, Parcel};
-use tb_test_makers::{OutcomeKind, check};
+use tb_test_makers::{OutcomeKind, check, must};
 use tb_work::{Refusal, Reply, Ticket};
 
 /// Returns the number in a word after a name, as 5 in `pulse5`.
@@ -80,12 +80,7 @@ fn assert_taken(
 }
 
 /// Lets the front take what each line has, and asserts what it yields.
-fn play(
-    rt: &(impl Abort + Alloc<A = Global>),
-    front: &mut Front,
-    submitters: u32,
-    lines: &str,
-)
+fn play(rt: &(impl Abort + Alloc<A = Global>), front: &mut Front, submitters: u32, lines: &str)
     requires { submitters ≡ front.old.submitters }
     ensures { front.new.submitters ≡ front.old.submitters }
 {
@@ -159,10 +154,10 @@ fn packet_behind_shut(rt: HostRuntime) {
     let mut front = small_front(&rt);
     play(&rt, &mut front, 1, BEHIND_SHUT);
     // The submitter hasn't ended.
-    check!(&rt; !front.finished());
+    must(&rt, !front.finished());
     play(&rt, &mut front, 1, "0:end|");
     // Both have ended.
-    check!(&rt; front.finished());
+    must(&rt, front.finished());
     drop(front);
 }
 
@@ -193,7 +188,7 @@ fn assert_taken_into(
     ensures same { front.new.submitters ≡ front.old.submitters }
 {
     let (sender, made) = pushed_by(rt, pushed);
-    check!(rt; sender <= 1 && parcels.is_empty());
+    must(rt, sender <= 1 && parcels.is_empty());
     front.take_into(parcels, ticket_of(rt, sender, made));
     assert_handed(rt, parcels.as_slice(), wanted);
     parcels.clear();
@@ -220,7 +215,7 @@ fn takes_into(
     let id = u128::from(number).saturating_add(1);
     match ticket(rt.alloc(), 0, Made::Packet { number, id }) {
         Ok(ticket) => {
-            check!(rt; parcels.is_empty());
+            must(rt, parcels.is_empty());
             front.take_into(parcels, ticket);
             true
         }
@@ -284,8 +279,8 @@ fn way_of_a_packet(front: &mut Front, ledger: &mut Ledger, ticket: Ticket) -> Op
 /// Asserts that a packet has its reply.
 fn assert_answered(rt: &(impl Abort + Alloc<A = Global>), front: &mut Front, ledger: &mut Ledger) {
     let reply = way_of_a_packet(front, ledger, ticket_of(rt, 0, FIRST)).expect(rt, "a reply");
-    check!(rt; (reply.submitter, reply.number) == (0, 0));
-    check!(rt; reply.packet.user == 7);
+    must(rt, (reply.submitter, reply.number) == (0, 0));
+    must(rt, reply.packet.user == 7);
     assert_kinds(rt, slice::from_ref(&reply), &[OutcomeKind::Committed(0)]);
 }
 
@@ -303,14 +298,14 @@ fn hold_again(rt: &impl Abort, front: &mut Front)
     ensures { front.new.submitters ≡ front.old.submitters }
 {
     let batch = front.idle().expect(rt, "a group is held");
-    check!(rt; !front.is_holding());
+    must(rt, !front.is_holding());
     front.hold(batch);
 }
 
 /// Seals the group held, which has this number of packets.
 fn assert_sealed(rt: &impl Abort, front: &mut Front, packets: usize) {
     let batch = front.idle().expect(rt, "a group is held");
-    check!(rt; batch.jobs().len() == packets);
+    must(rt, batch.jobs().len() == packets);
     drop(batch);
 }
 
@@ -320,7 +315,7 @@ fn group_held_again(rt: HostRuntime) {
     let mut front = small_front(&rt);
     play(&rt, &mut front, 1, "0:packet0=1|");
     hold_again(&rt, &mut front);
-    check!(&rt; front.is_holding());
+    must(&rt, front.is_holding());
     play(&rt, &mut front, 1, "0:packet1=2|");
     assert_sealed(&rt, &mut front, 2);
     drop(front);

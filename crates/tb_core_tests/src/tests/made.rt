@@ -1,10 +1,10 @@
 //! What the tests hand in: jobs and items.
 
-use super::number_of;
+use super::{number_of, push};
 use std::alloc::Global;
 use std::process::Abort;
 use tb_layout::{Account, LOOKUP_ACCOUNTS, MOMENT_MAX, NoMemory, Transfer};
-use tb_test_makers::{account, accounts_packet, job, transfers_packet, zeros};
+use tb_test_makers::{account, accounts_packet, job, transfer, transfers_packet, zeros};
 use tb_work::{Item, Job, Moment, Packet, Refusal};
 
 /// What a sender queues, before it is made.
@@ -26,8 +26,35 @@ pub(super) enum Made {
     Close,
 }
 
+/// Returns a packet that asks for accounts with these ids and flags.
+pub(super) fn packet_of_accounts(
+    rt: &(impl Abort + Alloc<A = Global>),
+    events: &[(u128, u16)],
+) -> Packet {
+    let mut accounts = Vec::new(rt.alloc());
+    for (id, flags) in events {
+        push(rt, &mut accounts, account(*id, *flags));
+    }
+    accounts_packet(rt.alloc(), accounts.as_slice()).expect(rt, "memory")
+}
+
+/// Returns a packet of transfers of 1 between two accounts, with rising ids from here on.
+pub(super) fn rising(
+    alloc: Global,
+    first_id: u128,
+    accounts: [u128; 2],
+    count: usize,
+) -> Result<Packet, NoMemory> {
+    let mut made = Vec::new(alloc);
+    for number in 0..count {
+        let id = (number as u128).saturating_add(first_id);
+        made.push(transfer(id, accounts, 1, 0))?;
+    }
+    transfers_packet(alloc, made.as_slice())
+}
+
 /// Returns a packet of a submitter as a job, unless memory ran out for it.
-fn job_of(
+pub(super) fn job_of(
     alloc: Global,
     submitter: u32,
     number: u64,

@@ -5,7 +5,8 @@ use super::number_of;
 use super::outcomes::{EntryKind, assert_entries, assert_kinds};
 use std::alloc::Global;
 use std::process::Abort;
-use tb_test_makers::{OutcomeKind, check};
+use tb_core::Ledger;
+use tb_test_makers::{OutcomeKind, check, must};
 use tb_work::{Refusal, Ticket};
 use tb_world::{Event, World, run_world};
 
@@ -90,6 +91,11 @@ fn answered_step(rt: &impl Abort, word: &str) -> (Step, bool) {
     }
 }
 
+/// Returns the ledger of a World at rest.
+fn ledger_of(rt: &impl Abort, world: World) -> Ledger {
+    world.into_ledger().ok().expect(rt, "it is at rest")
+}
+
 /// Takes steps, and asserts what the World answers to each.
 fn play(rt: &(impl Abort + Alloc<A = Global>), world: &mut World, steps: &str) {
     for word in steps.split_whitespace() {
@@ -109,7 +115,7 @@ fn assert_world(
     assert_kinds(rt, world.received(0), kinds);
     assert_kinds(rt, world.received(1), &[]);
     assert_entries(rt, world.ledger().journal(), entries);
-    check!(rt; world.ledger().machine().clock() == clock);
+    must(rt, world.ledger().machine().clock() == clock);
 }
 
 /// Adds the event of a step. Returns false if memory ran out.
@@ -117,7 +123,7 @@ fn add_step(rt: &impl Abort, alloc: Global, events: &mut Vec<Event>, step: Step)
     match event(alloc, step) {
         Ok(event) => events.push(event).is_ok(),
         Err(refusal) => {
-            check!(rt; refusal == Refusal::NoMemory);
+            must(rt, refusal == Refusal::NoMemory);
             false
         }
     }
@@ -148,7 +154,7 @@ fn assert_steps(
     assert_world(rt, &world, kinds, entries, clock);
     drop(world);
     let mut events = Vec::new(rt.alloc());
-    check!(rt; add_words(rt, rt.alloc(), &mut events, steps));
+    must(rt, add_words(rt, rt.alloc(), &mut events, steps));
     let listed = run_world(rt.alloc(), 0, 4, 2, events).expect(rt, "memory");
     assert_world(rt, &listed, kinds, entries, clock);
     drop(listed);
