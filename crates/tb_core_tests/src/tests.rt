@@ -12,6 +12,7 @@ use tb_work::{Answer, Outcome, Packet};
 mod alone;
 mod batch;
 mod demux;
+mod durable;
 mod embed;
 mod front;
 mod ledger;

@@ -16,6 +16,20 @@ mod faults;
 mod printed;
 mod streams;
 
+/// Adds texts.
+fn add(rt: &impl Abort, text: &mut String, parts: &[&str]) {
+    for part in parts {
+        text.push_str(part).expect(rt, "memory");
+    }
+}
+
+/// Returns texts one after the other. (This is cheaper to prove than `format!`.)
+fn joined(rt: &(impl Abort + Alloc<A = Global>), parts: &[&str]) -> String {
+    let mut text = String::new(rt.alloc());
+    add(rt, &mut text, parts);
+    text
+}
+
 /// Returns what `list` writes for a script.
 fn listed(rt: &(impl Abort + Alloc<A = Global>), script: &str) -> String {
     let mut out = Vec::new(rt.alloc());
@@ -67,5 +81,5 @@ fn bytes_after(
     count: usize,
 ) -> String {
     let bytes = digits.repeat(rt.alloc(), count).expect(rt, "memory");
-    format!(in rt.alloc(); "{lines}hex {bytes}\n").expect(rt, "memory")
+    joined(rt, &[lines, "hex ", bytes.as_str(), "\n"])
 }

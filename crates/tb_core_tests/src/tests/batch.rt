@@ -13,7 +13,7 @@ mod sizes;
 
 /// Returns a batcher of at most `limit` events.
 fn batcher_of(rt: &(impl Abort + Alloc<A = Global>), limit: u32) -> Batcher {
-    Batcher::new(rt.alloc(), limit).ok().expect(rt, "a batcher")
+    Batcher::new(rt.alloc(), limit).expect(rt, "a batcher")
 }
 
 /// Returns the job of a packet of events that are all zeros but for their flags; a lookup has as many ids.

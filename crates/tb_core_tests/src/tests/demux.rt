@@ -10,7 +10,7 @@ use std::alloc::Global;
 use std::process::Abort;
 use tb_demux::Cutter;
 use tb_layout::{CREATE_ACCOUNTS, Failure, LOOKUP_ACCOUNTS, read_account};
-use tb_test_makers::check;
+use tb_test_makers::must;
 use tb_work::{Accounts, Answer, Failures, Job, Outcome, Reply};
 
 /// Returns what packets say of the submitter that queued them.
@@ -34,7 +34,7 @@ fn job_of(
     let job = Job::new(rt.alloc(), submitter, 0, 4, packet)
         .ok()
         .expect(rt, "the packet is admitted");
-    check!(rt; job.stub().count == count);
+    must(rt, job.stub().count == count);
     job
 }
 
@@ -66,8 +66,8 @@ fn found_at(outcome: &Outcome, at: u64) -> Option<usize> {
 /// Returns the next reply, which is to this submitter's packet.
 fn next_of(rt: &impl Abort, cutter: &mut Cutter, submitter: u32) -> Reply {
     let reply = cutter.next().expect(rt, "a reply is left");
-    check!(rt; reply.submitter == submitter);
-    check!(rt; reply.packet.user == user_word_of(submitter));
+    must(rt, reply.submitter == submitter);
+    must(rt, reply.packet.user == user_word_of(submitter));
     reply
 }
 
@@ -91,7 +91,7 @@ fn assert_failures(
     own: &[Failure],
 ) {
     let reply = next_of(rt, cutter, submitter);
-    check!(rt; failures_at(&reply.outcome, place) == Some(own));
+    must(rt, failures_at(&reply.outcome, place) == Some(own));
     drop(reply);
 }
 
@@ -103,7 +103,7 @@ const OWN: [Failure; 2] = [
 
 /// Asserts that no reply is left.
 fn assert_no_more(rt: &impl Abort, cutter: &mut Cutter) {
-    check!(rt; cutter.next().is_none());
+    must(rt, cutter.next().is_none());
 }
 
 #[test]
@@ -119,7 +119,7 @@ fn two_submitters_joined(rt: HostRuntime) {
 /// Asserts that the next reply is to a submitter's packet, which was stopped.
 fn assert_stopped(rt: &impl Abort, cutter: &mut Cutter, submitter: u32) {
     let reply = next_of(rt, cutter, submitter);
-    check!(rt; matches!(&reply.outcome, Outcome::Stopped));
+    must(rt, matches!(&reply.outcome, Outcome::Stopped));
     drop(reply);
 }
 
@@ -137,7 +137,7 @@ fn packets_that_were_stopped(rt: HostRuntime) {
 fn packets_behind_the_close(rt: HostRuntime) {
     let mut cutter = Cutter::new(two_jobs(&rt), Outcome::Shutdown);
     let reply = next_of(&rt, &mut cutter, 0);
-    check!(&rt; matches!(&reply.outcome, Outcome::Shutdown));
+    must(&rt, matches!(&reply.outcome, Outcome::Shutdown));
     drop(reply);
     drop(cutter);
 }
@@ -156,7 +156,7 @@ fn finding(rt: &(impl Abort + Alloc<A = Global>)) -> Cutter {
 /// Asserts that the next reply is that of the lookup.
 fn assert_found(rt: &impl Abort, cutter: &mut Cutter) {
     let reply = next_of(rt, cutter, 1);
-    check!(rt; found_at(&reply.outcome, 5) == Some(1));
+    must(rt, found_at(&reply.outcome, 5) == Some(1));
     drop(reply);
 }
 

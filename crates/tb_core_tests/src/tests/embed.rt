@@ -1,5 +1,6 @@
 //! An engine: calls in a row, each with the result that the rules give it.
 
+use super::made::rising;
 use std::alloc::Global;
 use std::process::Abort;
 use tb_embed::{Engine, Seed};
@@ -7,7 +8,7 @@ use tb_layout::{
     Account, CREATE_ACCOUNTS, CREATE_TRANSFERS, LOOKUP_ACCOUNTS, MOMENT_MAX, NoMemory, Transfer,
 };
 use tb_tables::Status;
-use tb_test_makers::{account, accounts_packet, check, transfer, transfers_packet, zeros};
+use tb_test_makers::{account, accounts_packet, must, transfer, transfers_packet, zeros};
 use tb_work::{Outcome, Packet, Refusal, Reply};
 
 #[derive(Clone, Copy)]
@@ -123,63 +124,84 @@ fn got_by(engine: &mut Engine, alloc: Global, call: Call) -> Got {
     }
 }
 
-fn rows_hold(engine: &mut Engine, alloc: Global) -> bool {
+/// Makes a call, and once more if memory ran out for it: then nothing has changed, and the memory is there.
+fn got_again(engine: &mut Engine, alloc: Global, call: Call) -> Got {
+    match got_by(engine, alloc, call) {
+        Got::Refused(Refusal::NoMemory) => got_by(engine, alloc, call),
+        got => got,
+    }
+}
+
+/// Returns whether each call has its result, if it is made again where memory ran out for it, or at once.
+fn rows_hold(engine: &mut Engine, alloc: Global, is_again: bool) -> bool {
     for (step, want) in ROWS.iter() {
-        if got_by(engine, alloc, *step) != *want {
+        let got = if is_again {
+            got_again(engine, alloc, *step)
+        } else {
+            got_by(engine, alloc, *step)
+        };
+        if got != *want {
             return false;
         }
     }
-    true
+    engine.clock() == MOMENT_MAX && !engine.stopped()
+}
+
+/// Opens an engine of a limit of two events and three submitters.
+fn opened(rt: &(impl Abort + Alloc<A = Global>)) -> Engine {
+    Engine::new(rt.alloc(), 0, 2, 3).expect(rt, "settings")
 }
 
 #[test]
 fn calls_in_a_row(rt: HostRuntime) {
-    let mut engine = Engine::new(rt.alloc(), 0, 2, 3)
-        .ok()
-        .expect(&rt, "settings");
-    check!(&rt; rows_hold(&mut engine, rt.alloc()));
-    check!(&rt; engine.clock() == MOMENT_MAX);
-    check!(&rt; engine.lookup_account(0).is_none());
+    let mut engine = opened(&rt);
+    must(&rt, rows_hold(&mut engine, rt.alloc(), false));
+    must(&rt, engine.lookup_account(0).is_none());
     drop(engine);
 }
 
 /// Queues an account, commits it, and returns what its reply says.
 fn commit_one(rt: &impl Abort, engine: &mut Engine, alloc: Global) -> Got {
-    check!(rt; got_by(engine, alloc, Call::Submit(0, CREATE_ACCOUNTS, 128)) == Got::Number(0));
-    check!(rt; got_by(engine, alloc, Call::Flush) == Got::Done);
+    must(
+        rt,
+        got_by(engine, alloc, Call::Submit(0, CREATE_ACCOUNTS, 128)) == Got::Number(0),
+    );
+    must(rt, got_by(engine, alloc, Call::Flush) == Got::Done);
     got_by(engine, alloc, Call::Read)
 }
 
 /// The second engine goes on with the ledger of the first: its packet is numbered from 0 again, and committed at place 1.
 #[test]
 fn engine_over_the_ledger_of_another(rt: HostRuntime) {
-    let mut first = Engine::new(rt.alloc(), 0, 2, 3)
-        .ok()
-        .expect(&rt, "it is opened");
-    check!(&rt; commit_one(&rt, &mut first, rt.alloc()) == Got::Committed(0, 0, 0));
+    let mut first = opened(&rt);
+    must(
+        &rt,
+        commit_one(&rt, &mut first, rt.alloc()) == Got::Committed(0, 0, 0),
+    );
     let ledger = first.into_ledger().ok().expect(&rt, "nothing is held");
-    check!(&rt; !ledger.stopped());
+    must(&rt, !ledger.stopped());
     let mut second = Engine::over(rt.alloc(), ledger, 2, 3)
         .ok()
         .expect(&rt, "it is opened");
-    check!(&rt; commit_one(&rt, &mut second, rt.alloc()) == Got::Committed(0, 0, 1));
+    must(
+        &rt,
+        commit_one(&rt, &mut second, rt.alloc()) == Got::Committed(0, 0, 1),
+    );
     drop(second);
 }
 
 /// An engine that holds a packet keeps its ledger.
 #[test]
 fn engine_that_holds_a_packet_keeps_its_ledger(rt: HostRuntime) {
-    let mut engine = Engine::new(rt.alloc(), 0, 2, 3)
-        .ok()
-        .expect(&rt, "it is opened");
+    let mut engine = opened(&rt);
     let queued = got_by(
         &mut engine,
         rt.alloc(),
         Call::Submit(0, CREATE_ACCOUNTS, 128),
     );
-    check!(&rt; queued == Got::Number(0));
+    must(&rt, queued == Got::Number(0));
     let engine = engine.into_ledger().err();
-    check!(&rt; engine.is_some());
+    must(&rt, engine.is_some());
     drop(engine);
 }
 
@@ -187,13 +209,11 @@ fn engine_that_holds_a_packet_keeps_its_ledger(rt: HostRuntime) {
 #[test]
 fn calls_in_a_row_with_a_seed_after_refused_reservations(rt: HostRuntime) {
     let seed = Seed { low: 3, high: 5 };
-    let mut engine = Engine::with_seed(rt.alloc(), 0, 2, 3, seed)
-        .ok()
-        .expect(&rt, "settings");
-    check!(&rt; engine.reserve(10, 10) == Ok(()));
-    check!(&rt; engine.reserve(0, 1 << 60) == Err(Refusal::NoMemory));
-    check!(&rt; engine.reserve(usize::MAX, 0) == Err(Refusal::NoMemory));
-    check!(&rt; rows_hold(&mut engine, rt.alloc()));
+    let mut engine = Engine::with_seed(rt.alloc(), 0, 2, 3, seed).expect(&rt, "settings");
+    must(&rt, engine.reserve(10, 10) == Ok(()));
+    must(&rt, engine.reserve(0, 1 << 60) == Err(Refusal::NoMemory));
+    must(&rt, engine.reserve(usize::MAX, 0) == Err(Refusal::NoMemory));
+    must(&rt, rows_hold(&mut engine, rt.alloc(), false));
     drop(engine);
 }
 
@@ -223,11 +243,9 @@ fn sizes_hold(engine: &Engine, alloc: Global) -> bool {
 
 #[test]
 fn refused_by_operation_and_size_alone(rt: HostRuntime) {
-    let engine = Engine::new(rt.alloc(), 0, 2, 3)
-        .ok()
-        .expect(&rt, "settings");
-    check!(&rt; sizes_hold(&engine, rt.alloc()));
-    check!(&rt; !engine.stopped());
+    let engine = opened(&rt);
+    must(&rt, sizes_hold(&engine, rt.alloc()));
+    must(&rt, !engine.stopped());
     drop(engine);
 }
 
@@ -257,54 +275,46 @@ fn is_transfer(found: Option<Transfer>, amount: u128) -> bool {
     }
 }
 
-#[test]
-fn looked_up_by_index_and_by_id(rt: HostRuntime) {
-    let mut engine = Engine::new(rt.alloc(), 0, 8190, 1)
-        .ok()
-        .expect(&rt, "settings");
-    check!(&rt; fill(&mut engine, rt.alloc()) == Ok(true));
-    check!(&rt; is_account(engine.account_at(0), 7, 30) && is_account(engine.account_at(1), 5, 0));
-    check!(&rt; engine.account_at(2).is_none() && engine.lookup_transfer(7).is_none());
-    check!(&rt; is_transfer(engine.lookup_transfer(1), 30) && is_transfer(engine.lookup_transfer(2), 10));
-    check!(&rt; engine.transfer_status(1).is_none() && engine.transfer_status(3).is_none());
-    check!(&rt; engine.transfer_status(2) == Some(Status::Pending));
-    drop(engine);
+/// Asserts what is found of the accounts and the transfers.
+fn assert_found(rt: &impl Abort, engine: &Engine) {
+    must(
+        rt,
+        is_account(engine.account_at(0), 7, 30) && is_account(engine.account_at(1), 5, 0),
+    );
+    must(
+        rt,
+        engine.account_at(2).is_none() && engine.lookup_transfer(7).is_none(),
+    );
+    must(
+        rt,
+        is_transfer(engine.lookup_transfer(1), 30) && is_transfer(engine.lookup_transfer(2), 10),
+    );
+    must(
+        rt,
+        engine.transfer_status(1).is_none() && engine.transfer_status(3).is_none(),
+    );
+    must(rt, engine.transfer_status(2) == Some(Status::Pending));
 }
 
-/// Makes a call, and once more if memory ran out for it: then nothing has changed, and the memory is there.
-fn got_again(engine: &mut Engine, alloc: Global, call: Call) -> Got {
-    match got_by(engine, alloc, call) {
-        Got::Refused(Refusal::NoMemory) => got_by(engine, alloc, call),
-        got => got,
-    }
+#[test]
+fn looked_up_by_index_and_by_id(rt: HostRuntime) {
+    let mut engine = Engine::new(rt.alloc(), 0, 8190, 1).expect(&rt, "settings");
+    must(&rt, fill(&mut engine, rt.alloc()) == Ok(true));
+    assert_found(&rt, &engine);
+    drop(engine);
 }
 
 /// The calls in a row have their results whichever allocation is refused.
 #[test]
 fn calls_made_again_refused_memory(rt: HostRuntime) {
-    let mut engine = Engine::new(rt.alloc(), 0, 2, 3)
-        .ok()
-        .expect(&rt, "settings");
-    for (step, want) in ROWS.iter() {
-        check!(&rt; got_again(&mut engine, rt.alloc(), *step) == *want);
-    }
-    check!(&rt; engine.clock() == MOMENT_MAX && !engine.stopped());
+    let mut engine = opened(&rt);
+    must(&rt, rows_hold(&mut engine, rt.alloc(), true));
     drop(engine);
 }
 
-/// Returns a packet of transfers between an account and none, with ids from here on.
-fn failing(alloc: Global, first_id: u128, count: usize) -> Result<Packet, NoMemory> {
-    let mut made = Vec::new(alloc);
-    for number in 0..count {
-        let id = (number as u128).saturating_add(first_id);
-        made.push(transfer(id, [7, 9], 1, 0))?;
-    }
-    transfers_packet(alloc, made.as_slice())
-}
-
-/// Queues such a packet, which stores the ids of its transfers as failed once it is committed.
+/// Queues a packet of transfers between an account and none, whose ids are stored as failed once it is committed.
 fn submit_failing(engine: &mut Engine, alloc: Global, submitter: u32, count: usize) -> Got {
-    match failing(alloc, count as u128, count) {
+    match rising(alloc, count as u128, [7, 9], count) {
         Ok(packet) => submitted(engine, alloc, submitter, packet),
         Err(_) => Got::Refused(Refusal::NoMemory),
     }
@@ -350,15 +360,16 @@ const PLACES: [(u32, u64, u64); 9] = [
 /// With 16 submitters, whatever commits a batch: the map of failed ids has to grow as it is committed.
 #[test]
 fn commits_made_again_refused_memory(rt: HostRuntime) {
-    let mut engine = Engine::new(rt.alloc(), 0, 8190, 16)
-        .ok()
-        .expect(&rt, "settings");
-    check!(&rt; commits_of_each_kind(&mut engine, rt.alloc()));
+    let mut engine = Engine::new(rt.alloc(), 0, 8190, 16).expect(&rt, "settings");
+    must(&rt, commits_of_each_kind(&mut engine, rt.alloc()));
     for (submitter, number, place) in PLACES.iter() {
         let read = got_by(&mut engine, rt.alloc(), Call::Read);
-        check!(&rt; read == Got::Committed(*submitter, *number, *place));
+        must(&rt, read == Got::Committed(*submitter, *number, *place));
     }
-    check!(&rt; got_by(&mut engine, rt.alloc(), Call::Read) == Got::Nothing);
-    check!(&rt; engine.counts().failed_ids == 508 && !engine.stopped());
+    must(
+        &rt,
+        got_by(&mut engine, rt.alloc(), Call::Read) == Got::Nothing,
+    );
+    must(&rt, engine.counts().failed_ids == 508 && !engine.stopped());
     drop(engine);
 }

@@ -1,41 +1,43 @@
 //! The front by itself, and a packet's way through front, ledger and cutter.
 
-ghost use Rattle.std.specs.Prelude.{◌≡◌, ◌≤◌, [], IfOk, IfSome, true};
+ghost use Rattle.std.specs.Prelude.{◌≡◌, ◌≤◌, IfOk};
 
-use super::made::{Made, item};
+use super::made::{Made, item, pushed_by};
+use super::number_of;
 use super::outcomes::assert_kinds;
 use arrayvec::ArrayVec;
 use std::alloc::Global;
 use std::process::Abort;
 use std::slice;
 use tb_core::{Cause, Front, Ledger, Outcomes, Parcel};
-use tb_test_makers::{OutcomeKind, check};
+use tb_test_makers::{OutcomeKind, check, must};
 use tb_work::{Refusal, Reply, Ticket};
 
-/// What the front yields.
-#[derive(Clone, Copy, PartialEq, Eq)]
-enum Handed {
-    /// A batch of `count` packets.
-    Batch(usize),
-    Pulse(u64),
-    Return(Cause),
-    Last,
+/// Returns the number in a word after a name, as 5 in `pulse5`.
+fn number_after(rt: &impl Abort, name: &str, word: &str) -> Option<u64> {
+    Some(u64::from(number_of(rt, word.strip_prefix(name)?)))
 }
 
-fn handed_by(parcel: &Parcel) -> Handed {
+/// Returns whether a parcel is what a word says: `batch2` of two packets, `pulse5` with its moment, `shutdown` or `stopped` for a packet
+/// that comes back, or `last`.
+fn is_handed(rt: &impl Abort, parcel: &Parcel, word: &str) -> bool {
     match parcel {
-        Parcel::Batch(batch) => Handed::Batch(batch.jobs().len()),
-        Parcel::Pulse(moment) => Handed::Pulse(moment.get()),
-        Parcel::Return(_, cause) => Handed::Return(*cause),
-        Parcel::Last => Handed::Last,
+        Parcel::Batch(batch) => number_after(rt, "batch", word) == Some(batch.jobs().len() as u64),
+        Parcel::Pulse(moment) => number_after(rt, "pulse", word) == Some(moment.get()),
+        Parcel::Return(_, Cause::Shutdown) => word == "shutdown",
+        Parcel::Return(_, Cause::Stopped) => word == "stopped",
+        Parcel::Last => word == "last",
     }
 }
 
-fn assert_handed(rt: &impl Abort, parcels: &[Parcel], wanted: &[Handed]) {
-    check!(rt; parcels.len() == wanted.len());
-    for (parcel, wanted) in parcels.iter().zip(wanted) {
-        check!(rt; handed_by(parcel) == *wanted);
+/// Asserts that there is a parcel for each word.
+fn assert_handed(rt: &impl Abort, parcels: &[Parcel], wanted: &str) {
+    let mut words = wanted.split_whitespace();
+    for parcel in parcels {
+        let word = words.next().expect(rt, wanted);
+        check!(rt; is_handed(rt, parcel, word), wanted);
     }
+    check!(rt; words.next().is_none(), wanted);
 }
 
 fn ticket(alloc: Global, sender: u32, made: Made) -> Result<Ticket, Refusal>
@@ -53,93 +55,70 @@ pub(super) fn ticket_of(rt: &(impl Abort + Alloc<A = Global>), sender: u32, made
 }
 
 /// Returns a front for one submitter, whose batches have at most 4 events.
-pub(super) fn small_front(alloc: Global) -> Result<Front, Refusal>
-    ensures { IfOk result (λ front. front.submitters ≡ 1) }
+pub(super) fn small_front(rt: &(impl Abort + Alloc<A = Global>)) -> Front
+    ensures { result.submitters ≡ 1 }
 {
-    Front::new(alloc, 4, 1)
+    Front::new(rt.alloc(), 4, 1).expect(rt, "it is opened")
 }
 
-/// Lets the front take a ticket of the submitter or the control, and asserts what it yields.
+/// Lets the front take what a line has up to a `|`, a sender and what it pushes, and asserts that it yields what is behind the `|`.
 fn assert_taken(
     rt: &(impl Abort + Alloc<A = Global>),
     front: &mut Front,
-    sender: u32,
-    made: Made,
-    wanted: &[Handed],
+    submitters: u32,
+    line: &str,
 )
-    requires { sender ≤ front.old.submitters }
+    requires { submitters ≡ front.old.submitters }
     ensures { front.new.submitters ≡ front.old.submitters }
 {
+    let (pushed, wanted) = line.split_once('|').expect(rt, line);
+    let (sender, made) = pushed_by(rt, pushed);
+    check!(rt; sender <= submitters, line);
     let parcels = front.take(ticket_of(rt, sender, made));
     assert_handed(rt, parcels.as_slice(), wanted);
     drop(parcels);
 }
 
-/// Packets for a front of 16 submitters with the largest limit: sender, operation and number of events. The last number
-/// is how many packets the sealed batch has, or 0 if the packet joins the group held.
-const SIZES: [(u32, u8, u32, usize); 22] = [
-    (0, 129, 1, 0),
-    (15, 129, 8189, 0),
-    // The group has 8,190 events.
-    (7, 129, 0, 0),
-    (3, 129, 1, 3),
-    (4, 130, 5, 1),
-    (5, 130, 8185, 0),
-    (6, 130, 1, 2),
-    (7, 130, 8190, 1),
-    (8, 131, 1, 1),
-    (9, 131, 1, 1),
-    (10, 131, 8190, 1),
-    (11, 131, 0, 1),
-    (12, 129, 8190, 1),
-    (13, 129, 8190, 1),
-    (14, 130, 1000, 1),
-    (1, 130, 1025, 0),
-    (2, 130, 2049, 0),
-    (15, 130, 4096, 0),
-    (0, 130, 20, 0),
-    (0, 130, 1, 5),
-    (9, 129, 64, 1),
-    (9, 131, 64, 1),
-];
-
-/// Lets the front take a packet of a submitter, and asserts the sealed batch, if there is one.
-fn assert_size(
-    rt: &(impl Abort + Alloc<A = Global>),
-    front: &mut Front,
-    sender: u32,
-    packet: Made,
-    sealed: usize,
-)
-    requires { sender ≤ front.old.submitters }
+/// Lets the front take what each line has, and asserts what it yields.
+fn play(rt: &(impl Abort + Alloc<A = Global>), front: &mut Front, submitters: u32, lines: &str)
+    requires { submitters ≡ front.old.submitters }
     ensures { front.new.submitters ≡ front.old.submitters }
 {
-    if sealed == 0 {
-        assert_taken(rt, front, sender, packet, &[]);
-    } else {
-        assert_taken(rt, front, sender, packet, &[Handed::Batch(sealed)]);
+    for line in lines.lines() {
+        assert_taken(rt, front, submitters, line);
     }
 }
 
-/// Lets a front of 16 submitters take the packets.
-fn assert_sizes(rt: &(impl Abort + Alloc<A = Global>), front: &mut Front)
-    requires { front.old.submitters ≡ 16 }
-{
-    for (sender, operation, count, sealed) in &SIZES {
-        check!(rt; *sender <= 16);
-        let packet = Made::Zeros {
-            number: 0,
-            operation: *operation,
-            count: *count,
-        };
-        assert_size(rt, front, *sender, packet, *sealed);
-    }
-}
+/// Packets for a front of 16 submitters with the largest limit: the sender, and the operation and number of events. Where no batch is
+/// sealed, the packet joins the group held. That has 8,190 events after the second.
+const SIZES: &str = "0:129x1|
+15:129x8189|
+7:129x0|
+3:129x1|batch3
+4:130x5|batch1
+5:130x8185|
+6:130x1|batch2
+7:130x8190|batch1
+8:131x1|batch1
+9:131x1|batch1
+10:131x8190|batch1
+11:131x0|batch1
+12:129x8190|batch1
+13:129x8190|batch1
+14:130x1000|batch1
+1:130x1025|
+2:130x2049|
+15:130x4096|
+0:130x20|
+0:130x1|batch5
+9:129x64|batch1
+9:131x64|batch1
+";
 
 #[test]
 fn packets_of_all_sizes(rt: HostRuntime) {
-    let mut front = Front::new(rt.alloc(), 8190, 16).expect(&rt, "memory");
-    assert_sizes(&rt, &mut front);
+    let mut front = Front::new(rt.alloc(), 8190, 16).expect(&rt, "it is opened");
+    play(&rt, &mut front, 16, SIZES);
     drop(front);
 }
 
@@ -165,58 +144,51 @@ fn openings(rt: HostRuntime) {
     }
 }
 
-const FIRST: Made = Made::Packet { number: 0, id: 1 };
-
-const SECOND: Made = Made::Packet { number: 1, id: 2 };
-
-const THIRD: Made = Made::Packet { number: 2, id: 3 };
+/// A packet behind the control's Close.
+const BEHIND_SHUT: &str = "0:packet0=1|
+1:close|batch1
+0:packet1=2|shutdown";
 
 #[test]
 fn packet_behind_shut(rt: HostRuntime) {
-    let mut front = small_front(rt.alloc()).expect(&rt, "memory");
-    assert_taken(&rt, &mut front, 0, FIRST, &[]);
-    assert_taken(&rt, &mut front, 1, Made::Close, &[Handed::Batch(1)]);
-    assert_taken(
-        &rt,
-        &mut front,
-        0,
-        SECOND,
-        &[Handed::Return(Cause::Shutdown)],
-    );
+    let mut front = small_front(&rt);
+    play(&rt, &mut front, 1, BEHIND_SHUT);
     // The submitter hasn't ended.
-    check!(&rt; !front.finished());
-    assert_taken(&rt, &mut front, 0, Made::End, &[]);
+    must(&rt, !front.finished());
+    play(&rt, &mut front, 1, "0:end|");
     // Both have ended.
-    check!(&rt; front.finished());
+    must(&rt, front.finished());
     drop(front);
 }
 
 #[test]
 fn refused_growth(rt: HostRuntime) {
-    let mut front = small_front(rt.alloc()).expect(&rt, "memory");
-    let stopped = Handed::Return(Cause::Stopped);
-    assert_taken(&rt, &mut front, 0, FIRST, &[]);
+    let mut front = small_front(&rt);
+    play(&rt, &mut front, 1, "0:packet0=1|");
     let parcels = front.take_as_refused(ticket_of(&rt, 0, SECOND));
-    assert_handed(&rt, parcels.as_slice(), &[Handed::Batch(1), stopped]);
+    assert_handed(&rt, parcels.as_slice(), "batch1 stopped");
     drop(parcels);
-    assert_taken(&rt, &mut front, 0, THIRD, &[stopped]);
+    play(&rt, &mut front, 1, "0:packet2=3|stopped");
     drop(front);
 }
 
-/// Lets the front take a ticket into parcels, asserts what it yields, and leaves none.
+const FIRST: Made = Made::Packet { number: 0, id: 1 };
+
+const SECOND: Made = Made::Packet { number: 1, id: 2 };
+
+/// Lets the front take a ticket of the submitter or the control into parcels, asserts what it yields, and leaves none.
 fn assert_taken_into(
     rt: &(impl Abort + Alloc<A = Global>),
     front: &mut Front,
     parcels: &mut ArrayVec<Parcel, 2>,
-    sender: u32,
-    made: Made,
-    wanted: &[Handed],
+    pushed: &str,
+    wanted: &str,
 )
-    requires sender { sender ≤ front.old.submitters }
-    requires empty { parcels.old.items ≡ [] }
+    requires sender { 1 ≤ front.old.submitters }
     ensures same { front.new.submitters ≡ front.old.submitters }
-    ensures none { parcels.new.items ≡ [] }
 {
+    let (sender, made) = pushed_by(rt, pushed);
+    must(rt, sender <= 1 && parcels.is_empty());
     front.take_into(parcels, ticket_of(rt, sender, made));
     assert_handed(rt, parcels.as_slice(), wanted);
     parcels.clear();
@@ -224,75 +196,66 @@ fn assert_taken_into(
 
 #[test]
 fn parcels_of_the_caller(rt: HostRuntime) {
-    let mut front = small_front(rt.alloc()).expect(&rt, "memory");
+    let mut front = small_front(&rt);
     let mut parcels = ArrayVec::new();
-    let pulsed = [Handed::Batch(1), Handed::Pulse(5)];
-    assert_taken_into(&rt, &mut front, &mut parcels, 0, FIRST, &[]);
-    assert_taken_into(&rt, &mut front, &mut parcels, 1, Made::Pulse(5), &pulsed);
-    assert_taken_into(&rt, &mut front, &mut parcels, 0, SECOND, &[]);
+    assert_taken_into(&rt, &mut front, &mut parcels, "0:packet0=1", "");
+    assert_taken_into(&rt, &mut front, &mut parcels, "1:pulse5", "batch1 pulse5");
+    assert_taken_into(&rt, &mut front, &mut parcels, "0:packet1=2", "");
     drop(parcels);
     drop(front);
 }
 
-/// Lets the front take a packet into parcels. Returns whether it is held, or None if memory ran out for the packet.
-fn joins(
-    alloc: Global,
+/// Lets the front take a packet of the submitter into no parcels. Returns false if memory ran out for the packet.
+fn takes_into(
+    rt: &(impl Abort + Alloc<A = Global>),
     front: &mut Front,
     parcels: &mut ArrayVec<Parcel, 2>,
-    packet: Made,
-) -> Option<bool>
-    requires { parcels.old.items ≡ [] }
-    ensures { IfSome result (λ joins. joins ≡ true → parcels.new.items ≡ []) }
-{
-    match ticket(alloc, 0, packet) {
+    number: u64,
+) -> bool {
+    let id = u128::from(number).saturating_add(1);
+    match ticket(rt.alloc(), 0, Made::Packet { number, id }) {
         Ok(ticket) => {
+            must(rt, parcels.is_empty());
             front.take_into(parcels, ticket);
-            Some(parcels.is_empty())
+            true
         }
-        Err(_) => None,
+        Err(_) => false,
     }
 }
 
 /// Returns how many of three packets are taken and held; if one isn't, the parcels have what the front yields at it.
 fn held_of_three(
-    alloc: Global,
+    rt: &(impl Abort + Alloc<A = Global>),
     front: &mut Front,
     parcels: &mut ArrayVec<Parcel, 2>,
-) -> Option<usize>
-    requires { parcels.old.items ≡ [] }
-{
-    if !joins(alloc, front, parcels, FIRST)? {
-        return Some(0);
-    }
-    if !joins(alloc, front, parcels, SECOND)? {
-        return Some(1);
-    }
-    if !joins(alloc, front, parcels, THIRD)? {
-        return Some(2);
+) -> Option<usize> {
+    for number in 0..3u64 {
+        if !takes_into(rt, front, parcels, number) {
+            return None;
+        }
+        if !parcels.is_empty() {
+            return Some(number as usize);
+        }
     }
     Some(3)
 }
 
 /// Asserts the state of a front and its parcels that took this number of three packets before an allocation failed.
 fn assert_held(rt: &impl Abort, front: &mut Front, parcels: &[Parcel], held: usize) {
-    let stopped = Handed::Return(Cause::Stopped);
     match held {
-        0 => assert_handed(rt, parcels, &[stopped]),
-        1 | 2 => assert_handed(rt, parcels, &[Handed::Batch(held), stopped]),
-        _ => {
-            let batch = front.idle().expect(rt, "a group is held");
-            check!(rt; batch.jobs().len() == 3);
-            drop(batch);
-        }
+        0 => assert_handed(rt, parcels, "stopped"),
+        1 => assert_handed(rt, parcels, "batch1 stopped"),
+        2 => assert_handed(rt, parcels, "batch2 stopped"),
+        _ => assert_sealed(rt, front, 3),
     }
 }
 
 /// What is tried with each allocation refused in turn, by `tools/gate/refuse-each-growth`.
 #[test]
 fn take_into_refused_memory(rt: HostRuntime) {
-    let mut front = small_front(rt.alloc()).expect(&rt, "no memory is needed yet");
+    let mut front = small_front(&rt);
     let mut parcels = ArrayVec::new();
-    if let Some(held) = held_of_three(rt.alloc(), &mut front, &mut parcels) {
+    if let Some(held) = held_of_three(&rt, &mut front, &mut parcels) {
         assert_held(&rt, &mut front, parcels.as_slice(), held);
     }
     drop(parcels);
@@ -316,14 +279,14 @@ fn way_of_a_packet(front: &mut Front, ledger: &mut Ledger, ticket: Ticket) -> Op
 /// Asserts that a packet has its reply.
 fn assert_answered(rt: &(impl Abort + Alloc<A = Global>), front: &mut Front, ledger: &mut Ledger) {
     let reply = way_of_a_packet(front, ledger, ticket_of(rt, 0, FIRST)).expect(rt, "a reply");
-    check!(rt; (reply.submitter, reply.number) == (0, 0));
-    check!(rt; reply.packet.user == 7);
+    must(rt, (reply.submitter, reply.number) == (0, 0));
+    must(rt, reply.packet.user == 7);
     assert_kinds(rt, slice::from_ref(&reply), &[OutcomeKind::Committed(0)]);
 }
 
 #[test]
 fn packet_is_answered(rt: HostRuntime) {
-    let mut front = small_front(rt.alloc()).expect(&rt, "memory");
+    let mut front = small_front(&rt);
     let mut ledger = Ledger::new(rt.alloc(), 0);
     assert_answered(&rt, &mut front, &mut ledger);
     drop(front);
@@ -335,20 +298,25 @@ fn hold_again(rt: &impl Abort, front: &mut Front)
     ensures { front.new.submitters ≡ front.old.submitters }
 {
     let batch = front.idle().expect(rt, "a group is held");
-    check!(rt; !front.is_holding());
+    must(rt, !front.is_holding());
     front.hold(batch);
+}
+
+/// Seals the group held, which has this number of packets.
+fn assert_sealed(rt: &impl Abort, front: &mut Front, packets: usize) {
+    let batch = front.idle().expect(rt, "a group is held");
+    must(rt, batch.jobs().len() == packets);
+    drop(batch);
 }
 
 /// The next packet joins the group as if it had never been sealed.
 #[test]
 fn group_held_again(rt: HostRuntime) {
-    let mut front = small_front(rt.alloc()).expect(&rt, "memory");
-    assert_taken(&rt, &mut front, 0, FIRST, &[]);
+    let mut front = small_front(&rt);
+    play(&rt, &mut front, 1, "0:packet0=1|");
     hold_again(&rt, &mut front);
-    check!(&rt; front.is_holding());
-    assert_taken(&rt, &mut front, 0, SECOND, &[]);
-    let batch = front.idle().expect(&rt, "a group is held");
-    check!(&rt; batch.jobs().len() == 2);
-    drop(batch);
+    must(&rt, front.is_holding());
+    play(&rt, &mut front, 1, "0:packet1=2|");
+    assert_sealed(&rt, &mut front, 2);
     drop(front);
 }

@@ -8,9 +8,9 @@ use super::outcomes::{EntryKind, assert_entries, assert_kinds};
 use super::push;
 use std::alloc::Global;
 use std::process::Abort;
-use tb_core::{Listed, run_list};
-use tb_test_makers::{OutcomeKind, SIX_PLACES, account, check, kind_of};
-use tb_work::Item;
+use tb_core::run_list;
+use tb_test_makers::{OutcomeKind, SIX_PLACES, account, kind_of, must};
+use tb_work::{Item, Reply};
 
 /// Items of submitter 0.
 fn items_of(rt: &(impl Abort + Alloc<A = Global>), list: &[Made]) -> Vec<Item> {
@@ -22,24 +22,27 @@ fn items_of(rt: &(impl Abort + Alloc<A = Global>), list: &[Made]) -> Vec<Item> {
     items
 }
 
-/// Runs a list with batches of at most `limit` events, and asserts its replies, its journal and its clock.
-fn run_listed(
+/// Runs a list with batches of at most `limit` events, and asserts its replies, its journal, its clock and the number of its accounts.
+fn assert_listed(
     rt: &(impl Abort + Alloc<A = Global>),
     limit: u32,
     items: Vec<Item>,
     kinds: &[OutcomeKind],
     entries: &[EntryKind],
-    clock: u64,
-) -> Listed
+    wanted: (u64, usize),
+)
     requires least { 1 ≤ limit }
     requires most { limit ≤ batch_max }
 {
     let listed = run_list(rt.alloc(), 0, limit, items).expect(rt, "memory");
     assert_kinds(rt, &listed.replies, kinds);
     assert_entries(rt, listed.ledger.journal(), entries);
-    check!(rt; listed.ledger.machine().clock() == clock);
-    check!(rt; !listed.ledger.stopped());
-    listed
+    let machine = listed.ledger.machine();
+    must(
+        rt,
+        !listed.ledger.stopped() && (machine.clock(), machine.accounts()) == wanted,
+    );
+    drop(listed);
 }
 
 const PULSE_BETWEEN_BATCHES: [Made; 8] = [
@@ -61,8 +64,7 @@ fn pulse_between_batches(rt: HostRuntime) {
         EntryKind::Pulse(5),
         EntryKind::Batch(4),
     ];
-    let listed = run_listed(&rt, 4, items, &SIX_PLACES, &entries, 9);
-    drop(listed);
+    assert_listed(&rt, 4, items, &SIX_PLACES, &entries, (9, 6));
 }
 
 const PACKET_BEHIND_SHUT: [Made; 4] = [
@@ -76,9 +78,7 @@ const PACKET_BEHIND_SHUT: [Made; 4] = [
 fn packet_behind_shut(rt: HostRuntime) {
     let items = items_of(&rt, &PACKET_BEHIND_SHUT);
     let kinds = [OutcomeKind::Committed(0), OutcomeKind::Shutdown];
-    let listed = run_listed(&rt, 4, items, &kinds, &[EntryKind::Batch(1)], 1);
-    check!(&rt; listed.ledger.machine().accounts() == 1);
-    drop(listed);
+    assert_listed(&rt, 4, items, &kinds, &[EntryKind::Batch(1)], (1, 1));
 }
 
 /// Returns a packet of submitter 0 that creates `count` accounts, with rising ids.
@@ -93,8 +93,20 @@ fn packet_of_accounts(
         let id = first_id.saturating_add(u128::from(place));
         push(rt, &mut accounts, account(id, 0));
     }
-    let job = creating(rt.alloc(), 0, number, &accounts).expect(rt, "the packet is admitted");
-    Item::Packet(job)
+    Item::Packet(creating(rt.alloc(), 0, number, &accounts).expect(rt, "the packet is admitted"))
+}
+
+/// Returns packets of submitter 0, each with its first id and how many accounts it creates.
+fn packets_of_accounts(
+    rt: &(impl Abort + Alloc<A = Global>),
+    packets: &[(u128, u32)],
+) -> Vec<Item> {
+    let mut items = Vec::new(rt.alloc());
+    for (number, (first_id, count)) in packets.iter().enumerate() {
+        let packet = packet_of_accounts(rt, number as u64, *first_id, *count);
+        push(rt, &mut items, packet);
+    }
+    items
 }
 
 const FIRST_THREE: [OutcomeKind; 3] = [
@@ -105,36 +117,17 @@ const FIRST_THREE: [OutcomeKind; 3] = [
 
 #[test]
 fn full_batch_then_overflow(rt: HostRuntime) {
-    let mut items = Vec::new(rt.alloc());
-    for (number, first_id, count) in [(0, 1, 4), (1, 5, 1), (2, 6, 0)] {
-        push(
-            &rt,
-            &mut items,
-            packet_of_accounts(&rt, number, first_id, count),
-        );
-    }
+    let items = packets_of_accounts(&rt, &[(1, 4), (5, 1), (6, 0)]);
     let entries = [EntryKind::Batch(1), EntryKind::Batch(2)];
-    let listed = run_listed(&rt, 4, items, &FIRST_THREE, &entries, 5);
-    drop(listed);
+    assert_listed(&rt, 4, items, &FIRST_THREE, &entries, (5, 5));
 }
 
 /// A full packet joins one without events ahead of it.
 #[test]
 fn full_packet_behind_an_empty_one(rt: HostRuntime) {
-    let mut items = Vec::new(rt.alloc());
-    for (number, count) in [(0, 0), (1, 8190)] {
-        push(&rt, &mut items, packet_of_accounts(&rt, number, 1, count));
-    }
-    let listed = run_listed(
-        &rt,
-        8190,
-        items,
-        &FIRST_THREE[..2],
-        &[EntryKind::Batch(2)],
-        8190,
-    );
-    check!(&rt; listed.ledger.machine().accounts() == 8190);
-    drop(listed);
+    let items = packets_of_accounts(&rt, &[(1, 0), (1, 8190)]);
+    let entries = [EntryKind::Batch(2)];
+    assert_listed(&rt, 8190, items, &FIRST_THREE[..2], &entries, (8190, 8190));
 }
 
 /// How many items the longest list has, one in seven of them a pulse.
@@ -153,21 +146,38 @@ fn nth_item(index: u64) -> Made {
     }
 }
 
+/// Returns all items of the longest list.
+fn many_items(rt: &(impl Abort + Alloc<A = Global>)) -> Vec<Item> {
+    let mut items = Vec::new(rt.alloc());
+    for index in 0..MANY {
+        let item = item(rt.alloc(), 0, nth_item(index)).expect(rt, "memory");
+        push(rt, &mut items, item);
+    }
+    items
+}
+
+/// Asserts that each packet was committed at its own place, between the pulses.
+fn assert_places(rt: &impl Abort, replies: &[Reply]) {
+    must(rt, replies.len() == 60_000);
+    let mut place = 0u64;
+    for reply in replies {
+        if place % 7 == 3 {
+            place = place.wrapping_add(1);
+        }
+        must(rt, kind_of(reply) == OutcomeKind::Committed(place));
+        place = place.wrapping_add(1);
+    }
+}
+
 /// Each item is committed at its own place, and has an entry of its own.
 #[test]
 fn seventy_thousand_items(rt: HostRuntime) {
-    let mut items = Vec::new(rt.alloc());
-    for index in 0..MANY {
-        let item = item(rt.alloc(), 0, nth_item(index)).expect(&rt, "memory");
-        push(&rt, &mut items, item);
-    }
-    let listed = run_list(rt.alloc(), 0, 1, items).expect(&rt, "memory");
-    check!(&rt; !listed.ledger.stopped() && listed.ledger.places() == MANY);
-    check!(&rt; listed.ledger.journal().len() == 70_000);
-    let packets = (0..MANY).filter(|index| index % 7 != 3);
-    check!(&rt; listed.replies.len() == 60_000);
-    for (reply, place) in listed.replies.iter().zip(packets) {
-        check!(&rt; kind_of(reply) == OutcomeKind::Committed(place));
-    }
+    let listed = run_list(rt.alloc(), 0, 1, many_items(&rt)).expect(&rt, "memory");
+    must(
+        &rt,
+        !listed.ledger.stopped() && listed.ledger.places() == MANY,
+    );
+    must(&rt, listed.ledger.journal().len() == 70_000);
+    assert_places(&rt, &listed.replies);
     drop(listed);
 }

@@ -8,7 +8,7 @@ use std::alloc::Global;
 use std::process::Abort;
 use tb_layout::{Account, BATCH_MAX, CREATE_ACCOUNTS, CREATE_TRANSFERS, Failure, Transfer};
 use tb_machine::Machine;
-use tb_test_makers::{account_bytes, check, transfer, transfer_bytes};
+use tb_test_makers::{account_bytes, must, transfer, transfer_bytes};
 
 mod calls;
 mod many;
@@ -74,7 +74,7 @@ fn make_accounts(
     accounts: &[Account],
 ) {
     let body = account_bytes(rt.alloc(), accounts).expect(rt, "memory");
-    check!(rt; commits(rt, machine, CREATE_ACCOUNTS, &body));
+    must(rt, commits(rt, machine, CREATE_ACCOUNTS, &body));
 }
 
 /// Makes transfers; none fails.
@@ -84,5 +84,5 @@ fn make_transfers(
     transfers: &[Transfer],
 ) {
     let body = transfer_bytes(rt.alloc(), transfers).expect(rt, "memory");
-    check!(rt; commits(rt, machine, CREATE_TRANSFERS, &body));
+    must(rt, commits(rt, machine, CREATE_TRANSFERS, &body));
 }

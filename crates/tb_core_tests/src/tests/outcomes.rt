@@ -3,7 +3,7 @@
 use std::process::Abort;
 use tb_core::{Entry, Outcomes};
 use tb_layout::Failure;
-use tb_test_makers::{OutcomeKind, check, kind_of};
+use tb_test_makers::{OutcomeKind, check, kind_of, must};
 use tb_work::{Answer, Outcome, Reply};
 
 /// An entry of the journal, without its bytes.
@@ -47,7 +47,7 @@ fn entry_kind_of(entry: &Entry) -> EntryKind {
 
 /// Asserts the outcomes of replies, in order.
 pub(super) fn assert_kinds(rt: &impl Abort, replies: &[Reply], wanted: &[OutcomeKind]) {
-    check!(rt; replies.len() == wanted.len());
+    must(rt, replies.len() == wanted.len());
     for (reply, wanted) in replies.iter().zip(wanted) {
         check!(rt; kind_of(reply) == *wanted, reply.number);
     }
@@ -55,14 +55,14 @@ pub(super) fn assert_kinds(rt: &impl Abort, replies: &[Reply], wanted: &[Outcome
 
 /// Asserts the entries of a journal, in order.
 pub(super) fn assert_entries(rt: &impl Abort, journal: &[Entry], wanted: &[EntryKind]) {
-    check!(rt; journal.len() == wanted.len());
+    must(rt, journal.len() == wanted.len());
     for (entry, wanted) in journal.iter().zip(wanted) {
-        check!(rt; entry_kind_of(entry) == *wanted);
+        must(rt, entry_kind_of(entry) == *wanted);
     }
 }
 
 /// Asserts the failures of a packet that was committed.
 pub(super) fn assert_failures(rt: &impl Abort, reply: Option<&Reply>, wanted: &[Failure]) {
     let reply = reply.expect(rt, "a reply");
-    check!(rt; failures(reply) == Some(wanted));
+    must(rt, failures(reply) == Some(wanted));
 }

@@ -1,15 +1,16 @@
 //! Capacity that was reserved suffices, and nothing is reserved by a ledger that is opened. `tools/gate/refuse-each-growth` refuses each
 //! allocation in turn: so it finds a commit that allocates all the same.
 
-use super::made::{creating, transferring};
+use super::ledger::Either;
+use super::made::{creating, job_of, rising};
 use std::alloc::Global;
 use std::process::Abort;
 use tb_batch::{Batch, Batcher, Offered};
 use tb_core::{BareLedger, Ledger, Parcel, Seed};
 use tb_embed::Engine;
-use tb_layout::{Account, Transfer};
-use tb_test_makers::{account, check, transfer};
-use tb_work::Job;
+use tb_layout::Account;
+use tb_test_makers::{account, must};
+use tb_work::{Job, Refusal};
 
 /// How many accounts and transfers are reserved, and then made.
 const ACCOUNTS: usize = 100;
@@ -26,17 +27,6 @@ fn accounts(alloc: Global) -> Option<Vec<Account>> {
     Some(accounts)
 }
 
-/// Returns transfers between the first account and this one, with ids from here on, or None if memory runs out.
-fn transfers(alloc: Global, first_id: u128, credited: u128) -> Option<Vec<Transfer>> {
-    let mut transfers = Vec::new(alloc);
-    for number in 0..TRANSFERS {
-        let id = (number as u128).saturating_add(first_id);
-        let made = transfer(id, [1, credited], 1, 0);
-        transfers.push(made).ok()?;
-    }
-    Some(transfers)
-}
-
 /// Returns a job as a batch, or None if memory runs out.
 fn batch_of(alloc: Global, job: Job) -> Option<Batch> {
     let mut batcher = Batcher::new(alloc, 8190).ok()?;
@@ -46,101 +36,71 @@ fn batch_of(alloc: Global, job: Job) -> Option<Batch> {
     }
 }
 
-/// Batches that a ledger commits one after the other.
-#[derive(Drop)]
-struct Batches {
-    /// As many transfers as are reserved. All fail, and leave capacity for the notes by which a commit is undone.
-    failing: Batch,
-    accounts: Batch,
-    transfers: Batch,
+/// Adds the batch of a job. Returns None if memory ran out.
+fn add(alloc: Global, batches: &mut Vec<Batch>, job: Result<Job, Refusal>) -> Option<()> {
+    let batch = batch_of(alloc, job.ok()?)?;
+    batches.push(batch).ok()
 }
 
-impl Batches {
-    fn make(alloc: Global) -> Option<Batches> {
-        let failing = transferring(alloc, 0, &transfers(alloc, 10_000, 1_000)?).ok()?;
-        let accounts = creating(alloc, 0, 1, &accounts(alloc)?).ok()?;
-        let transfers = transferring(alloc, 2, &transfers(alloc, 1, 2)?).ok()?;
-        Some(Batches {
-            failing: batch_of(alloc, failing)?,
-            accounts: batch_of(alloc, accounts)?,
-            transfers: batch_of(alloc, transfers)?,
-        })
-    }
+/// Adds three batches that a ledger commits one after the other. The first has as many transfers as are reserved. All fail, and leave
+/// capacity for the notes by which a commit is undone. Then come accounts, and transfers between them. Returns None if memory ran out.
+fn add_all(alloc: Global, batches: &mut Vec<Batch>) -> Option<()> {
+    let failing = rising(alloc, 10_000, [1, 1_000], TRANSFERS);
+    add(alloc, batches, job_of(alloc, 0, 0, failing))?;
+    add(alloc, batches, creating(alloc, 0, 1, &accounts(alloc)?))?;
+    let transfers = rising(alloc, 1, [1, 2], TRANSFERS);
+    add(alloc, batches, job_of(alloc, 0, 2, transfers))
 }
 
-/// What capacity was reserved in: a ledger with a journal, or one without.
-#[derive(Drop)]
-enum Reserved {
-    Whole(Ledger),
-    Bare(BareLedger),
-}
-
-impl Reserved {
-    fn apply(&mut self, batch: Batch) {
-        let parcel = Parcel::Batch(batch);
-        drop(match self {
-            Reserved::Whole(ledger) => ledger.apply(parcel),
-            Reserved::Bare(ledger) => ledger.apply(parcel),
-        });
-    }
-
-    /// Returns how many of the three packets were committed.
-    fn places(&self) -> u64 {
-        match self {
-            Reserved::Whole(ledger) => ledger.places(),
-            Reserved::Bare(ledger) => ledger.places(),
-        }
+/// Returns the batches, or None if memory runs out.
+fn batches(alloc: Global) -> Option<Vec<Batch>> {
+    let mut batches = Vec::new(alloc);
+    match add_all(alloc, &mut batches) {
+        Some(()) => Some(batches),
+        None => None,
     }
 }
 
 /// Returns a ledger in which capacity is reserved, or None if memory runs out.
-fn reserved_ledger(alloc: Global) -> Option<Reserved> {
+fn reserved_ledger(alloc: Global) -> Option<Either> {
     let mut ledger = Ledger::new(alloc, 0);
     ledger.reserve(ACCOUNTS, TRANSFERS).ok()?;
-    Some(Reserved::Whole(ledger))
+    Some(Either::Whole(ledger))
 }
 
 /// Returns the ledger of an engine in which capacity is reserved, or None if memory runs out.
-fn reserved_in_engine(alloc: Global) -> Option<Reserved> {
+fn reserved_in_engine(alloc: Global) -> Option<Either> {
     let mut engine = Engine::new(alloc, 0, 8190, 1).ok()?;
     engine.reserve(ACCOUNTS, TRANSFERS).ok()?;
-    Some(Reserved::Bare(engine.into_ledger().ok()?))
+    Some(Either::Bare(engine.into_ledger().ok()?))
 }
 
-/// Commits the batches. Once the first is committed, the others are.
-fn assert_commits(rt: &impl Abort, ledger: Reserved, batches: Batches) {
-    let mut ledger = ledger;
-    let Batches {
-        failing,
-        accounts,
-        transfers,
-    } = batches;
-    ledger.apply(failing);
-    let is_begun = ledger.places() == 1;
-    ledger.apply(accounts);
-    ledger.apply(transfers);
-    check!(rt; !is_begun || ledger.places() == 3);
+fn commit_all(ledger: &mut Either, batches: Vec<Batch>) {
+    for batch in batches {
+        drop(ledger.apply(batch));
+    }
+}
+
+/// Commits the batches, if memory is there for them and the ledger. Once the first is committed, the others are.
+fn assert_commits(rt: &(impl Abort + Alloc<A = Global>), ledger: Option<Either>) {
+    let Some(mut ledger) = ledger else {
+        return;
+    };
+    if let Some(batches) = batches(rt.alloc()) {
+        commit_all(&mut ledger, batches);
+        must(rt, ledger.places() == 0 || ledger.places() == 3);
+    }
     drop(ledger);
 }
 
 #[test]
 fn commits_of_a_ledger_after_reserve_refused_memory(rt: HostRuntime) {
-    if let (Some(batches), Some(ledger)) = (
-        Batches::make(rt.alloc()),
-        reserved_ledger(rt.alloc()),
-    ) {
-        assert_commits(&rt, ledger, batches);
-    }
+    assert_commits(&rt, reserved_ledger(rt.alloc()));
 }
 
 #[test]
 fn commits_of_an_engine_after_reserve_refused_memory(rt: HostRuntime) {
-    if let (Some(batches), Some(ledger)) = (
-        Batches::make(rt.alloc()),
-        reserved_in_engine(rt.alloc()),
-    ) {
-        assert_commits(&rt, ledger, batches);
-    }
+    assert_commits(&rt, reserved_in_engine(rt.alloc()));
 }
 
 /// Applies a batch, and if it is refused once more: then nothing has changed, and the memory is there. Returns whether it was
@@ -158,34 +118,35 @@ fn is_refused_at_first(
         }
         Err(parcel) => parcel,
     };
-    check!(rt; !ledger.stopped() && ledger.places() == places);
+    must(rt, !ledger.stopped() && ledger.places() == places);
     drop(ledger.try_apply(parcel).ok().expect(rt, "memory is there"));
     true
 }
 
 /// Applies the batches to a ledger, and says if the first is refused at first.
-fn try_each(rt: &(impl Abort + Print), ledger: &mut BareLedger, batches: Batches) {
-    let Batches {
-        failing,
-        accounts,
-        transfers,
-    } = batches;
-    if is_refused_at_first(rt, ledger, failing, 0) {
-        let _ = println!(rt; "the first commit is refused");
+fn try_each(rt: &(impl Abort + Print), ledger: &mut BareLedger, batches: Vec<Batch>) {
+    let mut places = 0u64;
+    for batch in batches {
+        if is_refused_at_first(rt, ledger, batch, places) && places == 0 {
+            let _ = println!(rt; "the first commit is refused");
+        }
+        places = places.wrapping_add(1);
     }
-    is_refused_at_first(rt, ledger, accounts, 1);
-    is_refused_at_first(rt, ledger, transfers, 2);
 }
 
 /// What a ledger has committed doesn't depend on which allocation was refused.
 #[test]
 fn first_commit_made_again_refused_memory(rt: HostRuntime) {
-    if let Some(batches) = Batches::make(rt.alloc()) {
+    if let Some(batches) = batches(rt.alloc()) {
         let mut ledger = BareLedger::with_seed(rt.alloc(), 0, Seed::default());
         try_each(&rt, &mut ledger, batches);
-        check!(&rt; ledger.places() == 3 && !ledger.stopped());
+        must(&rt, ledger.places() == 3 && !ledger.stopped());
         let counts = ledger.machine().counts();
-        check!(&rt; (counts.accounts, counts.transfers, counts.failed_ids) == (ACCOUNTS, TRANSFERS, TRANSFERS));
+        must(
+            &rt,
+            (counts.accounts, counts.transfers, counts.failed_ids)
+                == (ACCOUNTS, TRANSFERS, TRANSFERS),
+        );
         drop(ledger);
     }
 }
@@ -198,7 +159,7 @@ const OPENED: u32 = 200;
 fn opened_without_memory_refused_memory(rt: HostRuntime) {
     for _ in 0..OPENED {
         let ledger = Ledger::new(rt.alloc(), 0);
-        check!(&rt; ledger.journal().is_empty());
+        must(&rt, ledger.journal().is_empty());
         drop(ledger);
         drop(Engine::new(rt.alloc(), 0, 8190, 16));
     }

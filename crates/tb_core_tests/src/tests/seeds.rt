@@ -1,14 +1,14 @@
 //! A seed keeps ids from slowing a ledger down that collide without it, or under a part of it.
 
-use super::ledger::alone;
+use super::ledger::{Either, alone};
 use super::made::{creating, transferring};
 use super::push;
 use std::alloc::Global;
 use std::process::Abort;
 use std::time::{Clock, Instant};
-use tb_core::{BareLedger, Ledger, Outcomes, Parcel, Seed};
+use tb_core::{Ledger, Seed};
 use tb_embed::Engine;
-use tb_test_makers::{account, check, transfer};
+use tb_test_makers::{account, check, must, transfer};
 use tb_work::Job;
 
 const SEED: Seed = Seed {
@@ -60,7 +60,7 @@ fn full_of_accounts(rt: &(impl Abort + Alloc<A = Global>), ids: Ids) -> Job {
         push(rt, &mut accounts, account(ids.nth(place), 0));
     }
     let made = creating(rt.alloc(), 0, 1, &accounts);
-    made.ok().expect(rt, "the packet is admitted")
+    made.expect(rt, "the packet is admitted")
 }
 
 /// Returns a full packet that creates transfers, or whose transfers fail if there is no such account.
@@ -74,7 +74,7 @@ fn full_of_transfers(rt: &(impl Abort + Alloc<A = Global>), ids: Ids, credited: 
         );
     }
     let made = transferring(rt.alloc(), 1, &transfers);
-    made.ok().expect(rt, "the packet is admitted")
+    made.expect(rt, "the packet is admitted")
 }
 
 fn full_packet(rt: &(impl Abort + Alloc<A = Global>), stored: Stored, ids: Ids) -> Job {
@@ -85,38 +85,13 @@ fn full_packet(rt: &(impl Abort + Alloc<A = Global>), stored: Stored, ids: Ids) 
     }
 }
 
-/// A ledger with the seed, by itself or out of an engine.
-#[derive(Drop)]
-enum Seeded {
-    Whole(Ledger),
-    Bare(BareLedger),
-}
-
-impl Seeded {
-    fn open(rt: &(impl Abort + Alloc<A = Global>), is_whole: bool) -> Seeded {
-        if is_whole {
-            return Seeded::Whole(Ledger::with_seed(rt.alloc(), 0, SEED));
-        }
-        let engine = Engine::with_seed(rt.alloc(), 0, 8_190, 1, SEED)
-            .ok()
-            .expect(rt, "settings");
-        let ledger = engine.into_ledger().ok().expect(rt, "nothing is held");
-        Seeded::Bare(ledger)
+/// Returns a ledger with the seed, by itself or out of an engine.
+fn opened(rt: &(impl Abort + Alloc<A = Global>), is_whole: bool) -> Either {
+    if is_whole {
+        return Either::Whole(Ledger::with_seed(rt.alloc(), 0, SEED));
     }
-
-    fn apply(&mut self, parcel: Parcel) -> Outcomes {
-        match self {
-            Seeded::Whole(ledger) => ledger.apply(parcel),
-            Seeded::Bare(ledger) => ledger.apply(parcel),
-        }
-    }
-
-    fn places(&self) -> u64 {
-        match self {
-            Seeded::Whole(ledger) => ledger.places(),
-            Seeded::Bare(ledger) => ledger.places(),
-        }
-    }
+    let engine = Engine::with_seed(rt.alloc(), 0, 8_190, 1, SEED).expect(rt, "settings");
+    Either::Bare(engine.into_ledger().ok().expect(rt, "nothing is held"))
 }
 
 /// Returns how many nanoseconds it takes to commit a full packet.
@@ -126,17 +101,15 @@ fn commit_time(
     stored: Stored,
     ids: Ids,
 ) -> u128 {
-    let mut ledger = Seeded::open(rt, is_whole);
+    let mut ledger = opened(rt, is_whole);
     let accounts = [account(1, 0), account(2, 0)];
-    let accounts = creating(rt.alloc(), 0, 0, &accounts)
-        .ok()
-        .expect(rt, "the packet is admitted");
-    drop(ledger.apply(Parcel::Batch(alone(rt, accounts))));
-    let parcel = Parcel::Batch(alone(rt, full_packet(rt, stored, ids)));
+    let accounts = creating(rt.alloc(), 0, 0, &accounts).expect(rt, "the packet is admitted");
+    drop(ledger.apply(alone(rt, accounts)));
+    let batch = alone(rt, full_packet(rt, stored, ids));
     let start = Instant::now(rt).ok().expect(rt, "a clock");
-    let outcomes = ledger.apply(parcel);
+    let outcomes = ledger.apply(batch);
     let taken = start.elapsed(rt).ok().expect(rt, "a clock");
-    check!(rt; ledger.places() == 2);
+    must(rt, ledger.places() == 2);
     drop(outcomes);
     drop(ledger);
     taken.as_nanos()
@@ -189,6 +162,6 @@ fn colliding_ids_are_spread(rt: HostRuntime) {
 fn colliding_ids_are_spread_in_an_engine(rt: HostRuntime) {
     let rising = shortest_time(&rt, false, Stored::Accounts);
     for ids in [Ids::OneLower(3), Ids::OneUpper(3)] {
-        check!(&rt; is_spread(&rt, false, Stored::Accounts, ids, rising));
+        must(&rt, is_spread(&rt, false, Stored::Accounts, ids, rising));
     }
 }

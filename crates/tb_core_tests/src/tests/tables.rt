@@ -6,7 +6,7 @@ ghost use Rattle.tb_tables.specs.claim.Facts.{no_facts};
 use std::process::Abort;
 use tb_layout::{Account, Transfer};
 use tb_tables::{Seed, Status, Tables};
-use tb_test_makers::check;
+use tb_test_makers::must;
 
 fn account(id: u128) -> Account
     ensures { result ≡ record {
@@ -83,12 +83,12 @@ fn posts_and_undoes(rt: &impl Abort, tables: &mut Tables)
     tables.keep();
     let mark = tables.mark();
     tables.resolve(transfer(2, 40, 1, 4)).expect(rt, "memory");
-    check!(rt; tables.status(1) == Some(Status::Posted));
-    check!(rt; debits(tables) == Some((0, 40)));
+    must(rt, tables.status(1) == Some(Status::Posted));
+    must(rt, debits(tables) == Some((0, 40)));
     tables.undo_to(mark);
-    check!(rt; tables.status(1) == Some(Status::Pending));
-    check!(rt; debits(tables) == Some((100, 0)));
-    check!(rt; tables.transfer(2).is_none());
+    must(rt, tables.status(1) == Some(Status::Pending));
+    must(rt, debits(tables) == Some((100, 0)));
+    must(rt, tables.transfer(2).is_none());
 }
 
 #[test]
@@ -103,16 +103,16 @@ fn each_other_call(rt: HostRuntime) {
     tables.add_account(account(1)).expect(&rt, "memory");
     let mark = tables.mark();
     tables.add_failed(7).expect(&rt, "memory");
-    check!(&rt; tables.failed(7));
+    must(&rt, tables.failed(7));
     tables.undo_to(mark);
-    check!(&rt; !tables.failed(7));
+    must(&rt, !tables.failed(7));
     tables.keep();
     tables.expire_due(5);
-    check!(&rt; tables.accounts() == 1);
-    check!(&rt; tables.account_at(0) == Some(account(1)));
-    check!(&rt; tables.account_at(1).is_none());
-    check!(&rt; tables.account_index(1) == Some(0));
-    check!(&rt; tables.account_index(2).is_none());
+    must(&rt, tables.accounts() == 1);
+    must(&rt, tables.account_at(0) == Some(account(1)));
+    must(&rt, tables.account_at(1).is_none());
+    must(&rt, tables.account_index(1) == Some(0));
+    must(&rt, tables.account_index(2).is_none());
     drop(tables);
 }
 
@@ -124,22 +124,31 @@ fn each_call_by_places(rt: HostRuntime) {
     tables
         .add_transfer(transfer(1, 100, 0, 2))
         .expect(&rt, "memory");
-    check!(&rt; tables.transfer_index(1) == Some(0));
-    check!(&rt; tables.transfer_index(2).is_none());
-    check!(&rt; tables.transfer_at(0) == Some(transfer(1, 100, 0, 2)));
-    check!(&rt; tables.transfer_at(1).is_none());
+    must(&rt, tables.transfer_index(1) == Some(0));
+    must(&rt, tables.transfer_index(2).is_none());
+    must(&rt, tables.transfer_at(0) == Some(transfer(1, 100, 0, 2)));
+    must(&rt, tables.transfer_at(1).is_none());
     tables.resolve(transfer(2, 100, 1, 8)).expect(&rt, "memory");
-    check!(&rt; tables.status_at(0) == Some(Status::Voided));
-    check!(&rt; tables.status_at(1).is_none());
+    must(&rt, tables.status_at(0) == Some(Status::Voided));
+    must(&rt, tables.status_at(1).is_none());
     drop(tables);
 }
 
 fn adds_a_new_account(rt: &impl Abort, tables: &mut Tables)
     requires { tables.old ≡ record { now = no_facts; past = [] } }
 {
-    check!(rt; tables.insert_account(&account(1), 7).expect(rt, "memory"));
-    check!(rt; !tables.insert_account(&account(1), 8).expect(rt, "memory"));
-    check!(rt; matches!(tables.account(1), Some(stored) if stored.timestamp == 7));
+    must(
+        rt,
+        tables.insert_account(&account(1), 7).expect(rt, "memory"),
+    );
+    must(
+        rt,
+        !tables.insert_account(&account(1), 8).expect(rt, "memory"),
+    );
+    must(
+        rt,
+        matches!(tables.account(1), Some(stored) if stored.timestamp == 7),
+    );
 }
 
 fn adds_a_new_transfer(rt: &impl Abort, tables: &mut Tables)
@@ -147,10 +156,23 @@ fn adds_a_new_transfer(rt: &impl Abort, tables: &mut Tables)
 {
     tables.add_account(account(1)).expect(rt, "memory");
     tables.add_account(account(2)).expect(rt, "memory");
-    check!(rt; tables.insert_between(&transfer(1, 100, 0, 0), 7, 0, 1).expect(rt, "memory"));
-    check!(rt; !tables.insert_between(&transfer(1, 100, 0, 0), 8, 0, 1).expect(rt, "memory"));
-    check!(rt; matches!(tables.transfer(1), Some(stored) if stored.timestamp == 7));
-    check!(rt; debits(tables) == Some((0, 100)));
+    must(
+        rt,
+        tables
+            .insert_between(&transfer(1, 100, 0, 0), 7, 0, 1)
+            .expect(rt, "memory"),
+    );
+    must(
+        rt,
+        !tables
+            .insert_between(&transfer(1, 100, 0, 0), 8, 0, 1)
+            .expect(rt, "memory"),
+    );
+    must(
+        rt,
+        matches!(tables.transfer(1), Some(stored) if stored.timestamp == 7),
+    );
+    must(rt, debits(tables) == Some((0, 100)));
 }
 
 fn resolves_by_a_new_post(rt: &impl Abort, tables: &mut Tables)
@@ -164,10 +186,20 @@ fn resolves_by_a_new_post(rt: &impl Abort, tables: &mut Tables)
     tables
         .add_transfer(transfer(2, 30, 0, 0))
         .expect(rt, "memory");
-    check!(rt; !tables.insert_resolving(&transfer(2, 40, 1, 4), 0).expect(rt, "memory"));
-    check!(rt; debits(tables) == Some((100, 30)));
-    check!(rt; tables.insert_resolving(&transfer(3, 40, 1, 4), 0).expect(rt, "memory"));
-    check!(rt; debits(tables) == Some((0, 70)));
+    must(
+        rt,
+        !tables
+            .insert_resolving(&transfer(2, 40, 1, 4), 0)
+            .expect(rt, "memory"),
+    );
+    must(rt, debits(tables) == Some((100, 30)));
+    must(
+        rt,
+        tables
+            .insert_resolving(&transfer(3, 40, 1, 4), 0)
+            .expect(rt, "memory"),
+    );
+    must(rt, debits(tables) == Some((0, 70)));
 }
 
 #[test]
@@ -186,8 +218,8 @@ fn reserve_with_a_seed(rt: HostRuntime) {
     let seed = Seed { low: 1, high: 2 };
     let mut tables = Tables::with_seed(rt.alloc(), seed);
     tables.reserve(1000, 1000).expect(&rt, "memory");
-    check!(&rt; tables.reserve(usize::MAX, 0).is_err());
-    check!(&rt; tables.reserve(0, usize::MAX).is_err());
+    must(&rt, tables.reserve(usize::MAX, 0).is_err());
+    must(&rt, tables.reserve(0, usize::MAX).is_err());
     posts_and_undoes(&rt, &mut tables);
     drop(tables);
 }

@@ -1,11 +1,12 @@
 //! The World, by worked examples. Who owns a World drops it by name, at one place.
 
-use super::made::{Made, item};
+use super::made::{Made, item, pushed_by};
 use super::number_of;
 use super::outcomes::{EntryKind, assert_entries, assert_kinds};
 use std::alloc::Global;
 use std::process::Abort;
-use tb_test_makers::{OutcomeKind, check};
+use tb_core::Ledger;
+use tb_test_makers::{OutcomeKind, check, must};
 use tb_work::{Refusal, Ticket};
 use tb_world::{Event, World, run_world};
 
@@ -67,25 +68,6 @@ const STAGES: [(&str, Step); 8] = [
     ("reply-push", Step::ReplyPush),
 ];
 
-/// Returns what a sender pushes: `close`, `end`, `pulse5` at moment 5, or `packet0=1`, number 0, which creates account
-/// 1.
-fn made_of(rt: &impl Abort, pushed: &str) -> Made {
-    match pushed {
-        "close" => return Made::Close,
-        "end" => return Made::End,
-        _ => {}
-    }
-    if let Some(moment) = pushed.strip_prefix("pulse") {
-        return Made::Pulse(u64::from(number_of(rt, moment)));
-    }
-    let packet = pushed.strip_prefix("packet").expect(rt, "a packet");
-    let (number, id) = packet.split_once('=').expect(rt, "a number and an id");
-    Made::Packet {
-        number: u64::from(number_of(rt, number)),
-        id: u128::from(number_of(rt, id)),
-    }
-}
-
 /// Returns the step of a word: the name of a stage's step, or a sender's number, a colon, and `reply` or what it
 /// pushes.
 fn step_of(rt: &impl Abort, word: &str) -> Step {
@@ -94,12 +76,11 @@ fn step_of(rt: &impl Abort, word: &str) -> Step {
             return *step;
         }
     }
-    let (sender, act) = word.split_once(':').expect(rt, "a sender");
-    let sender = number_of(rt, sender);
-    match act {
-        "reply" => Step::ReplyPop(sender),
-        pushed => Step::Push(sender, made_of(rt, pushed)),
+    if let Some(sender) = word.strip_suffix(":reply") {
+        return Step::ReplyPop(number_of(rt, sender));
     }
+    let (sender, made) = pushed_by(rt, word);
+    Step::Push(sender, made)
 }
 
 /// Returns the step of a word, and what the World answers to it: false after a `!`, and else true.
@@ -108,6 +89,11 @@ fn answered_step(rt: &impl Abort, word: &str) -> (Step, bool) {
         Some(refused) => (step_of(rt, refused), false),
         None => (step_of(rt, word), true),
     }
+}
+
+/// Returns the ledger of a World at rest.
+fn ledger_of(rt: &impl Abort, world: World) -> Ledger {
+    world.into_ledger().ok().expect(rt, "it is at rest")
 }
 
 /// Takes steps, and asserts what the World answers to each.
@@ -129,7 +115,7 @@ fn assert_world(
     assert_kinds(rt, world.received(0), kinds);
     assert_kinds(rt, world.received(1), &[]);
     assert_entries(rt, world.ledger().journal(), entries);
-    check!(rt; world.ledger().machine().clock() == clock);
+    must(rt, world.ledger().machine().clock() == clock);
 }
 
 /// Adds the event of a step. Returns false if memory ran out.
@@ -137,7 +123,7 @@ fn add_step(rt: &impl Abort, alloc: Global, events: &mut Vec<Event>, step: Step)
     match event(alloc, step) {
         Ok(event) => events.push(event).is_ok(),
         Err(refusal) => {
-            check!(rt; refusal == Refusal::NoMemory);
+            must(rt, refusal == Refusal::NoMemory);
             false
         }
     }
@@ -168,7 +154,7 @@ fn assert_steps(
     assert_world(rt, &world, kinds, entries, clock);
     drop(world);
     let mut events = Vec::new(rt.alloc());
-    check!(rt; add_words(rt, rt.alloc(), &mut events, steps));
+    must(rt, add_words(rt, rt.alloc(), &mut events, steps));
     let listed = run_world(rt.alloc(), 0, 4, 2, events).expect(rt, "memory");
     assert_world(rt, &listed, kinds, entries, clock);
     drop(listed);

@@ -1,6 +1,6 @@
 //! Scripts by name, each with what is written for it.
 
-use super::{assert_both, assert_list, assert_run};
+use super::{assert_both, assert_list, assert_run, joined};
 use std::alloc::Global;
 use std::process::Abort;
 use std::sync::Wait;
@@ -361,7 +361,7 @@ fn assert_case<R: Abort + Threads + Wait + Clock + Sync + Alloc<A = Global>>(
     let (script, output) = texts
         .split_once("--\n")
         .expect(rt, "a script and an output");
-    let script = format!(in rt.alloc(); "{setup}{script}").expect(rt, "memory");
+    let script = joined(rt, &[setup, script]);
     match head.split_once(' ') {
         Some(("list", _)) => assert_list(rt, script.as_str(), output),
         Some(("run", _)) => assert_run(rt, script.as_str(), output),

@@ -1,16 +1,16 @@
 //! Each code of the table of transfers, by itself and together with the one after it in the table.
 
-use super::listed;
+use super::{add, joined, listed};
 use std::alloc::Global;
 use std::process::Abort;
 use tb_test_makers::check;
 
 /// Returns a script in which each row is a packet of its own after a setup.
 fn script_of(rt: &(impl Abort + Alloc<A = Global>), setup: &str, rows: &str) -> String {
-    let mut script = String::from_str(rt.alloc(), setup).expect(rt, "memory");
+    let mut script = joined(rt, &[setup]);
     for row in rows.lines() {
         let (_, fields) = row.split_once(' ').expect(rt, "a code and fields");
-        write!(script, "packet 0 130\ntransfer {fields}\n").expect(rt, "memory");
+        add(rt, &mut script, &["packet 0 130\ntransfer ", fields, "\n"]);
     }
     script
 }

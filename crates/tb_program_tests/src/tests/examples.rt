@@ -1,12 +1,21 @@
-use super::{assert_both, assert_list, bytes_after};
+use super::{assert_both, assert_list, bytes_after, joined};
 use std::alloc::Global;
 use std::process::Abort;
 
 /// Returns a packet of accounts and one of no operation, both of `count` bytes of zeros.
 fn two_packets_of(rt: &(impl Abort + Alloc<A = Global>), count: usize) -> String {
     let bytes = "00".repeat(rt.alloc(), count).expect(rt, "memory");
-    let script = format!(in rt.alloc(); "packet 0 129\nhex {bytes}\npacket 0 200\nhex {bytes}\n");
-    script.expect(rt, "memory")
+    let bytes = bytes.as_str();
+    joined(
+        rt,
+        &[
+            "packet 0 129\nhex ",
+            bytes,
+            "\npacket 0 200\nhex ",
+            bytes,
+            "\n",
+        ],
+    )
 }
 
 #[test]
@@ -67,12 +76,14 @@ const ACCOUNT_CODES: &str = "3 timestamp=1 reserved=1
 14 id=2 ledger=1
 ";
 
+const BEFORE_A_CODE: &str = "packet 0 0 committed 0\npacket 0 1 committed 1 0:";
+
+const BEHIND_A_CODE: &str = "\nclock 2\naccount 1 1 0 0 0 0\n";
+
 /// Asserts the code that an account after `ONE_ACCOUNT` is answered.
 fn assert_answer(rt: &(impl Abort + Alloc<A = Global>), event: &str, code: &str) {
-    let script = format!(in rt.alloc(); "{ONE_ACCOUNT}account {event}\n").expect(rt, "memory");
-    let output = format!(in rt.alloc();
-        "packet 0 0 committed 0\npacket 0 1 committed 1 0:{code}\nclock 2\naccount 1 1 0 0 0 0\n"
-    ).expect(rt, "memory");
+    let script = joined(rt, &[ONE_ACCOUNT, "account ", event, "\n"]);
+    let output = joined(rt, &[BEFORE_A_CODE, code, BEHIND_A_CODE]);
     assert_list(rt, script.as_str(), output.as_str());
 }
 

@@ -1,4 +1,4 @@
-use super::assert_list;
+use super::{assert_list, joined};
 use std::alloc::Global;
 use std::process::Abort;
 
@@ -60,7 +60,7 @@ const FIRST_FAULTS: &str = "2 bad field: packet 0 129|account id=1 id=1|
 /// Asserts the first fault of a script, in which a `|` stands for the end of a line.
 fn assert_fault(rt: &(impl Abort + Alloc<A = Global>), script: &str, fault: &str) {
     let script = script.replace(rt.alloc(), '|', "\n").expect(rt, "memory");
-    let output = format!(in rt.alloc(); "fault {fault}\n").expect(rt, "memory");
+    let output = joined(rt, &["fault ", fault, "\n"]);
     assert_list(rt, script.as_str(), output.as_str());
 }
 
@@ -135,9 +135,7 @@ const FIELD_BOUNDS: [(&str, &str, &str); 4] = [
 
 /// Asserts what is written if a field of an account has this number. The packet is of no operation.
 fn assert_field(rt: &(impl Abort + Alloc<A = Global>), field: &str, number: &str, output: &str) {
-    let script = format!(in rt.alloc(); "packet 0 200\naccount {field}={number}\n").expect(
-        rt, "memory",
-    );
+    let script = joined(rt, &["packet 0 200\naccount ", field, "=", number, "\n"]);
     assert_list(rt, script.as_str(), output);
 }
 
@@ -152,9 +150,9 @@ fn field_bounds(rt: HostRuntime) {
 
 /// Asserts that a line may be as long as this one, and no longer.
 fn assert_longest(rt: &(impl Abort + Alloc<A = Global>), line: &str) {
-    let lawful = format!(in rt.alloc(); "{line}\nclock 3").expect(rt, "memory");
+    let lawful = joined(rt, &[line, "\nclock 3"]);
     assert_list(rt, lawful.as_str(), "clock 3\n");
-    let faulty = format!(in rt.alloc(); "clock 3\n#{line}\n").expect(rt, "memory");
+    let faulty = joined(rt, &["clock 3\n#", line, "\n"]);
     assert_list(rt, faulty.as_str(), "fault 2 line too long\n");
 }
 

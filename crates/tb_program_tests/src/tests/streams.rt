@@ -3,7 +3,7 @@ use std::io;
 use std::io::{Read, Write};
 use std::process::Abort;
 use tb_program::{ProgramFault, run_script, run_threads};
-use tb_test_makers::check;
+use tb_test_makers::must;
 
 /// Gives a line with its first read, fails at the second, and has ended from then on: whoever continues to read after
 /// the fault finds the end of a script.
@@ -118,12 +118,12 @@ fn one_at_a_time() -> OneAtATime {
 fn flush_after_the_last_byte(rt: HostRuntime) {
     let mut listed = one_at_a_time();
     let answer = run_script(rt.alloc(), &mut "clock 1\n".as_bytes(), &mut listed);
-    check!(&rt; matches!(&answer, Ok(true)));
+    must(&rt, matches!(&answer, Ok(true)));
     let mut ran = one_at_a_time();
     let answer = run_threads(&rt, rt.alloc(), &mut "clock 1\n".as_bytes(), &mut ran);
-    check!(&rt; matches!(&answer, Ok(true)));
+    must(&rt, matches!(&answer, Ok(true)));
     for writer in [listed, ran] {
-        check!(&rt; (writer.taken, writer.flushed) == (8, 8));
+        must(&rt, (writer.taken, writer.flushed) == (8, 8));
     }
 }
 
@@ -131,26 +131,26 @@ fn flush_after_the_last_byte(rt: HostRuntime) {
 fn read_fails_in_mid_stream(rt: HostRuntime) {
     let mut out = Vec::new(rt.alloc());
     let answer = run_script(rt.alloc(), &mut FailsAtSecond { reads: 0 }, &mut out);
-    check!(&rt; matches!(&answer, Err(ProgramFault::Read)));
-    check!(&rt; out.is_empty());
+    must(&rt, matches!(&answer, Err(ProgramFault::Read)));
+    must(&rt, out.is_empty());
 }
 
 #[test]
 fn write_fails(rt: HostRuntime) {
     let answer = run_script(rt.alloc(), &mut "clock 1\n".as_bytes(), &mut TakesNothing);
-    check!(&rt; matches!(&answer, Err(ProgramFault::Write)));
+    must(&rt, matches!(&answer, Err(ProgramFault::Write)));
 }
 
 #[test]
 fn flush_fails(rt: HostRuntime) {
     let answer = run_script(rt.alloc(), &mut "clock 1\n".as_bytes(), &mut FailsToFlush);
-    check!(&rt; matches!(&answer, Err(ProgramFault::Write)));
+    must(&rt, matches!(&answer, Err(ProgramFault::Write)));
 }
 
 #[test]
 fn flush_of_a_run_fails(rt: HostRuntime) {
     let answer = run_threads(&rt, rt.alloc(), &mut "shut\n".as_bytes(), &mut FailsToFlush);
-    check!(&rt; matches!(&answer, Err(ProgramFault::Write)));
+    must(&rt, matches!(&answer, Err(ProgramFault::Write)));
 }
 
 #[test]
@@ -158,15 +158,15 @@ fn read_of_a_run_fails(rt: HostRuntime) {
     let mut out = Vec::new(rt.alloc());
     let mut reader = FailsAtSecond { reads: 0 };
     let answer = run_threads(&rt, rt.alloc(), &mut reader, &mut out);
-    check!(&rt; matches!(&answer, Err(ProgramFault::Read)));
-    check!(&rt; out.is_empty());
+    must(&rt, matches!(&answer, Err(ProgramFault::Read)));
+    must(&rt, out.is_empty());
 }
 
 #[test]
 fn write_of_a_run_fails(rt: HostRuntime) {
     let mut reader = "packet 0 129\nshut\n".as_bytes();
     let answer = run_threads(&rt, rt.alloc(), &mut reader, &mut TakesNothing);
-    check!(&rt; matches!(&answer, Err(ProgramFault::Write)));
+    must(&rt, matches!(&answer, Err(ProgramFault::Write)));
 }
 
 /// A byte, how often a script consists of it, and what is written for the script. One that never ends isn't read to its
@@ -183,8 +183,8 @@ fn assert_output(rt: &(impl Abort + Alloc<A = Global>), script: Repeated, output
     let mut script = script;
     let mut out = Vec::new(rt.alloc());
     let faultless = run_script(rt.alloc(), &mut script, &mut out).expect(rt, "memory");
-    check!(rt; out.as_slice() == output.as_bytes());
-    check!(rt; faultless == (output == "clock 0\n"));
+    must(rt, out.as_slice() == output.as_bytes());
+    must(rt, faultless == (output == "clock 0\n"));
 }
 
 #[test]

@@ -1,8 +1,8 @@
 use super::{batcher_of, job_of};
 use std::alloc::Global;
 use std::process::Abort;
-use tb_batch::{Batch, Batcher, Offered};
-use tb_test_makers::check;
+use tb_batch::{Batch, Batcher, Offered, Parts};
+use tb_test_makers::{check, must};
 use tb_work::{Job, Refusal};
 
 const LIMITS: [(u32, Option<Refusal>); 5] = [
@@ -28,7 +28,7 @@ fn limits(rt: HostRuntime) {
 /// Offers a packet, which is joined.
 fn join(rt: &(impl Abort + Alloc<A = Global>), batcher: &mut Batcher, operation: u8, flags: &[u8]) {
     let offered = batcher.offer(job_of(rt, 0, operation, flags));
-    check!(rt; matches!(&offered, Offered::Joined));
+    must(rt, matches!(&offered, Offered::Joined));
     drop(offered);
 }
 
@@ -50,19 +50,15 @@ fn is_of_two(batch: &Batch) -> bool {
 #[test]
 fn a_batch_and_its_parts(rt: HostRuntime) {
     let batch = batch_of(&rt, 129, &[&[0, 0], &[0]]);
-    check!(&rt; is_of_two(&batch));
+    must(&rt, is_of_two(&batch));
     let parts = batch.into_parts();
-    check!(&rt; parts.body.len() == 384 && parts.failures.capacity() >= 3);
+    must(
+        &rt,
+        parts.body.len() == 384 && parts.failures.capacity() >= 3,
+    );
     let batch = Batch::whole(parts);
-    check!(&rt; is_of_two(&batch));
+    must(&rt, is_of_two(&batch));
     drop(batch);
-}
-
-#[test]
-fn a_lookup_has_room_for_its_accounts(rt: HostRuntime) {
-    let parts = batch_of(&rt, 131, &[&[0, 0]]).into_parts();
-    check!(&rt; parts.operation == 131 && parts.accounts.capacity() >= 2);
-    drop(parts);
 }
 
 /// Returns how many bytes the body of a batch has room for.
@@ -79,6 +75,17 @@ fn job_of_zeros(rt: &(impl Abort + Alloc<A = Global>), operation: u8, events: us
     job_of(rt, 0, operation, flags.as_slice())
 }
 
+/// Returns the parts of a batch of one lookup of `ids` ids.
+pub(super) fn parts_of_a_lookup(rt: &(impl Abort + Alloc<A = Global>), ids: usize) -> Parts {
+    let mut batcher = batcher_of(rt, 8190);
+    let offered = batcher.offer(job_of_zeros(rt, 131, ids));
+    must(rt, matches!(&offered, Offered::Joined));
+    drop(offered);
+    let batch = batcher.seal().expect(rt, "a batch");
+    drop(batcher);
+    batch.into_parts()
+}
+
 /// Returns how many bytes the body of a batch of one packet of `events` transfers has room for.
 fn room_of_body(
     rt: &(impl Abort + Alloc<A = Global>),
@@ -86,7 +93,7 @@ fn room_of_body(
     events: usize,
 ) -> usize {
     let offered = batcher.offer(job_of_zeros(rt, 130, events));
-    check!(rt; matches!(&offered, Offered::Joined));
+    must(rt, matches!(&offered, Offered::Joined));
     drop(offered);
     room_of(batcher.seal().expect(rt, "a batch"))
 }
@@ -95,9 +102,9 @@ fn room_of_body(
 #[test]
 fn room_shrinks_after_a_large_batch(rt: HostRuntime) {
     let mut batcher = batcher_of(&rt, 8190);
-    check!(&rt; room_of_body(&rt, &mut batcher, 8190) >= 1_048_320);
+    must(&rt, room_of_body(&rt, &mut batcher, 8190) >= 1_048_320);
     room_of_body(&rt, &mut batcher, 1);
-    check!(&rt; room_of_body(&rt, &mut batcher, 1) <= 1024);
+    must(&rt, room_of_body(&rt, &mut batcher, 1) <= 1024);
     drop(batcher);
 }
 
@@ -120,9 +127,9 @@ fn room_shrinks_after_a_large_batch_that_a_packet_seals(rt: HostRuntime) {
     let mut batcher = batcher_of(&rt, 8190);
     join(&rt, &mut batcher, 129, &[0]);
     room_of_sealed(&rt, &mut batcher, 130, 8190);
-    check!(&rt; room_of_sealed(&rt, &mut batcher, 129, 1) >= 1_048_320);
+    must(&rt, room_of_sealed(&rt, &mut batcher, 129, 1) >= 1_048_320);
     room_of_sealed(&rt, &mut batcher, 130, 1);
     let room = room_of_sealed(&rt, &mut batcher, 129, 1);
-    check!(&rt; room >= 128 && room <= 1024);
+    must(&rt, room >= 128 && room <= 1024);
     drop(batcher);
 }

@@ -2,7 +2,7 @@ use super::batcher_of;
 use std::alloc::Global;
 use std::process::Abort;
 use tb_batch::{Batcher, Offered};
-use tb_test_makers::{check, zeros};
+use tb_test_makers::{must, zeros};
 use tb_work::Job;
 
 /// Returns the job of a packet of an account of zeros, or None if memory runs out.
@@ -17,8 +17,8 @@ fn is_joined(rt: &impl Abort, batcher: &mut Batcher, job: Job, number: u64) -> b
         Offered::Joined => true,
         Offered::Sealed(_batch) => rt.panic("sealed"),
         Offered::Refused(job, _refused) => {
-            check!(rt; job.stub().number == number);
-            check!(rt; job.packet().bytes.as_slice().len() == 128);
+            must(rt, job.stub().number == number);
+            must(rt, job.packet().bytes.as_slice().len() == 128);
             false
         }
     }
@@ -47,5 +47,5 @@ fn offer_refused_memory(rt: HostRuntime) {
         Some(batch) => batch.jobs().len(),
         None => 0,
     };
-    check!(&rt; held == joined);
+    must(&rt, held == joined);
 }

@@ -9,7 +9,7 @@ use tb_layout::TransferCode::{
 };
 use tb_layout::{CREATE_TRANSFERS, Failure, Transfer, TransferCode};
 use tb_machine::Machine;
-use tb_test_makers::{account, check, transfer, transfer_bytes};
+use tb_test_makers::{account, check, must, transfer, transfer_bytes};
 
 /// Returns the account that a transfer debits or credits, of those with ids 1 to 9,000.
 fn nth(number: u32) -> u128 {
@@ -20,11 +20,8 @@ fn nth(number: u32) -> u128 {
 fn make_many(rt: &(impl Abort + Alloc<A = Global>), machine: &mut Machine, first: u32, count: u32) {
     let mut accounts = Vec::new(rt.alloc());
     for place in 0..count {
-        push(
-            rt,
-            &mut accounts,
-            account(nth(first.wrapping_add(place)), 0),
-        );
+        let id = nth(first.wrapping_add(place));
+        push(rt, &mut accounts, account(id, 0));
     }
     make_accounts(rt, machine, &accounts);
 }
@@ -52,26 +49,37 @@ fn posted(machine: &Machine, id: u128) -> Option<(u128, u128)> {
     Some((account.debits_posted, account.credits_posted))
 }
 
+/// Accounts by packets, each with how many there are before it, and how many it has.
+const ACCOUNTS: [(u32, u32); 3] = [(0, 8_190), (8_190, 100), (8_290, 710)];
+
+const TRANSFERS: [(u32, u32); 5] = [
+    (0, 8_190),
+    (8_190, 4_096),
+    (12_286, 100),
+    (12_386, 4_097),
+    (16_483, 1_517),
+];
+
+fn make_all(rt: &(impl Abort + Alloc<A = Global>), machine: &mut Machine) {
+    for (first, count) in &ACCOUNTS {
+        make_many(rt, machine, *first, *count);
+    }
+    for (first, count) in &TRANSFERS {
+        transfer_on(rt, machine, *first, *count);
+    }
+}
+
 /// Packets of several sizes; in the end each account was debited and credited twice.
 #[test]
 fn transfers_between_nine_thousand_accounts(rt: HostRuntime) {
     let mut machine = Machine::new(rt.alloc(), 0);
-    for (first, count) in [(0, 8_190), (8_190, 100), (8_290, 710)] {
-        make_many(&rt, &mut machine, first, count);
-    }
-    let packets = [
-        (0, 8_190),
-        (8_190, 4_096),
-        (12_286, 100),
-        (12_386, 4_097),
-        (16_483, 1_517),
-    ];
-    for (first, count) in packets {
-        transfer_on(&rt, &mut machine, first, count);
-    }
-    check!(&rt; machine.accounts() == 9_000 && machine.clock() == 27_000);
+    make_all(&rt, &mut machine);
+    must(
+        &rt,
+        machine.accounts() == 9_000 && machine.clock() == 27_000,
+    );
     for number in 0..9_000 {
-        check!(&rt; posted(&machine, nth(number)) == Some((2, 2)));
+        must(&rt, posted(&machine, nth(number)) == Some((2, 2)));
     }
     drop(machine);
 }
@@ -132,20 +140,23 @@ const CHAINS: [Chain; 7] = [
 ];
 
 impl Chain {
-    /// Returns an event of the chain. There is no account 9, and account 3 has no credits.
-    fn event(&self, index: u32) -> Transfer {
-        let is_linked = self.is_open || index.wrapping_add(1) < self.length;
-        let accounts = match self.code {
+    /// Returns the accounts of an event. There is no account 9, and account 3 has no credits.
+    fn accounts(&self, index: u32) -> [u128; 2] {
+        match self.code {
             _ if index != self.fault => [1, 2],
             ExceedsCredits => [3, 2],
             _ => [1, 9],
-        };
-        transfer(
-            u128::from(index).wrapping_add(1),
-            accounts,
-            1,
-            u16::from(is_linked),
-        )
+        }
+    }
+
+    /// Returns an event of the chain, or one with its id that is by itself and succeeds.
+    fn event(&self, index: u32, is_chain: bool) -> Transfer {
+        let id = u128::from(index).wrapping_add(1);
+        if !is_chain {
+            return transfer(id, [1, 2], 1, 0);
+        }
+        let is_linked = self.is_open || index.wrapping_add(1) < self.length;
+        transfer(id, self.accounts(index), 1, u16::from(is_linked))
     }
 
     /// Returns the code of an event.
@@ -164,50 +175,51 @@ impl Chain {
 fn commit_chain(
     rt: &(impl Abort + Alloc<A = Global>),
     machine: &mut Machine,
-    chain: Chain,
+    chain: &Chain,
     is_chain: bool,
 ) -> Vec<Failure> {
     let mut transfers = Vec::new(rt.alloc());
     for index in 0..chain.length {
-        let event = if is_chain {
-            chain.event(index)
-        } else {
-            transfer(u128::from(index).wrapping_add(1), [1, 2], 1, 0)
-        };
-        push(rt, &mut transfers, event);
+        push(rt, &mut transfers, chain.event(index, is_chain));
     }
     let body = transfer_bytes(rt.alloc(), &transfers).expect(rt, "memory");
     failures_of(rt, machine, CREATE_TRANSFERS, &body).expect(rt, "memory")
 }
 
-/// Asserts that the whole chain fails and moves nothing. Its events succeed then, but for the one whose id is among the failed ones.
-fn assert_chain(rt: &(impl Abort + Alloc<A = Global>), chain: Chain) {
-    let mut machine = Machine::new(rt.alloc(), 0);
-    make_accounts(
-        rt,
-        &mut machine,
-        &[account(1, 0), account(2, 0), account(3, 2)],
-    );
-    let failures = commit_chain(rt, &mut machine, chain, true);
-    check!(rt; failures.len() == chain.length as usize);
-    for (failure, index) in failures.iter().zip(0..chain.length) {
+/// Asserts that each event failed with its code.
+fn assert_all_fail(rt: &impl Abort, chain: &Chain, failures: &[Failure]) {
+    must(rt, failures.len() == chain.length as usize);
+    let mut index = 0u32;
+    for failure in failures {
         check!(rt; failure.index == index && failure.code == chain.code_of(index).number(), index);
+        index = index.wrapping_add(1);
     }
-    check!(rt; posted(&machine, 1) == Some((0, 0)));
-    let again = commit_chain(rt, &mut machine, chain, false);
+}
+
+/// Asserts that the whole chain fails and moves nothing. Its events succeed then, but for the one whose id is among the failed ones.
+fn assert_chain(rt: &(impl Abort + Alloc<A = Global>), machine: &mut Machine, chain: &Chain) {
+    make_accounts(rt, machine, &[account(1, 0), account(2, 0), account(3, 2)]);
+    let failures = commit_chain(rt, machine, chain, true);
+    assert_all_fail(rt, chain, &failures);
+    must(rt, posted(machine, 1) == Some((0, 0)));
+    let again = commit_chain(rt, machine, chain, false);
     let only = Failure {
         index: chain.fault,
         code: IdAlreadyFailed.number(),
     };
-    check!(rt; again.as_slice() == [only].as_slice());
-    check!(rt; posted(&machine, 1) == Some((u128::from(chain.length.saturating_sub(1)), 0)));
-    drop(machine);
+    must(rt, again.as_slice() == [only].as_slice());
+    must(
+        rt,
+        posted(machine, 1) == Some((u128::from(chain.length.saturating_sub(1)), 0)),
+    );
 }
 
 #[test]
 fn long_chains_that_fail(rt: HostRuntime) {
-    for chain in CHAINS {
-        assert_chain(&rt, chain);
+    for chain in &CHAINS {
+        let mut machine = Machine::new(rt.alloc(), 0);
+        assert_chain(&rt, &mut machine, chain);
+        drop(machine);
     }
 }
 
@@ -227,28 +239,36 @@ const USER_DATA: [[(u128, u64, u32); 3]; 3] = [
     [(1, 2, 3), (1 << 64, 0, 1 << 16), (1 << 64, 2, 1 << 16)],
 ];
 
-fn with_data(transfer: Transfer, data: (u128, u64, u32)) -> Transfer {
-    let (user_data_128, user_data_64, user_data_32) = data;
+fn with_data(transfer: Transfer, data: &(u128, u64, u32)) -> Transfer {
     Transfer {
-        user_data_128,
-        user_data_64,
-        user_data_32,
+        user_data_128: data.0,
+        user_data_64: data.1,
+        user_data_32: data.2,
         ..transfer
     }
 }
 
+/// Makes a pending transfer and its post with these user data, and asserts those of the transfer that the post makes.
+fn assert_user_data(
+    rt: &(impl Abort + Alloc<A = Global>),
+    machine: &mut Machine,
+    [pending, post, made]: &[(u128, u64, u32); 3],
+) {
+    make_accounts(rt, machine, &[account(1, 0), account(2, 0)]);
+    let events = [
+        with_data(transfer(1, [1, 2], 5, 2), pending),
+        with_data(resolving(2, 1, 5, 4), post),
+    ];
+    make_transfers(rt, machine, &events);
+    let stored = machine.transfer(2).expect(rt, "the post");
+    must(rt, stored == with_data(stored, made));
+}
+
 #[test]
 fn posts_with_user_data(rt: HostRuntime) {
-    for [pending, post, made] in USER_DATA {
+    for data in &USER_DATA {
         let mut machine = Machine::new(rt.alloc(), 0);
-        make_accounts(&rt, &mut machine, &[account(1, 0), account(2, 0)]);
-        let events = [
-            with_data(transfer(1, [1, 2], 5, 2), pending),
-            with_data(resolving(2, 1, 5, 4), post),
-        ];
-        make_transfers(&rt, &mut machine, &events);
-        let stored = machine.transfer(2).expect(&rt, "the post");
-        check!(&rt; stored == with_data(stored, made));
+        assert_user_data(&rt, &mut machine, data);
         drop(machine);
     }
 }

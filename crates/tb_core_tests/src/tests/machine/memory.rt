@@ -12,7 +12,7 @@ use tb_layout::{
 };
 use tb_machine::Machine;
 use tb_tables::Status;
-use tb_test_makers::{account, account_bytes, check, transfer, transfer_bytes};
+use tb_test_makers::{account, account_bytes, must, transfer, transfer_bytes};
 
 /// What the look-ups of a machine answer for ids 1, 2 and 3.
 #[derive(Clone, Copy)]
@@ -71,16 +71,16 @@ fn commits(
     let Ok(body) = body else {
         return false;
     };
-    check!(rt; is_packet(operation, &body));
+    must(rt, is_packet(operation, &body));
     let Ok(mut out) = Vec::with_capacity(rt.alloc(), body.len() / 128) else {
         return false;
     };
     let seen = Seen::of(machine);
     let is_committed = machine.commit(operation, &body, &mut out).is_ok();
     if is_committed {
-        check!(rt; are_failures(&out, failures));
+        must(rt, are_failures(&out, failures));
     } else {
-        check!(rt; seen.holds(machine) && out.is_empty());
+        must(rt, seen.holds(machine) && out.is_empty());
     }
     is_committed
 }
@@ -127,7 +127,7 @@ fn chain_and_single(rt: &(impl Abort + Alloc<A = Global>), machine: &mut Machine
 fn chains_of_transfers_joined_refused_memory(rt: HostRuntime) {
     let mut machine = Machine::new(rt.alloc(), 0);
     if chain_and_single(&rt, &mut machine) {
-        check!(&rt; machine.clock() == 7);
+        must(&rt, machine.clock() == 7);
     }
     drop(machine);
 }
@@ -153,7 +153,7 @@ fn id_already_failed_refused_memory(rt: HostRuntime) {
     if commits(&rt, &mut machine, CREATE_ACCOUNTS, accounts, &[])
         && four_packets(&rt, &mut machine)
     {
-        check!(&rt; machine.clock() == 9);
+        must(&rt, machine.clock() == 9);
     }
     drop(machine);
 }
@@ -168,7 +168,7 @@ fn void_of_nothing_refused_memory(rt: HostRuntime) {
     if commits_transfers(&rt, &mut machine, &void, &first)
         && commits_transfers(&rt, &mut machine, &void, &[(0, IdAlreadyFailed)])
     {
-        check!(&rt; machine.clock() == 2);
+        must(&rt, machine.clock() == 2);
     }
     drop(machine);
 }
@@ -179,9 +179,9 @@ fn reserve_refused_memory(rt: HostRuntime) {
     let mut machine = Machine::new(rt.alloc(), 0);
     let seen = Seen::of(&machine);
     let is_reserved = machine.reserve(2, 3).is_ok();
-    check!(&rt; seen.holds(&machine));
+    must(&rt, seen.holds(&machine));
     if is_reserved && chain_and_single(&rt, &mut machine) {
-        check!(&rt; machine.clock() == 7);
+        must(&rt, machine.clock() == 7);
     }
     drop(machine);
 }

@@ -10,7 +10,7 @@ use tb_layout::{
     Account, CREATE_ACCOUNTS, CREATE_TRANSFERS, NANOSECONDS_PER_SECOND, Transfer, write_transfer,
 };
 use tb_machine::Machine;
-use tb_test_makers::{account, account_bytes, check, transfer};
+use tb_test_makers::{account, account_bytes, check, must, transfer};
 
 /// Returns the accounts of a rule.
 fn accounts(rule: Rule) -> [Account; 4] {
@@ -159,7 +159,7 @@ fn run_of_each_status(rt: &(impl Abort + Alloc<A = Global>), rule: Rule) {
     let mut all = Vec::new(rt.alloc());
     run(rt, &mut machine, &mut all, rule);
     drop(machine);
-    check!(rt; have_all(&all));
+    must(rt, have_all(&all));
 }
 
 #[test]
@@ -199,7 +199,7 @@ fn plain_lists_refused_memory(rt: HostRuntime) {
         if commits(&rt, &mut machine, CREATE_ACCOUNTS, &accounts)
             && run_refused(&rt, &mut machine, &mut all).is_ok()
         {
-            check!(&rt; agrees(&machine, &all, small(400)));
+            must(&rt, agrees(&machine, &all, small(400)));
         }
     }
     drop(machine);

@@ -7,7 +7,7 @@ use std::process::Abort;
 use tb_layout::{MOMENT_MAX, NANOSECONDS_PER_SECOND, Transfer};
 use tb_machine::Machine;
 use tb_tables::Status;
-use tb_test_makers::{account, check, transfer};
+use tb_test_makers::{account, check, must, transfer};
 
 /// How many transfers with a timeout there are.
 const COUNT: u32 = 3_000;
@@ -78,7 +78,7 @@ fn thousands_expire_one_by_one(rt: HostRuntime) {
     for number in (1..=COUNT).rev() {
         assert_due(&rt, &mut machine, number);
     }
-    check!(&rt; machine.status(1) == Some(Status::Expired));
-    check!(&rt; machine.status(2) == Some(Status::Posted));
+    must(&rt, machine.status(1) == Some(Status::Expired));
+    must(&rt, machine.status(2) == Some(Status::Posted));
     drop(machine);
 }

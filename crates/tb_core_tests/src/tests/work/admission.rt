@@ -1,7 +1,7 @@
 use crate::tests::packet_of;
 use std::alloc::Global;
 use std::process::Abort;
-use tb_test_makers::check;
+use tb_test_makers::{check, must};
 use tb_work::{Refusal, admit};
 
 /// Returns the number of events admitted of a packet of `length` zero bytes.
@@ -43,15 +43,24 @@ fn admission_table(rt: HostRuntime) {
 
 #[test]
 fn refused_sizes_and_operations(rt: HostRuntime) {
-    check!(&rt; admitted(&rt, 4, 129, 127) == Err(Refusal::InvalidDataSize));
-    check!(&rt; admitted(&rt, 4, 200, 127) == Err(Refusal::InvalidOperation));
+    must(
+        &rt,
+        admitted(&rt, 4, 129, 127) == Err(Refusal::InvalidDataSize),
+    );
+    must(
+        &rt,
+        admitted(&rt, 4, 200, 127) == Err(Refusal::InvalidOperation),
+    );
 }
 
 #[test]
 fn lookups_are_counted_in_ids(rt: HostRuntime) {
-    check!(&rt; admitted(&rt, 4, 131, 64) == Ok(4));
-    check!(&rt; admitted(&rt, 4, 131, 80) == Err(Refusal::TooMuchData));
-    check!(&rt; admitted(&rt, 4, 131, 24) == Err(Refusal::InvalidDataSize));
+    must(&rt, admitted(&rt, 4, 131, 64) == Ok(4));
+    must(&rt, admitted(&rt, 4, 131, 80) == Err(Refusal::TooMuchData));
+    must(
+        &rt,
+        admitted(&rt, 4, 131, 24) == Err(Refusal::InvalidDataSize),
+    );
 }
 
 const REFUSALS: [(Refusal, u32, &str); 13] = [

@@ -1,9 +1,9 @@
-use super::packet_of_accounts;
+use crate::tests::made::packet_of_accounts;
 use crate::tests::{failures_at, packet_of};
 use std::alloc::Global;
 use std::process::Abort;
 use tb_layout::{Account, Failure};
-use tb_test_makers::{account, check};
+use tb_test_makers::{account, must};
 use tb_work::{
     Accounts, Answer, Bytes, Failures, Item, Job, Moment, Outcome, Packet, Refusal, Reply, Stub,
     Ticket,
@@ -27,27 +27,33 @@ fn packet_in(rt: &(impl Abort + Alloc<A = Global>)) -> Packet {
         number: 5,
         count: 2,
     };
-    check!(rt; job.stub() == stub);
-    check!(rt; job.is_open());
-    check!(rt; job.packet().user == 7);
+    must(rt, job.stub() == stub);
+    must(rt, job.is_open());
+    must(rt, job.packet().user == 7);
     job.into_packet()
 }
 
 #[test]
 fn a_job_and_its_packet(rt: HostRuntime) {
     let packet = packet_in(&rt);
-    check!(&rt; packet.bytes.as_slice().len() == 256);
-    check!(&rt; packet.bytes.into_vec().len() == 256);
-    check!(&rt; !is_open(&rt, packet_of_accounts(&rt, &[(1, 1), (2, 0)])));
-    check!(&rt; !is_open(&rt, packet_of(&rt, 129, 0)));
+    must(&rt, packet.bytes.as_slice().len() == 256);
+    must(&rt, packet.bytes.into_vec().len() == 256);
+    must(
+        &rt,
+        !is_open(&rt, packet_of_accounts(&rt, &[(1, 1), (2, 0)])),
+    );
+    must(&rt, !is_open(&rt, packet_of(&rt, 129, 0)));
 }
 
 #[test]
 fn a_refused_packet_comes_back(rt: HostRuntime) {
     let answer = Job::new(rt.alloc(), 0, 0, 4, packet_of(&rt, 129, 640));
     let (packet, refusal) = answer.err().expect(&rt, "a refusal");
-    check!(&rt; refusal == Refusal::TooMuchData);
-    check!(&rt; packet.user == 7 && packet.bytes.as_slice().len() == 640);
+    must(&rt, refusal == Refusal::TooMuchData);
+    must(
+        &rt,
+        packet.user == 7 && packet.bytes.as_slice().len() == 640,
+    );
     drop(packet);
 }
 
@@ -65,15 +71,18 @@ fn found(outcome: &Outcome) -> Option<&[Account]> {
 /// Returns the reply to a packet of two accounts that was committed behind two others; its second account failed.
 fn committed(rt: &(impl Abort + Alloc<A = Global>)) -> Reply {
     let job = job_of(rt, 5, packet_of_accounts(rt, &[(1, 0), (2, 0)]));
-    check!(rt; job.packet().operation == 129);
-    check!(rt; job.stub().count == 2);
+    must(rt, job.packet().operation == 129);
+    must(rt, job.stub().count == 2);
     Reply::committed(job, 9, &[Failure { index: 3, code: 13 }], 2)
 }
 
 fn assert_committed(rt: &impl Abort, reply: &Reply) {
-    check!(rt; reply.submitter == 3 && reply.number == 5 && reply.packet.user == 7);
+    must(
+        rt,
+        reply.submitter == 3 && reply.number == 5 && reply.packet.user == 7,
+    );
     let own = [Failure { index: 1, code: 13 }];
-    check!(rt; failures_at(&reply.outcome, 9) == Some(own.as_slice()));
+    must(rt, failures_at(&reply.outcome, 9) == Some(own.as_slice()));
 }
 
 #[test]
@@ -86,15 +95,15 @@ fn a_committed_reply(rt: HostRuntime) {
 #[test]
 fn a_stopped_reply(rt: HostRuntime) {
     let reply = Reply::of(job_of(&rt, 5, packet_of(&rt, 129, 0)), Outcome::Stopped);
-    check!(&rt; matches!(&reply.outcome, Outcome::Stopped));
+    must(&rt, matches!(&reply.outcome, Outcome::Stopped));
     drop(reply);
 }
 
 /// Returns the reply to a lookup of an id that finds an account.
 fn reply_to_a_lookup(rt: &(impl Abort + Alloc<A = Global>)) -> Reply {
     let job = job_of(rt, 6, packet_of(rt, 131, 16));
-    check!(rt; job.packet().operation == 131);
-    check!(rt; job.stub().count == 1);
+    must(rt, job.packet().operation == 131);
+    must(rt, job.stub().count == 1);
     let mut accounts = Vec::new(rt.alloc());
     accounts.push(account(1, 0)).expect(rt, "memory");
     let answer = Answer::Accounts(Accounts::from_vec(accounts));
@@ -104,20 +113,26 @@ fn reply_to_a_lookup(rt: &(impl Abort + Alloc<A = Global>)) -> Reply {
 #[test]
 fn a_lookups_reply(rt: HostRuntime) {
     let reply = reply_to_a_lookup(&rt);
-    check!(&rt; found(&reply.outcome) == Some([account(1, 0)].as_slice()));
+    must(
+        &rt,
+        found(&reply.outcome) == Some([account(1, 0)].as_slice()),
+    );
     drop(reply);
 }
 
 fn assert_ticket(rt: &(impl Abort + Alloc<A = Global>)) {
     let item = Item::Packet(job_of(rt, 5, packet_of(rt, 129, 0)));
     let ticket = Ticket { sender: 3, item };
-    check!(rt; matches!(&ticket.item, Item::Packet(_)));
+    must(rt, matches!(&ticket.item, Item::Packet(_)));
     drop(ticket);
 }
 
 fn assert_pulse(rt: &impl Abort) {
     let pulse = Item::Pulse(Moment::new(4_611_686_018_427_387_904));
-    check!(rt; matches!(&pulse, Item::Pulse(moment) if moment.get() == 4_611_686_018_427_387_904));
+    must(
+        rt,
+        matches!(&pulse, Item::Pulse(moment) if moment.get() == 4_611_686_018_427_387_904),
+    );
     drop(pulse);
 }
 
@@ -126,6 +141,9 @@ fn tickets(rt: HostRuntime) {
     assert_ticket(&rt);
     assert_pulse(&rt);
     let none = Failures::from_vec(Vec::new(rt.alloc()));
-    check!(&rt; none.as_slice().is_empty());
-    check!(&rt; Bytes::from_vec(Vec::new(rt.alloc())).as_slice().is_empty());
+    must(&rt, none.as_slice().is_empty());
+    must(
+        &rt,
+        Bytes::from_vec(Vec::new(rt.alloc())).as_slice().is_empty(),
+    );
 }

@@ -1,5 +1,5 @@
 use tb_layout::{Account, NoMemory, Transfer};
-use tb_test_makers::{check, zeros};
+use tb_test_makers::{must, zeros};
 use tb_work::{Job, Packet, Refusal};
 
 /// What is tried with each allocation refused in turn, by `tools/gate/refuse-each-growth`. The room for four failures isn't
@@ -10,23 +10,26 @@ fn job_refused_memory(rt: HostRuntime) {
         return;
     };
     if let Err((packet, refusal)) = Job::new(rt.alloc(), 0, 0, 4, packet) {
-        check!(&rt; refusal == Refusal::NoMemory);
-        check!(&rt; packet.user == 7 && packet.bytes.as_slice().len() == 512);
+        must(&rt, refusal == Refusal::NoMemory);
+        must(
+            &rt,
+            packet.user == 7 && packet.bytes.as_slice().len() == 512,
+        );
     }
 }
 
 #[test]
 fn packet_of_accounts_refused_memory(rt: HostRuntime) {
     match Packet::of_accounts(rt.alloc(), &[Account::default()], 7) {
-        Ok(packet) => check!(&rt; packet.bytes.as_slice().len() == 128),
-        Err(refused) => check!(&rt; refused == NoMemory),
+        Ok(packet) => must(&rt, packet.bytes.as_slice().len() == 128),
+        Err(refused) => must(&rt, refused == NoMemory),
     }
 }
 
 #[test]
 fn packet_of_transfers_refused_memory(rt: HostRuntime) {
     match Packet::of_transfers(rt.alloc(), &[Transfer::default()], 7) {
-        Ok(packet) => check!(&rt; packet.bytes.as_slice().len() == 128),
-        Err(refused) => check!(&rt; refused == NoMemory),
+        Ok(packet) => must(&rt, packet.bytes.as_slice().len() == 128),
+        Err(refused) => must(&rt, refused == NoMemory),
     }
 }

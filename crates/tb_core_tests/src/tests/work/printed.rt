@@ -5,17 +5,12 @@ use std::alloc::Global;
 use std::fmt::{Debug, Display};
 use std::process::Abort;
 use tb_layout::{Account, Accounts, Failure};
-use tb_test_makers::check;
+use tb_test_makers::{check, must};
 use tb_work::{Job, Outcome, Packet, Refusal, Reply, SubmitError};
 
 /// Returns what a value prints for programmers.
 fn debugged<T: Debug + Drop>(rt: &(impl Abort + Alloc<A = Global>), value: T) -> String {
     format!(in rt.alloc(); "{value:?}").expect(rt, "memory")
-}
-
-/// Returns what a value prints.
-fn displayed<T: Display + Drop>(rt: &(impl Abort + Alloc<A = Global>), value: T) -> String {
-    format!(in rt.alloc(); "{value}").expect(rt, "memory")
 }
 
 /// Asserts what a value prints for programmers.
@@ -29,7 +24,8 @@ fn assert_displayed<T: Display + Drop>(
     value: T,
     wanted: &str,
 ) {
-    check!(rt; displayed(rt, value).as_str() == wanted, wanted);
+    let text = format!(in rt.alloc(); "{value}").expect(rt, "memory");
+    check!(rt; text.as_str() == wanted, wanted);
 }
 
 /// An operation, how many bytes of data there are, and what the packet prints.
@@ -89,8 +85,8 @@ fn failed(rt: &(impl Abort + Alloc<A = Global>)) -> Outcome {
     let job = admitted(rt.alloc(), packet_of(rt, 129, 128))
         .ok()
         .expect(rt, "a job");
-    check!(rt; job.packet().operation == 129);
-    check!(rt; job.stub().count == 1);
+    must(rt, job.packet().operation == 129);
+    must(rt, job.stub().count == 1);
     let failure = Failure { index: 0, code: 6 };
     Reply::committed(job, 9, &[failure], 0).outcome
 }
@@ -109,7 +105,7 @@ fn too_large(rt: &(impl Abort + Alloc<A = Global>)) -> SubmitError {
     let error = admitted(rt.alloc(), packet_of(rt, 129, 640))
         .err()
         .expect(rt, "an error");
-    check!(rt; error.refusal == Refusal::TooMuchData);
+    must(rt, error.refusal == Refusal::TooMuchData);
     error
 }
 
@@ -159,6 +155,16 @@ fn looked_up_accounts_print_their_fields(rt: HostRuntime) {
     let mut found = Vec::new(rt.alloc());
     found.push(numbered()).expect(&rt, "memory");
     let printed = debugged(&rt, Accounts::from_vec(found));
-    check!(&rt; printed.as_str().starts_with("[Account { id: 340282366920938463463374607431768211455, debits_pending: 1, "));
-    check!(&rt; printed.as_str().ends_with(", ledger: 8, code: 9, flags: 10, timestamp: 11 }]"));
+    must(
+        &rt,
+        printed.as_str().starts_with(
+            "[Account { id: 340282366920938463463374607431768211455, debits_pending: 1, ",
+        ),
+    );
+    must(
+        &rt,
+        printed
+            .as_str()
+            .ends_with(", ledger: 8, code: 9, flags: 10, timestamp: 11 }]"),
+    );
 }

@@ -3,7 +3,7 @@
 use crate::tests::packet_of;
 use std::alloc::Global;
 use std::process::Abort;
-use tb_test_makers::check;
+use tb_test_makers::{check, must};
 use tb_work::{Job, Stub};
 
 /// Operations, each with the size of its event in bytes.
@@ -32,8 +32,11 @@ fn assert_job(rt: &(impl Abort + Alloc<A = Global>), operation: u8, event_size: 
         count,
     };
     check!(rt; job.stub() == stub, count);
-    check!(rt; job.packet().operation == operation && job.packet().user == u64::MAX);
-    check!(rt; job.packet().bytes.as_slice().len() == length);
+    must(
+        rt,
+        job.packet().operation == operation && job.packet().user == u64::MAX,
+    );
+    must(rt, job.packet().bytes.as_slice().len() == length);
 }
 
 #[test]

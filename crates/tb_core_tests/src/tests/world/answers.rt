@@ -6,7 +6,7 @@ use crate::tests::outcomes::EntryKind;
 use std::alloc::Global;
 use std::process::Abort;
 use tb_layout::Account;
-use tb_test_makers::{account, check};
+use tb_test_makers::{account, must};
 use tb_work::{Item, Job, Ticket};
 use tb_world::{Event, World};
 
@@ -42,16 +42,16 @@ fn first_job(rt: &(impl Abort + Alloc<A = Global>), accounts: &[Account]) -> Job
 fn jobs_of_others(rt: HostRuntime) {
     // Submitter 1 pushes the job of submitter 0.
     let job = first_job(&rt, &[account(1, 0)]);
-    check!(&rt; !answer_to(&rt, 4, 1, job));
+    must(&rt, !answer_to(&rt, 4, 1, job));
 }
 
 #[test]
 fn jobs_over_the_limit(rt: HostRuntime) {
     // The limit is one account.
     let two = first_job(&rt, &[account(1, 0), account(2, 0)]);
-    check!(&rt; !answer_to(&rt, 1, 0, two));
+    must(&rt, !answer_to(&rt, 1, 0, two));
     let one = first_job(&rt, &[account(1, 0)]);
-    check!(&rt; answer_to(&rt, 1, 0, one));
+    must(&rt, answer_to(&rt, 1, 0, one));
 }
 
 const STAGES_WITH_NOTHING: &str =

@@ -1,13 +1,13 @@
 //! Lists of two hundred events, made by a fixed rule, and what plain code says of them.
 
-use super::{Step, answer};
+use super::{Step, answer, ledger_of};
 use crate::tests::made::Made;
 use crate::tests::push;
 use std::alloc::Global;
 use std::process::Abort;
 use tb_core::{Entry, Ledger};
 use tb_layout::{CLOCK_MAX, CREATE_TRANSFERS, LOOKUP_ACCOUNTS, MOMENT_MAX};
-use tb_test_makers::{OutcomeKind, check, kind_of};
+use tb_test_makers::{OutcomeKind, check, kind_of, must};
 use tb_work::{Reply, Stub};
 use tb_world::World;
 
@@ -264,7 +264,7 @@ fn assert_lawful(rt: &(impl Abort + Alloc<A = Global>), world: &World, known: &K
     let committed = committed(rt, world.ledger().journal());
     // What this list committed is the first of what is ahead.
     let since = committed.get(known.before..).expect(rt, "nothing is lost");
-    check!(rt; ahead.get(known.before..committed.len()) == Some(since));
+    must(rt, ahead.get(known.before..committed.len()) == Some(since));
     for sender in 0..known.setting.submitters {
         assert_due(rt, world.received(sender), sender, &ahead, committed.len());
     }
@@ -317,7 +317,7 @@ fn play_list(
     assert_lawful(rt, world, known);
     settle(rt, world, known.setting.submitters);
     let left = assert_lawful(rt, world, known);
-    check!(rt; known.refused || left == 0);
+    must(rt, known.refused || left == 0);
     for sender in 0..known.setting.submitters {
         let replies = world.received(sender).len() as u64;
         check!(rt; replies == packets_of(&known.pushed, sender), sender);
@@ -384,7 +384,7 @@ fn list_over(
     setting: Setting,
     seed: u64,
 ) -> Ledger {
-    check!(rt; !ledger.stopped());
+    must(rt, !ledger.stopped());
     let mut known = Known {
         setting,
         before: ledger.places() as usize,
@@ -396,7 +396,7 @@ fn list_over(
         .expect(rt, "it is opened");
     play_list(rt, &mut world, &mut known, seed);
     drop(known);
-    world.into_ledger().ok().expect(rt, "it is at rest")
+    ledger_of(rt, world)
 }
 
 /// Plays lists of several numbers of submitters and limits over one ledger, until it has stopped. Returns how many.
@@ -426,5 +426,5 @@ fn lists_over_one_ledger(rt: HostRuntime) {
     for first in 0..60 {
         lists = lists.wrapping_add(lists_in_a_row(&rt, first));
     }
-    check!(&rt; lists > 120);
+    must(&rt, lists > 120);
 }

@@ -1,6 +1,6 @@
 //! Worlds one after another over one ledger.
 
-use super::{Step, add_words, answer, play};
+use super::{Step, add_words, answer, ledger_of, play};
 use crate::tests::made::{Made, creating, first_transferring};
 use crate::tests::outcomes::{EntryKind, assert_entries, assert_failures, assert_kinds};
 use std::alloc::Global;
@@ -8,7 +8,7 @@ use std::process::Abort;
 use tb_core::Ledger;
 use tb_layout::{Failure, Transfer};
 use tb_tables::Status;
-use tb_test_makers::{OutcomeKind, SIX_PLACES, account, check, transfer};
+use tb_test_makers::{OutcomeKind, SIX_PLACES, account, kind_of, must, transfer};
 use tb_work::{Item, Job, Refusal, Ticket};
 use tb_world::{Event, World};
 
@@ -20,7 +20,7 @@ const OVER: u64 = 5_000_000_005;
 
 /// Returns a World over a ledger that hasn't stopped.
 fn open_over(rt: &impl Abort, alloc: Global, ledger: Ledger, submitters: u32) -> World {
-    check!(rt; !ledger.stopped());
+    must(rt, !ledger.stopped());
     World::over(alloc, ledger, 8, submitters)
         .ok()
         .expect(rt, "it is opened")
@@ -33,25 +33,26 @@ fn push_job(
     sender: u32,
     job: Result<Job, Refusal>,
 ) {
-    let item = Item::Packet(job.ok().expect(rt, "memory"));
+    let item = Item::Packet(job.expect(rt, "memory"));
     let pushed = world.step(Event::Push(Ticket { sender, item }));
-    check!(rt; matches!(pushed, Ok(true)));
+    must(rt, matches!(pushed, Ok(true)));
 }
 
 /// Pushes the end of each sender, and takes steps until none moves.
 fn end_all(rt: &(impl Abort + Alloc<A = Global>), world: &mut World) {
     for sender in 0..=CLERKS {
-        check!(rt; answer(rt, world, Step::Push(sender, Made::End)));
+        must(rt, answer(rt, world, Step::Push(sender, Made::End)));
     }
-    check!(rt; world.finish().is_ok());
+    must(rt, world.finish().is_ok());
 }
 
 /// Asserts that a submitter received one reply, of a packet at a place, with these failures.
 fn assert_one(rt: &impl Abort, world: &World, sender: u32, place: u64, failures: &[Failure]) {
     let replies = world.received(sender);
-    assert_kinds(rt, replies, &[OutcomeKind::Committed(place)]);
-    assert_failures(rt, replies.first(), failures);
-    check!(rt; replies.first().is_some_and(|reply| reply.number == 0));
+    let reply = replies.first().expect(rt, "a reply");
+    must(rt, replies.len() == 1 && reply.number == 0);
+    must(rt, kind_of(reply) == OutcomeKind::Committed(place));
+    assert_failures(rt, Some(reply), failures);
 }
 
 /// Returns holds of 30, 20 and 10; the last expires after five seconds.
@@ -84,8 +85,8 @@ fn hold_in_a_world(rt: &(impl Abort + Alloc<A = Global>)) -> Ledger {
     end_all(rt, &mut world);
     assert_one(rt, &world, 0, 0, &[]);
     assert_one(rt, &world, 1, 1, &[]);
-    check!(rt; world.ledger().machine().clock() == 5);
-    world.into_ledger().ok().expect(rt, "it is at rest")
+    must(rt, world.ledger().machine().clock() == 5);
+    ledger_of(rt, world)
 }
 
 /// Pushes a post of the first hold and a void of the second, which are joined, and the post of the third after a pulse at
@@ -95,7 +96,7 @@ fn push_resolving(rt: &(impl Abort + Alloc<A = Global>), world: &mut World) {
     push_job(rt, world, 15, post);
     let void = first_transferring(rt.alloc(), 0, &[resolving(12, 2, 20, 8)]);
     push_job(rt, world, 0, void);
-    check!(rt; answer(rt, world, Step::Push(CLERKS, Made::Pulse(OVER))));
+    must(rt, answer(rt, world, Step::Push(CLERKS, Made::Pulse(OVER))));
     let late = first_transferring(rt.alloc(), 3, &[resolving(13, 3, 10, 4)]);
     push_job(rt, world, 3, late);
     play(rt, world, "pop pop pop");
@@ -110,7 +111,7 @@ fn resolve_in_a_world(rt: &(impl Abort + Alloc<A = Global>), ledger: Ledger) -> 
     assert_one(rt, &world, 0, 3, &[]);
     assert_one(rt, &world, 3, 5, &[Failure { index: 0, code: 35 }]);
     assert_kinds(rt, world.received(1), &[]);
-    world.into_ledger().ok().expect(rt, "it is at rest")
+    ledger_of(rt, world)
 }
 
 /// Asserts the journal of both Worlds, and what became of the holds.
@@ -124,14 +125,17 @@ fn assert_resolved(rt: &impl Abort, ledger: &Ledger) {
     ];
     assert_entries(rt, ledger.journal(), &entries);
     let machine = ledger.machine();
-    check!(rt; machine.clock() == OVER + 1);
-    check!(rt; machine.status(1) == Some(Status::Posted));
-    check!(rt; machine.status(2) == Some(Status::Voided));
-    check!(rt; machine.status(3) == Some(Status::Expired));
+    must(rt, machine.clock() == OVER + 1);
+    must(rt, machine.status(1) == Some(Status::Posted));
+    must(rt, machine.status(2) == Some(Status::Voided));
+    must(rt, machine.status(3) == Some(Status::Expired));
     let debtor = machine.account(1).expect(rt, "account 1");
-    check!(rt; (debtor.debits_pending, debtor.debits_posted) == (0, 30));
+    must(rt, (debtor.debits_pending, debtor.debits_posted) == (0, 30));
     let creditor = machine.account(2).expect(rt, "account 2");
-    check!(rt; (creditor.credits_pending, creditor.credits_posted) == (0, 30));
+    must(
+        rt,
+        (creditor.credits_pending, creditor.credits_posted) == (0, 30),
+    );
 }
 
 /// A third World has one submitter, which makes account 1 again: 21 is `exists`.
@@ -143,18 +147,18 @@ fn holds_resolved_in_a_later_world(rt: HostRuntime) {
     let mut third = open_over(&rt, rt.alloc(), ledger, 1);
     let again = creating(rt.alloc(), 0, 0, &[account(1, 0), account(3, 0)]);
     push_job(&rt, &mut third, 0, again);
-    check!(&rt; third.finish().is_ok());
+    must(&rt, third.finish().is_ok());
     assert_one(&rt, &third, 0, 6, &[Failure { index: 0, code: 21 }]);
-    let ledger = third.into_ledger().ok().expect(&rt, "it is at rest");
-    check!(&rt; ledger.places() == 7);
-    check!(&rt; ledger.machine().accounts() == 3);
-    check!(&rt; ledger.machine().clock() == OVER + 3);
+    let ledger = ledger_of(&rt, third);
+    must(&rt, ledger.places() == 7);
+    must(&rt, ledger.machine().accounts() == 3);
+    must(&rt, ledger.machine().clock() == OVER + 3);
     drop(ledger);
 }
 
 /// Asserts that a World that isn't at rest comes back, and returns it.
 fn kept(rt: &impl Abort, world: World) -> World {
-    check!(rt; !world.is_at_rest());
+    must(rt, !world.is_at_rest());
     world.into_ledger().err().expect(rt, "it holds something")
 }
 
@@ -174,7 +178,7 @@ const HELD: [&str; 8] = [
 #[test]
 fn world_that_holds_something_keeps_its_ledger(rt: HostRuntime) {
     let mut world = open_over(&rt, rt.alloc(), Ledger::new(rt.alloc(), 0), 1);
-    check!(&rt; world.is_at_rest());
+    must(&rt, world.is_at_rest());
     for steps in HELD {
         play(&rt, &mut world, steps);
         world = kept(&rt, world);
@@ -185,8 +189,8 @@ fn world_that_holds_something_keeps_its_ledger(rt: HostRuntime) {
         "pop pop batch-push batch-pop outcome-push outcome-pop",
     );
     assert_kinds(&rt, world.received(0), &[OutcomeKind::Committed(0)]);
-    let ledger = world.into_ledger().ok().expect(&rt, "it is at rest");
-    check!(&rt; ledger.places() == 1);
+    let ledger = ledger_of(&rt, world);
+    must(&rt, ledger.places() == 1);
     drop(ledger);
 }
 
@@ -199,7 +203,7 @@ fn refused(rt: &impl Abort, alloc: Global, limit: u32, submitters: u32) -> Refus
             rt.panic("it is opened")
         }
         Err((ledger, refusal)) => {
-            check!(rt; ledger.opening() == 7);
+            must(rt, ledger.opening() == 7);
             drop(ledger);
             refusal
         }
@@ -208,10 +212,16 @@ fn refused(rt: &impl Abort, alloc: Global, limit: u32, submitters: u32) -> Refus
 
 #[test]
 fn world_over_openings(rt: HostRuntime) {
-    check!(&rt; refused(&rt, rt.alloc(), 0, 0) == Refusal::BadLimit);
-    check!(&rt; refused(&rt, rt.alloc(), 8191, 1) == Refusal::BadLimit);
-    check!(&rt; refused(&rt, rt.alloc(), 1, 0) == Refusal::BadSubmitters);
-    check!(&rt; refused(&rt, rt.alloc(), 1, 17) == Refusal::BadSubmitters);
+    must(&rt, refused(&rt, rt.alloc(), 0, 0) == Refusal::BadLimit);
+    must(&rt, refused(&rt, rt.alloc(), 8191, 1) == Refusal::BadLimit);
+    must(
+        &rt,
+        refused(&rt, rt.alloc(), 1, 0) == Refusal::BadSubmitters,
+    );
+    must(
+        &rt,
+        refused(&rt, rt.alloc(), 1, 17) == Refusal::BadSubmitters,
+    );
 }
 
 /// Six packets and a pulse, which are popped in two turns.
@@ -226,7 +236,7 @@ fn go_through_and_finish(rt: &impl Abort, alloc: Global, world: &mut World) -> b
     if world.finish().is_err() {
         return false;
     }
-    check!(rt; world.is_at_rest());
+    must(rt, world.is_at_rest());
     let replies = world.received(0);
     let kinds = SIX_PLACES.get(..replies.len()).expect(rt, "six at most");
     assert_kinds(rt, replies, kinds);
@@ -243,7 +253,7 @@ fn run_gone_through(rt: &impl Abort, alloc: Global) -> bool {
 
 #[test]
 fn gone_through_and_finished(rt: HostRuntime) {
-    check!(&rt; run_gone_through(&rt, rt.alloc()));
+    must(&rt, run_gone_through(&rt, rt.alloc()));
 }
 
 #[test]

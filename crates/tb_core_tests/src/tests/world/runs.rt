@@ -7,7 +7,7 @@ use std::alloc::Global;
 use std::process::Abort;
 use std::slice;
 use tb_layout::{Account, CLOCK_MAX, Failure, Transfer};
-use tb_test_makers::{OutcomeKind, SIX_PLACES, account, check, kind_of, transfer};
+use tb_test_makers::{OutcomeKind, SIX_PLACES, account, kind_of, must, transfer};
 use tb_work::{Item, Job, Refusal, Ticket};
 use tb_world::{Event, World, run_to_rest, run_world};
 
@@ -46,7 +46,7 @@ fn run_pulsed(rt: &impl Abort, alloc: Global) -> bool {
                 EntryKind::Batch(4),
             ];
             assert_entries(rt, world.ledger().journal(), &entries);
-            check!(rt; world.ledger().machine().clock() == 9);
+            must(rt, world.ledger().machine().clock() == 9);
             drop(world);
             true
         }
@@ -56,7 +56,7 @@ fn run_pulsed(rt: &impl Abort, alloc: Global) -> bool {
 
 #[test]
 fn pulse_between_batches(rt: HostRuntime) {
-    check!(&rt; run_pulsed(&rt, rt.alloc()));
+    must(&rt, run_pulsed(&rt, rt.alloc()));
 }
 
 #[test]
@@ -89,7 +89,7 @@ fn add_push(rt: &impl Abort, events: &mut Vec<Event>, job: Result<Job, Refusal>)
             events.push(Event::Push(Ticket { sender: 0, item })).is_ok()
         }
         Err(refusal) => {
-            check!(rt; refusal == Refusal::NoMemory);
+            must(rt, refusal == Refusal::NoMemory);
             false
         }
     }
@@ -137,11 +137,17 @@ fn assert_joined(rt: &impl Abort, world: &World) {
 /// Asserts that no account was debited or credited.
 fn assert_untouched(rt: &impl Abort, world: &World) {
     let machine = world.ledger().machine();
-    check!(rt; machine.clock() == 7);
+    must(rt, machine.clock() == 7);
     for made in &accounts() {
         let found = machine.account(made.id).expect(rt, "an account");
-        check!(rt; u128::from(found.timestamp) == made.id);
-        check!(rt; Account { timestamp: 0, ..found } == *made);
+        must(rt, u128::from(found.timestamp) == made.id);
+        must(
+            rt,
+            Account {
+                timestamp: 0,
+                ..found
+            } == *made,
+        );
     }
 }
 
@@ -165,7 +171,7 @@ fn run_joined(rt: &impl Abort, alloc: Global) -> bool {
 
 #[test]
 fn chains_of_transfers_joined(rt: HostRuntime) {
-    check!(&rt; run_joined(&rt, rt.alloc()));
+    must(&rt, run_joined(&rt, rt.alloc()));
 }
 
 #[test]
@@ -187,7 +193,7 @@ fn sixteen_events(rt: &(impl Abort + Alloc<A = Global>)) -> Vec<Event> {
         add_times(rt, &mut events, push, 1);
     }
     for _ in 0..4 {
-        check!(rt; add_words(rt, rt.alloc(), &mut events, FOUR));
+        must(rt, add_words(rt, rt.alloc(), &mut events, FOUR));
     }
     for sender in 0..16 {
         add_times(rt, &mut events, Step::ReplyPop(sender), 1);
@@ -204,7 +210,7 @@ fn sixteen_submitters(rt: HostRuntime) {
         assert_kinds(&rt, world.received(sender), &kinds);
     }
     assert_entries(&rt, world.ledger().journal(), &[EntryKind::Batch(4); 4]);
-    check!(&rt; world.ledger().machine().clock() == 16);
+    must(&rt, world.ledger().machine().clock() == 16);
     drop(world);
 }
 
@@ -222,7 +228,7 @@ fn add_times(
     times: u64,
 ) {
     for _ in 0..times {
-        check!(rt; add_step(rt, rt.alloc(), events, step));
+        must(rt, add_step(rt, rt.alloc(), events, step));
     }
 }
 
@@ -238,7 +244,7 @@ fn many_replies(rt: &(impl Abort + Alloc<A = Global>), events: &mut Vec<Event>) 
     }
     add_times(rt, events, Step::Pop, EMPTY);
     let through = "batch-push batch-pop outcome-push outcome-pop";
-    check!(rt; add_words(rt, rt.alloc(), events, through));
+    must(rt, add_words(rt, rt.alloc(), events, through));
     add_times(rt, events, Step::ReplyPush, EMPTY);
     add_times(rt, events, Step::ReplyPop(0), EMPTY);
 }
@@ -250,16 +256,19 @@ fn a_thousand_replies_and_many_pulses(rt: HostRuntime) {
     // Each pulse is committed before the next is pushed.
     for moment in 0..PULSES {
         add_times(&rt, &mut events, Step::Push(1, Made::Pulse(moment)), 1);
-        check!(&rt; add_words(&rt, rt.alloc(), &mut events, "pop batch-push batch-pop"));
+        must(
+            &rt,
+            add_words(&rt, rt.alloc(), &mut events, "pop batch-push batch-pop"),
+        );
     }
     let world = run_world(rt.alloc(), 0, 4, 1, events).expect(&rt, "memory");
     let replies = world.received(0);
-    check!(&rt; replies.len() as u64 == EMPTY);
+    must(&rt, replies.len() as u64 == EMPTY);
     for (place, reply) in replies.iter().enumerate() {
-        check!(&rt; kind_of(reply) == OutcomeKind::Committed(place as u64));
+        must(&rt, kind_of(reply) == OutcomeKind::Committed(place as u64));
     }
     let journal = world.ledger().journal();
-    check!(&rt; journal.len() as u64 == PULSES + 1);
+    must(&rt, journal.len() as u64 == PULSES + 1);
     assert_entries(&rt, &journal[..1], &[EntryKind::Batch(EMPTY as usize)]);
     for (moment, entry) in journal[1..].iter().enumerate() {
         assert_entries(
@@ -268,7 +277,7 @@ fn a_thousand_replies_and_many_pulses(rt: HostRuntime) {
             &[EntryKind::Pulse(moment as u64)],
         );
     }
-    check!(&rt; world.ledger().machine().clock() == PULSES - 1);
+    must(&rt, world.ledger().machine().clock() == PULSES - 1);
     drop(world);
 }
 
@@ -279,7 +288,7 @@ const PUSHES: &str =
 #[test]
 fn pushes_come_to_rest(rt: HostRuntime) {
     let mut events = Vec::new(rt.alloc());
-    check!(&rt; add_words(&rt, rt.alloc(), &mut events, PUSHES));
+    must(&rt, add_words(&rt, rt.alloc(), &mut events, PUSHES));
     let world = run_to_rest(rt.alloc(), 0, 4, 1, events).expect(&rt, "memory");
     assert_kinds(&rt, world.received(0), &SIX_PLACES);
     drop(world);
@@ -322,12 +331,15 @@ fn ten_thousand_packets_come_to_rest(rt: HostRuntime) {
     for sender in 0..16 {
         let replies = world.received(sender);
         let pushed = if sender == 0 { OF_THE_FIRST } else { EACH };
-        check!(&rt; replies.len() as u64 == pushed);
+        must(&rt, replies.len() as u64 == pushed);
         for (number, reply) in replies.iter().enumerate() {
-            check!(&rt; kind_of(reply) == OutcomeKind::Committed(place_in_turns(number as u64, sender)));
+            must(
+                &rt,
+                kind_of(reply) == OutcomeKind::Committed(place_in_turns(number as u64, sender)),
+            );
         }
     }
-    check!(&rt; world.ledger().machine().clock() == 7);
+    must(&rt, world.ledger().machine().clock() == 7);
     drop(world);
 }
 
@@ -336,7 +348,7 @@ fn no_events_are_at_rest(rt: HostRuntime) {
     let world = run_to_rest(rt.alloc(), CLOCK_MAX, 1, 1, Vec::new(rt.alloc())).expect(
         &rt, "memory",
     );
-    check!(&rt; world.ledger().places() == 0);
-    check!(&rt; world.ledger().machine().clock() == CLOCK_MAX);
+    must(&rt, world.ledger().places() == 0);
+    must(&rt, world.ledger().machine().clock() == CLOCK_MAX);
     drop(world);
 }
