@@ -21,9 +21,9 @@ const SLEEP_TURNS: u32 = 10_000;
 const MOST_PACKETS: u64 = 100_000;
 
 /// Opens a pipeline that nobody serves, so that no reply comes, and gives its run up while its clients sleep. Each of them is woken
-/// without a reply.
+/// without a reply. The queue has slots for the packets and the ends of sixteen.
 fn open_and_wake<R: Threads + Wait + Clock + Sync + Abort>(rt: &R, alloc: Global, clients: u32) {
-    let opened = opened(alloc, 4, 16, 1, clients).expect(rt, "it is opened");
+    let opened = opened(alloc, 4, 32, 1, clients).expect(rt, "it is opened");
     let stop = Stop::of(alloc, &opened.submitters).expect(rt, "memory");
     let Opened {
         pipeline,
@@ -41,7 +41,7 @@ fn open_and_wake<R: Threads + Wait + Clock + Sync + Abort>(rt: &R, alloc: Global
     thread::scope(thread::scope_env(), rt, |scope| {
         let sleepers = start_all(scope, rt, alloc, submitters, stop, waiting);
         ask_later(stop, SLEEP_TURNS);
-        have_all_ended(rt, sleepers);
+        check!(rt; have_all_ended(rt, sleepers));
     });
     drop(pipeline);
     drop(control);
