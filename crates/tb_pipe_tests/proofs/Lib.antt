@@ -1,3 +1,4 @@
 pub mod OnePacket
 pub mod Reading
+pub mod Submitters
 pub mod Together

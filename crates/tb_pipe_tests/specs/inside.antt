@@ -1,3 +1,4 @@
 -- What only proofs, private functions and invariants need.
 pub mod OnePacket
+pub mod Queue
 pub mod Together

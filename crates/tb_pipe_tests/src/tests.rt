@@ -1,18 +1,24 @@
 //! What no clause says of a run: when a driver is asked and what it receives, and what becomes of replies that it
 //! doesn't wait for.
+//!
+//! Some tests wait for ever if what they test is wrong. What runs the tests ends each after a minute as failed.
+
+ghost use Rattle.std.specs.Prelude.{List, []};
+ghost use Rattle.tb_drive.specs.clauses.Seen.{HaveSeen};
+ghost use Rattle.tb_submit.specs.clauses.Ends.{SubmitterState};
 
 use std::alloc::Global;
 use std::process::Abort;
 use std::sync::Wait;
-use std::sync::atomic::{AtomicBool, Ordering};
 use std::thread;
 use std::thread::Threads;
-use std::time::{Clock, Duration};
-use tb_drive::{Action, ControlPlan, Driver, PlanDriver};
+use std::time::Clock;
+use tb_core::{AnyLedger, Ledger};
+use tb_drive::{Action, ControlDriver, ControlPlan, Driver, PlanDriver};
 use tb_layout::{CREATE_ACCOUNTS, NoMemory};
-use tb_pipe::{Finished, drive_all, open};
+use tb_pipe::{Finished, drive_over, open};
 use tb_submit::Ended;
-use tb_test_makers::zeros;
+use tb_test_makers::{check, zeros};
 use tb_work::{Outcome, Packet, Refusal, Reply};
 
 mod numbers;
@@ -20,49 +26,12 @@ mod pipe;
 mod reading;
 mod replies;
 mod responses;
+mod submit;
 mod turns;
 mod waking;
 
 /// More replies than a submitter of these tests has packets.
 const MOST_REPLIES: u32 = 100;
-
-/// How many milliseconds a test may take that would wait for ever if what it tests is wrong.
-const MOST_MILLISECONDS: u32 = 60_000;
-
-/// Ends the test as failed if something isn't done in time.
-fn watch<R: Abort + Clock>(rt: &R, is_done: &AtomicBool) {
-    for _ in 0..MOST_MILLISECONDS {
-        if is_done.load(Ordering::SeqCst) {
-            return;
-        }
-        thread::sleep(rt, Duration::from_millis(1));
-    }
-    rt.panic("a thread waits for ever")
-}
-
-/// Does the work, which may hang; the test ends as failed if it does.
-fn in_time<R: Threads + Wait + Sync + Abort + Clock, T: Drop, F: FnOnce() -> T>(
-    rt: &R,
-    work: F,
-) -> T
-    requires { F.IsAlwaysCallable work }
-{
-    let is_done = AtomicBool::new(false);
-    let is_done = &is_done;
-    thread::scope(
-        thread::scope_env(),
-        rt,
-        |scope| -> T
-            requires { F.IsAlwaysCallable work }
-        {
-            let watcher = scope.spawn(move || watch(rt, is_done)).ok();
-            let result = work();
-            is_done.store(true, Ordering::SeqCst);
-            watcher.expect(rt, "a thread can be started").join(rt);
-            result
-        },
-    )
-}
 
 /// What a driver does next.
 #[derive(Clone, Copy)]
@@ -173,6 +142,34 @@ impl Driver for Noter {
     }
 }
 
+/// Runs a pipeline of this limit, capacity and credit over a ledger, with a submitter for each driver. Gives up if it can't be run.
+fn run_over<R, L, D, C>(
+    rt: &R,
+    alloc: Global,
+    sizes: (u32, u32, u32),
+    ledger: L,
+    drivers: Vec<D>,
+    control: C,
+) -> Finished<D, C, L>
+where
+    R: Threads + Wait + Clock + Sync + Abort,
+    L: AnyLedger + Send,
+    D: Driver + Send,
+    C: ControlDriver + Send,
+    requires seen { (submitters : List SubmitterState) → HaveSeen D.has_seen drivers.items submitters }
+    requires queued { C.has_queued control control [] }
+{
+    let submitters = u32::try_from(drivers.len()).expect(rt, "few drivers");
+    let opened = open(alloc, 0, sizes.0, sizes.1, sizes.2, submitters).expect(rt, "it is opened");
+    let Ok(opened) = opened.over(ledger) else {
+        rt.panic("the ledger has stopped")
+    };
+    match drive_over(rt, alloc, opened, drivers, control) {
+        Ok(finished) => finished,
+        Err(_) => rt.panic("the run is given up"),
+    }
+}
+
 /// Runs a pipeline with a submitter for each driver, without a pulse or a Close.
 fn run<R: Threads + Wait + Clock + Sync + Abort>(
     rt: &R,
@@ -182,13 +179,15 @@ fn run<R: Threads + Wait + Clock + Sync + Abort>(
     credit: u32,
     drivers: Vec<Noter>,
 ) -> Finished<Noter, PlanDriver> {
-    let submitters = u32::try_from(drivers.len()).expect(rt, "few drivers");
-    let opened = open(alloc, 0, limit, capacity, credit, submitters).expect(rt, "it is opened");
-    let control = ControlPlan::none(alloc).driver();
-    match drive_all(rt, alloc, opened, drivers, control) {
-        Ok(finished) => finished,
-        Err(_) => rt.panic("the run is given up"),
-    }
+    let (sizes, ledger) = ((limit, capacity, credit), Ledger::new(alloc, 0));
+    run_over(
+        rt,
+        alloc,
+        sizes,
+        ledger,
+        drivers,
+        ControlPlan::none(alloc).driver(),
+    )
 }
 
 /// What was seen of a submitter in a run: by its driver, and of the replies that its end still has.
@@ -215,17 +214,24 @@ fn replies_left(rt: &impl Abort, alloc: Global, ended: &mut Ended) -> Vec<Option
 /// Returns what was seen of each submitter, the drivers and the ends both in the order in which they came back.
 fn seen_in(rt: &impl Abort, alloc: Global, finished: Finished<Noter, PlanDriver>) -> Vec<Seen> {
     let mut seen = Vec::new(alloc);
-    let report = finished.report;
-    for (driver, mut ended) in finished.drivers.into_iter().zip(report.ends) {
-        let left = replies_left(rt, alloc, &mut ended);
-        drop(ended);
+    let Finished {
+        drivers,
+        mut report,
+        ..
+    } = finished;
+    check!(rt; drivers.len() == report.ends.len());
+    let mut submitter = 0usize;
+    for driver in drivers {
+        let ended = report.ends.get_mut(submitter).expect(rt, "an end");
         let one = Seen {
             user: driver.user,
+            left: replies_left(rt, alloc, ended),
             by_driver: driver.saw,
-            left,
         };
         seen.push(one).expect(rt, "memory");
+        submitter = submitter.saturating_add(1);
     }
+    drop(report);
     seen
 }
 

@@ -7,7 +7,7 @@
 //! Each end has a `Sleeper`. The taker waits for a value, and each `give` wakes it; the giver waits for a slot, and each `take` wakes
 //! it. Whoever waits for something else polls (`PollWait`). No clause speaks of waiting: `no_wake_up_is_lost` and `waking_ends` are laws of a model of it (`specs/clauses/Waking.antt`).
 //!
-//! `ring_of_two` in tb_submit_tests is an example that the gate compiles.
+//! `ring_of_two` in tb_pipe_tests is an example that the gate compiles.
 #![tactic(auto)]
 
 mod laws;

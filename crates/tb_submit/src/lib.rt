@@ -12,7 +12,7 @@
 //! sender's part, exactly what that sender pushed, so no thread has to trust another. They begin with what was queued up to
 //! any sender's last push.
 //!
-//! `credit_of_three` in tb_submit_tests is an example that the gate compiles.
+//! `credit_of_three` in tb_pipe_tests is an example that the gate compiles.
 #![tactic(auto)]
 
 mod control;

@@ -21,6 +21,7 @@ use tb_test_makers::{OutcomeKind, account, accounts_packet, check, kind_of};
 use tb_work::{Outcome, Packet, Refusal, Reply};
 
 mod ahead;
+mod beside;
 mod blocked;
 mod clients;
 mod controls;
@@ -110,23 +111,12 @@ fn lone_of(opened: Opened) -> Lone
     }
 }
 
-/// Returns a pipeline of one submitter, with clock 0, or why it isn't opened.
-fn opened_lone(alloc: Global, limit: u32, capacity: u32, credit: u32) -> Result<Lone, Refusal>
-    ensures together { IfOk result (λ lone. AreTogether lone.pipeline (lone.submitter ∷ []) lone.control) }
-    ensures as_asked { IfOk result (λ lone. IsOpenedAs 0 limit 1 lone.pipeline) }
-{
-    Ok(lone_of(opened(alloc, limit, capacity, credit, 1)?))
-}
-
-/// Returns the same with ample memory.
+/// Returns a pipeline of one submitter, with clock 0.
 fn open_lone(rt: &impl Abort, alloc: Global, limit: u32, capacity: u32, credit: u32) -> Lone
     ensures together { AreTogether result.pipeline (result.submitter ∷ []) result.control }
     ensures as_asked { IsOpenedAs 0 limit 1 result.pipeline }
 {
-    match opened_lone(alloc, limit, capacity, credit) {
-        Ok(lone) => lone,
-        Err(_) => rt.panic("it isn't opened"),
-    }
+    lone_of(opened(alloc, limit, capacity, credit, 1).expect(rt, "it is opened"))
 }
 
 /// Submits a packet: its number. If it is refused it comes back.

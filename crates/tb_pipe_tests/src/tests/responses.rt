@@ -10,6 +10,7 @@ use tb_blocking::Client;
 use tb_drive::{Action, ControlPlan, Driver, Stop};
 use tb_layout::NoMemory;
 use tb_pipe::{drive_all, open};
+use tb_submit::Submitter;
 use tb_test_makers::check;
 use tb_work::{Packet, Refusal, Reply};
 
@@ -118,20 +119,56 @@ fn refusal_by_driver<R: Threads + Wait + Clock + Sync>(rt: &R, alloc: Global) ->
         return None;
     };
     let control = ControlPlan::none(alloc).driver();
-    let finished = drive_all(rt, alloc, opened, drivers, control).ok()?;
-    finished.drivers.first()?.refusal
+    let Ok(finished) = drive_all(rt, alloc, opened, drivers, control) else {
+        return None;
+    };
+    let mut refusal = None;
+    for asker in &finished.drivers {
+        refusal = asker.refusal;
+    }
+    drop(finished);
+    refusal
+}
+
+/// Returns the refusal of a client's packet; None if there is none.
+fn refusal_of_packet<R: Wait + Clock>(
+    rt: &R,
+    alloc: Global,
+    client: &mut Client<'_>,
+) -> Option<Refusal> {
+    let packet = packet_of_three(alloc).ok()?;
+    match client.submit(rt, alloc, packet) {
+        Ok(_) => None,
+        Err((packet, refusal)) => {
+            drop(packet);
+            Some(refusal)
+        }
+    }
+}
+
+/// Returns the refusal of the packet of a client in place of the last submitter; None if there is none, or no client.
+fn refusal_of_last<R: Wait + Clock>(
+    rt: &R,
+    alloc: Global,
+    submitters: &mut Vec<Submitter>,
+) -> Option<Refusal> {
+    let stop = Stop::of(alloc, submitters).ok()?;
+    let submitter = submitters.pop()?;
+    let mut client = Client::new(submitter, &stop);
+    let refusal = refusal_of_packet(rt, alloc, &mut client);
+    drop(client);
+    drop(stop);
+    refusal
 }
 
 /// Returns the refusal of a client's packet; None if there is none, or no client.
 fn refusal_of_client<R: Wait + Clock>(rt: &R, alloc: Global) -> Option<Refusal> {
-    let mut opened = open(alloc, 0, 4, 4, 4, 1).ok()?;
-    let stop = Stop::of(alloc, &opened.submitters).ok()?;
-    let mut client = Client::new(opened.submitters.pop()?, &stop);
-    let packet = packet_of_three(alloc).ok()?;
-    client
-        .submit(rt, alloc, packet)
-        .err()
-        .map(|refused| refused.1)
+    let Ok(mut opened) = open(alloc, 0, 4, 4, 4, 1) else {
+        return None;
+    };
+    let refusal = refusal_of_last(rt, alloc, &mut opened.submitters);
+    drop(opened);
+    refusal
 }
 
 /// Prints that memory ran out for a packet. The only other refusal is that it did for a commit.

@@ -1,14 +1,14 @@
 //! A control whose driver decides by itself when to pulse.
 
-use super::packet_of;
+use super::{packet_of, run_over};
 use std::alloc::Global;
 use std::process::Abort;
 use std::sync::Wait;
 use std::sync::atomic::{AtomicU32, Ordering};
 use std::thread;
+use tb_core::Ledger;
 use tb_drive::{Action, ControlAction, ControlDriver, Driver};
 use tb_layout::CREATE_ACCOUNTS;
-use tb_pipe::{drive_all, open};
 use tb_test_makers::check;
 use tb_work::{Outcome, Refusal, Reply};
 
@@ -111,10 +111,14 @@ fn pulses_in_turn_with_packets(rt: HostRuntime) {
     };
     let mut drivers = Vec::new(alloc);
     drivers.push(submits).expect(&rt, "memory");
-    let opened = open(alloc, 0, 4, 64, 16, 1).expect(&rt, "it is opened");
-    let Ok(finished) = drive_all(&rt, alloc, opened, drivers, pulser) else {
-        rt.panic("the run is given up")
-    };
+    let finished = run_over(
+        &rt,
+        alloc,
+        (4, 64, 16),
+        Ledger::new(alloc, 0),
+        drivers,
+        pulser,
+    );
     check!(&rt; finished.control.responses.as_slice() == [Ok(()), Ok(()), Ok(())].as_slice());
     check!(&rt; finished.drivers.len() == 1);
     check!(&rt; finished.drivers[0].places.as_slice() == [1u64, 3, 5].as_slice());

@@ -1,6 +1,6 @@
 //! Threads that sleep are woken: a wake-up that is lost ends no test, since its thread sleeps for ever.
 
-use super::packet_of;
+use super::{packet_of, run_over};
 use std::alloc::Global;
 use std::process::Abort;
 use std::sync::Wait;
@@ -10,7 +10,7 @@ use std::time::Clock;
 use tb_core::Ledger;
 use tb_drive::{Action, ControlPlan, Driver};
 use tb_layout::CREATE_ACCOUNTS;
-use tb_pipe::{Finished, Report, drive_all, open};
+use tb_pipe::{Finished, Report};
 use tb_test_makers::check;
 use tb_work::{Refusal, Reply};
 
@@ -117,20 +117,21 @@ fn ledger_after<R: Threads + Wait + Clock + Sync + Abort>(
     ledger: Ledger,
     load: Load,
 ) -> Ledger {
-    check!(rt; !ledger.stopped());
     let places = ledger.places();
     let drivers = load.drivers(rt, alloc);
-    let submitters = u32::try_from(drivers.len()).expect(rt, "few drivers");
-    let mut opened = open(alloc, 0, 4, 8, load.credit, submitters).expect(rt, "it is opened");
-    opened.pipeline = opened.pipeline.with_ledger(ledger);
     let mut control = ControlPlan::none(alloc);
     control
         .moments
         .resize(load.pulses as usize, 1)
         .expect(rt, "memory");
-    let Ok(finished) = drive_all(rt, alloc, opened, drivers, control.driver()) else {
-        rt.panic("the run is given up")
-    };
+    let finished = run_over(
+        rt,
+        alloc,
+        (4, 8, load.credit),
+        ledger,
+        drivers,
+        control.driver(),
+    );
     check!(rt; finished.drivers.len() == load.seeds as usize);
     for driver in &finished.drivers {
         check!(rt; driver.replies == load.packets);

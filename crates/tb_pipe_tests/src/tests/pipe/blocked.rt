@@ -1,9 +1,10 @@
-//! Calls that wait for a slot or a reply in a pipeline that nobody serves: they return once the run is given up, whenever that is.
+//! Calls that wait for a slot or a reply in a pipeline that nobody serves: they return once the run is given up, whenever that is. So do
+//! those that are made afterwards.
 
-use super::clients::{exchange, receive, submit};
+use super::clients::{exchange, open_narrow, receive, submit};
+use super::narrow::stop_after;
 use super::stops::ask_later;
-use super::{opened, packet_of};
-use crate::tests::in_time;
+use super::{Lone, opened, packet_of};
 use std::alloc::Global;
 use std::process::Abort;
 use std::sync::Wait;
@@ -34,6 +35,17 @@ enum Blocked {
     Pulse,
     ControlEnd,
     Shut,
+    /// It gives the run up itself, and then calls.
+    Late(Late),
+}
+
+/// What is called once the run is given up. All but the exchange find the queue full.
+#[derive(Clone, Copy)]
+enum Late {
+    Client,
+    Exchange,
+    ControlEnd,
+    Shut,
 }
 
 const CALLS: [Blocked; 7] = [
@@ -46,8 +58,65 @@ const CALLS: [Blocked; 7] = [
     Blocked::Shut,
 ];
 
-/// Fills the queue with packets and pulses in turn, and then makes the call. Returns whether it says that the run is given up. A
-/// reply is waited for twice: only the first time a waker is used.
+/// Fills slots of the queue with packets and pulses in turn.
+fn fill<R: Wait + Clock + Abort>(
+    rt: &R,
+    alloc: Global,
+    client: &mut Client<'_>,
+    control: &mut ControlClient<'_>,
+    slots: u32,
+) {
+    for slot in 0..slots {
+        if slot % 2 == 0 {
+            check!(rt; submit(rt, alloc, client, 0) == Ok(u64::from(slot / 2)));
+        } else {
+            check!(rt; control.pulse(rt, 1) == Ok(()));
+        }
+    }
+}
+
+/// Calls of a client whose run is given up, while nobody serves: its packet finds no slot, and no reply comes.
+fn calls_late<R: Wait + Clock + Abort>(
+    rt: &R,
+    alloc: Global,
+    client: &mut Client<'_>,
+    control: &mut ControlClient<'_>,
+) {
+    check!(rt; submit(rt, alloc, client, 2) == Err(Refusal::Full));
+    check!(rt; client.queued() == 1);
+    check!(rt; receive(rt, client).is_none());
+    check!(rt; client.in_flight() == 1);
+    check!(rt; control.pulse(rt, 2) == Err(Refusal::Full));
+    check!(rt; control.queued() == 1);
+}
+
+/// Gives a run up that nobody serves, and then makes the calls. Returns whether the last of them says so. An exchange queues its packet,
+/// since a slot is free.
+fn is_given_up<R: Wait + Clock + Abort>(
+    rt: &R,
+    alloc: Global,
+    client: Client<'_>,
+    control: ControlClient<'_>,
+    stop: &Stop,
+    call: Late,
+) -> bool {
+    let (mut client, mut control) = (client, control);
+    check!(rt; !stop.is_given_up());
+    stop.give_up();
+    check!(rt; stop.is_given_up());
+    if matches!(call, Late::Exchange) {
+        return exchange(rt, alloc, &mut client, 1) == Ok(None);
+    }
+    calls_late(rt, alloc, &mut client, &mut control);
+    match call {
+        Late::Client => client.end(rt).is_none(),
+        Late::ControlEnd => control.end(rt).is_none(),
+        _ => control.shut(rt).is_none(),
+    }
+}
+
+/// Fills the queue, unless a slot is to be free, and then makes the call. Returns whether it says that the run is given up. A reply is
+/// waited for twice: only the first time a waker is used.
 fn gives_up<R: Wait + Clock + Abort>(
     rt: &R,
     alloc: Global,
@@ -59,12 +128,8 @@ fn gives_up<R: Wait + Clock + Abort>(
 ) -> bool {
     let mut client = Client::new(submitter, stop);
     let mut control = ControlClient::new(control, stop);
-    for slot in 0..slots {
-        if slot % 2 == 0 {
-            check!(rt; submit(rt, alloc, &mut client, 0) == Ok(u64::from(slot / 2)));
-        } else {
-            check!(rt; control.pulse(rt, 1) == Ok(()));
-        }
+    if !matches!(call, Blocked::Late(Late::Exchange)) {
+        fill(rt, alloc, &mut client, &mut control, slots);
     }
     match call {
         Blocked::Submit => submit(rt, alloc, &mut client, 0) == Err(Refusal::Full),
@@ -76,36 +141,31 @@ fn gives_up<R: Wait + Clock + Abort>(
         Blocked::Pulse => control.pulse(rt, 1) == Err(Refusal::Full),
         Blocked::ControlEnd => control.end(rt).is_none(),
         Blocked::Shut => control.shut(rt).is_none(),
+        Blocked::Late(late) => is_given_up(rt, alloc, client, control, stop, late),
     }
 }
 
-/// Makes a call in a thread of its own while another gives the run up. Returns whether the call says so.
+/// Makes a call in a thread of its own while another gives the run up, if it is to. Returns whether the call says so.
 fn call_and_stop<R: Threads + Wait + Clock + Sync + Abort>(
     rt: &R,
     alloc: Global,
     slots: u32,
-    turns: u32,
+    turns: Option<u32>,
     call: Blocked,
 ) -> bool {
-    let opened = opened(alloc, 4, slots, 1_001, 1).expect(rt, "it is opened");
-    let stop = Stop::of(alloc, &opened.submitters).expect(rt, "memory");
-    let Opened {
+    let (lone, stop) = open_narrow(rt, alloc, slots, 1_001);
+    let Lone {
         pipeline,
-        mut submitters,
+        submitter,
         control,
-    } = opened;
-    let submitter = submitters.pop().expect(rt, "a submitter");
+    } = lone;
     let stop = &stop;
-    let gives_up = thread::scope(thread::scope_env(), rt, |scope| -> bool {
-        let caller = scope
-            .spawn(move || gives_up(rt, alloc, submitter, control, stop, slots, call))
-            .ok()
-            .expect(rt, "a thread can be started");
-        ask_later(stop, turns);
-        caller.join(rt)
-    });
+    let (gives_up, ()) = thread::join(
+        rt,
+        move || gives_up(rt, alloc, submitter, control, stop, slots, call),
+        || stop_after(stop, turns),
+    );
     drop(pipeline);
-    drop(submitters);
     gives_up
 }
 
@@ -114,9 +174,17 @@ fn calls_return_once_the_run_is_given_up(rt: HostRuntime) {
     for slots in SLOTS {
         for turns in TURNS {
             for call in CALLS {
-                check!(&rt; in_time(&rt, || call_and_stop(&rt, rt.alloc(), slots, turns, call)));
+                check!(&rt; call_and_stop(&rt, rt.alloc(), slots, Some(turns), call));
             }
         }
+    }
+}
+
+/// The queue has two slots.
+#[test]
+fn calls_of_a_run_that_is_given_up(rt: HostRuntime) {
+    for late in [Late::Client, Late::Exchange, Late::ControlEnd, Late::Shut] {
+        check!(&rt; call_and_stop(&rt, rt.alloc(), 2, None, Blocked::Late(late)));
     }
 }
 
@@ -218,7 +286,7 @@ const BUSY: [(u32, Then); 6] = [
 fn drivers_return_once_the_run_is_given_up(rt: HostRuntime) {
     for (slots, then) in BUSY {
         for turns in TURNS {
-            let fault = in_time(&rt, || drive_and_stop(&rt, rt.alloc(), slots, turns, then));
+            let fault = drive_and_stop(&rt, rt.alloc(), slots, turns, then);
             check!(&rt; fault == Some(DriveFault::NoThread));
         }
     }

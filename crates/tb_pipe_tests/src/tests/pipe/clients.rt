@@ -1,4 +1,4 @@
-//! Clients: their calls in a run that is served, and once it is given up.
+//! Clients: their calls in a run that is served.
 
 ghost use Rattle.std.specs.Prelude.{◌≡◌, ◌∷◌, []};
 ghost use Rattle.tb_submit.specs.clauses.Ends.{control_seat, origin_of};
@@ -20,11 +20,11 @@ use tb_pipe::{Open, Report, settle};
 use tb_test_makers::{OutcomeKind, check};
 use tb_work::Refusal;
 
-/// Opens a pipeline for one submitter, whose queue has one slot.
-pub(super) fn open_narrow(rt: &impl Abort, alloc: Global, credit: u32) -> (Lone, Stop)
+/// Opens a pipeline for one submitter, whose queue has few slots.
+pub(super) fn open_narrow(rt: &impl Abort, alloc: Global, slots: u32, credit: u32) -> (Lone, Stop)
     ensures { AreTogether result.0.pipeline (result.0.submitter ∷ []) result.0.control }
 {
-    let opened = opened(alloc, 4, 1, credit, 1).expect(rt, "it is opened");
+    let opened = opened(alloc, 4, slots, credit, 1).expect(rt, "it is opened");
     let stop = Stop::of(alloc, &opened.submitters).expect(rt, "memory");
     (lone_of(opened), stop)
 }
@@ -131,50 +131,8 @@ fn serve_trade<R: Threads + Wait + Clock + Sync + Abort>(
 
 #[test]
 fn client_with_one_slot_and_one_credit(rt: HostRuntime) {
-    let (lone, stop) = open_narrow(&rt, rt.alloc(), 1);
+    let (lone, stop) = open_narrow(&rt, rt.alloc(), 1, 1);
     let report = serve_trade(&rt, rt.alloc(), lone, &stop);
     assert_run(&rt, report, 4, &[]);
-    drop(stop);
-}
-
-/// The queue's one slot is taken by the first packet, and nobody serves.
-#[test]
-fn client_of_a_run_that_is_given_up(rt: HostRuntime) {
-    let (lone, stop) = open_narrow(&rt, rt.alloc(), 2);
-    let Lone {
-        pipeline,
-        submitter,
-        control,
-    } = lone;
-    let mut client = Client::new(submitter, &stop);
-    check!(&rt; submit(&rt, rt.alloc(), &mut client, 1) == Ok(0));
-    check!(&rt; !stop.is_given_up());
-    stop.give_up();
-    check!(&rt; stop.is_given_up());
-    check!(&rt; submit(&rt, rt.alloc(), &mut client, 2) == Err(Refusal::Full));
-    check!(&rt; client.queued() == 1);
-    check!(&rt; receive(&rt, &mut client).is_none());
-    check!(&rt; client.in_flight() == 1);
-    check!(&rt; client.end(&rt).is_none());
-    drop(pipeline);
-    drop(control);
-    drop(stop);
-}
-
-/// The packet is queued, since a slot is free.
-#[test]
-fn exchange_in_a_run_that_is_given_up(rt: HostRuntime) {
-    let (lone, stop) = open_narrow(&rt, rt.alloc(), 1);
-    let Lone {
-        pipeline,
-        submitter,
-        control,
-    } = lone;
-    let mut client = Client::new(submitter, &stop);
-    stop.give_up();
-    check!(&rt; exchange(&rt, rt.alloc(), &mut client, 1) == Ok(None));
-    drop(client);
-    drop(pipeline);
-    drop(control);
     drop(stop);
 }

@@ -1,4 +1,4 @@
-//! The control in a thread of its own: its calls in a run that is served, and once it is given up.
+//! The control in a thread of its own: its calls in a run that is served.
 
 ghost use Rattle.std.specs.Prelude.{◌≡◌, ◌∷◌, [], IfSome, map};
 ghost use Rattle.tb_submit.specs.clauses.Ends.{control_seat, end_origin};
@@ -75,7 +75,7 @@ fn serve_pulses<R: Threads + Wait + Clock + Sync + Abort>(
 /// The submitter's end is in the queue's only slot until the pipeline is served.
 #[test]
 fn control_in_a_thread_with_one_slot(rt: HostRuntime) {
-    let (lone, stop) = open_narrow(&rt, rt.alloc(), 1);
+    let (lone, stop) = open_narrow(&rt, rt.alloc(), 1, 1);
     let Lone {
         pipeline,
         submitter,
@@ -143,35 +143,4 @@ fn control_that_shuts_in_a_thread(rt: HostRuntime) {
     let lone = open_lone(&rt, rt.alloc(), 4, 4, 1);
     let report = serve_shut(&rt, rt.alloc(), lone);
     assert_run(&rt, report, 0, &[OutcomeKind::Shutdown]);
-}
-
-/// Gives up a run that nobody serves, while a pulse is in the queue's only slot. The next pulse is refused, and the control can't end.
-fn assert_given_up<R: Wait + Clock + Abort>(rt: &R, alloc: Global, shuts: bool) {
-    let (lone, stop) = open_narrow(rt, alloc, 1);
-    let Lone {
-        pipeline,
-        submitter,
-        control,
-    } = lone;
-    let mut control = ControlClient::new(control, &stop);
-    pulse(rt, &mut control, 1);
-    stop.give_up();
-    check!(rt; control.pulse(rt, 2) == Err(Refusal::Full));
-    check!(rt; control.queued() == 1);
-    let end = if shuts {
-        control.shut(rt)
-    } else {
-        control.end(rt)
-    };
-    check!(rt; end.is_none());
-    drop(pipeline);
-    drop(submitter);
-    drop(stop);
-}
-
-#[test]
-fn control_of_a_run_that_is_given_up(rt: HostRuntime) {
-    for shuts in [false, true] {
-        assert_given_up(&rt, rt.alloc(), shuts);
-    }
 }

@@ -12,6 +12,7 @@ use std::time::Clock;
 use tb_core::{AnyLedger, BareLedger, Ledger, Seed};
 use tb_drive::{Action, ControlPlan, Driver};
 use tb_layout::Transfer;
+use tb_machine::Machine;
 use tb_pipe::{Finished, Open, Report, drive_over, open, submit_ahead};
 use tb_submit::Ended;
 use tb_test_makers::{account, accounts_packet, check};
@@ -217,19 +218,31 @@ fn run_clerks<R: Threads + Wait + Clock + Sync + Abort, L: AnyLedger + Send>(
     (ledger, made, existing)
 }
 
-/// Each run has 3,200 packets of transfers and one of accounts, 3,201 that succeed in the first. All that the second one posts
-/// was made in the first: 46 is `exists`, and the accounts fail with 21.
+/// Runs the clerks twice over a ledger, and returns it. Each run has 3,200 packets of transfers and one of accounts, 3,201 that succeed in
+/// the first. All that the second one posts was made in the first: 46 is `exists`, and the accounts fail with 21.
+fn run_twice<R: Threads + Wait + Clock + Sync + Abort, L: AnyLedger + Send>(
+    rt: &R,
+    alloc: Global,
+    ledger: L,
+) -> L {
+    let (ledger, made, existing) = run_clerks(rt, alloc, ledger, 0);
+    check!(rt; (made, existing) == (3201, 0));
+    let (ledger, made, existing) = run_clerks(rt, alloc, ledger, 3201);
+    check!(rt; (made, existing) == (0, 3200));
+    ledger
+}
+
+/// Asserts that the two runs have 3,201 places each, and that account 1 was debited once by each transfer.
+fn assert_twice(rt: &impl Abort, places: u64, machine: &Machine) {
+    check!(rt; places == 6402);
+    let first = machine.account(1).expect(rt, "account 1");
+    check!(rt; (first.debits_posted, first.credits_posted) == (3200, 0));
+}
+
 #[test]
 fn sixteen_submitters_twice(rt: HostRuntime) {
-    let ledger = Ledger::new(rt.alloc(), 0);
-    let (ledger, made, existing) = run_clerks(&rt, rt.alloc(), ledger, 0);
-    check!(&rt; (made, existing) == (3201, 0));
-    check!(&rt; ledger.places() == 3201);
-    let (ledger, made, existing) = run_clerks(&rt, rt.alloc(), ledger, 3201);
-    check!(&rt; (made, existing) == (0, 3200));
-    check!(&rt; ledger.places() == 6402);
-    let first = ledger.machine().account(1).expect(&rt, "account 1");
-    check!(&rt; (first.debits_posted, first.credits_posted) == (3200, 0));
+    let ledger = run_twice(&rt, rt.alloc(), Ledger::new(rt.alloc(), 0));
+    assert_twice(&rt, ledger.places(), ledger.machine());
     drop(ledger);
 }
 
@@ -237,13 +250,7 @@ fn sixteen_submitters_twice(rt: HostRuntime) {
 #[test]
 fn sixteen_submitters_twice_without_a_journal(rt: HostRuntime) {
     let ledger = BareLedger::with_seed(rt.alloc(), 0, Seed::default());
-    let (ledger, made, existing) = run_clerks(&rt, rt.alloc(), ledger, 0);
-    check!(&rt; (made, existing) == (3201, 0));
-    check!(&rt; ledger.places() == 3201);
-    let (ledger, made, existing) = run_clerks(&rt, rt.alloc(), ledger, 3201);
-    check!(&rt; (made, existing) == (0, 3200));
-    check!(&rt; ledger.places() == 6402);
-    let first = ledger.machine().account(1).expect(&rt, "account 1");
-    check!(&rt; (first.debits_posted, first.credits_posted) == (3200, 0));
+    let ledger = run_twice(&rt, rt.alloc(), ledger);
+    assert_twice(&rt, ledger.places(), ledger.machine());
     drop(ledger);
 }

@@ -5,9 +5,7 @@ ghost use Rattle.tb_submit.specs.clauses.Ends.{origin_of, end_origin, control_se
 ghost use Rattle.tb_pipe_tests.specs.inside.Together.{AreTogether, IsRun};
 
 use super::gates::Counted;
-use super::{
-    Lone, MOST_TURNS, clock, end_all, opened, outcome_kind, packet_of, put, queue, submit,
-};
+use super::{MOST_TURNS, clock, end_all, opened, outcome_kind, packet_of, put, queue, submit};
 use std::alloc::Global;
 use std::process::Abort;
 use std::snapshot::Snapshot;
@@ -342,33 +340,12 @@ pub(super) fn run<R: Threads + Wait + Clock + Sync + Abort>(
     )
 }
 
-/// Returns a lone submitter as it is to be driven, with capacity for its end.
-pub(super) fn drive_lone(lone: Lone, ends: Vec<Ended>) -> Driving
-    requires together { AreTogether lone.pipeline (lone.submitter ∷ []) lone.control }
-    requires none { ends.items ≡ [] }
+/// Has all submitters but the last end at once.
+pub(super) fn driving_of<R: Wait + Clock + Abort>(rt: &R, alloc: Global, opened: Opened) -> Driving
+    requires { AreTogether opened.pipeline opened.submitters.items opened.control }
     ensures own { map end_origin result.ends.items ++ origin_of result.last ∷ [] ≡ result.pipeline.submitters }
     ensures control { result.control.seat ≡ control_seat result.pipeline.intake }
 {
-    Driving {
-        pipeline: lone.pipeline,
-        ends,
-        last: lone.submitter,
-        control: lone.control,
-    }
-}
-
-/// Opens a pipeline whose submitters but the last end at once.
-fn opened_driving<R: Wait + Clock + Abort>(
-    rt: &R,
-    alloc: Global,
-    capacity: u32,
-    credit: u32,
-    submitters: u32,
-) -> Driving
-    ensures own { map end_origin result.ends.items ++ origin_of result.last ∷ [] ≡ result.pipeline.submitters }
-    ensures control { result.control.seat ≡ control_seat result.pipeline.intake }
-{
-    let opened = opened(alloc, 4, capacity, credit, submitters).expect(rt, "it is opened");
     let Opened {
         pipeline,
         mut submitters,
@@ -382,6 +359,21 @@ fn opened_driving<R: Wait + Clock + Abort>(
         last,
         control,
     }
+}
+
+/// Opens a pipeline whose submitters but the last end at once.
+pub(super) fn opened_driving<R: Wait + Clock + Abort>(
+    rt: &R,
+    alloc: Global,
+    capacity: u32,
+    credit: u32,
+    submitters: u32,
+) -> Driving
+    ensures own { map end_origin result.ends.items ++ origin_of result.last ∷ [] ≡ result.pipeline.submitters }
+    ensures control { result.control.seat ≡ control_seat result.pipeline.intake }
+{
+    let opened = opened(alloc, 4, capacity, credit, submitters);
+    driving_of(rt, alloc, opened.expect(rt, "it is opened"))
 }
 
 /// Compares what the driver saw, the clock after the run, and how many batches the gate saw and let through.

@@ -1,5 +1,6 @@
 //! Figures of runs: at their end what the report says, and before it numbers that only rise.
 
+use crate::tests::run_over;
 use std::alloc::Global;
 use std::process::Abort;
 use std::sync::Wait;
@@ -11,7 +12,7 @@ use tb_core::{AnyLedger, BareLedger, Ledger, Parcel, Seed};
 use tb_drive::{Action, ControlPlan, Driver};
 use tb_figures::{CountedDriver, CountedLedger, Figures, FiguresRead, SubmitterFigures};
 use tb_layout::CREATE_ACCOUNTS;
-use tb_pipe::{Finished, Report, drive_over, open};
+use tb_pipe::{Finished, Report};
 use tb_test_makers::{account, accounts_packet, check, job};
 use tb_work::{Moment, Outcome, Refusal, Reply};
 
@@ -115,32 +116,51 @@ fn run_senders<R: Threads + Wait + Clock + Sync + Abort, L: AnyLedger + Send>(
 ) -> CountedLedger<L> {
     let senders = senders(rt, alloc, figures);
     check!(rt; senders.len() == 16);
-    let opened = match open(alloc, 0, 64, 32, CREDIT, SENDERS) {
-        Ok(opened) => opened,
-        Err(_) => rt.panic("it isn't opened"),
-    };
-    let opened = match opened.over(ledger) {
-        Ok(opened) => opened,
-        Err(_) => rt.panic("it has stopped"),
-    };
     let mut control = ControlPlan::none(alloc);
     control.moments.resize(PULSES, 1).expect(rt, "memory");
-    let finished = drive_over(rt, alloc, opened, senders, control.driver())
-        .ok()
-        .expect(rt, "it ran");
+    let sizes = (64, 32, CREDIT);
+    let finished = run_over(rt, alloc, sizes, ledger, senders, control.driver());
     let Finished { report, .. } = finished;
     let Report { ledger, .. } = report;
     ledger
 }
 
+/// Returns whether no number is above the one in its place.
+fn are_at_most(numbers: &[u64], most: &[u64]) -> bool {
+    for (number, most) in numbers.iter().zip(most) {
+        if number > most {
+            return false;
+        }
+    }
+    true
+}
+
 /// Returns whether no number of a submitter is below what was read before, and none above what is queued.
 fn rose(before: &SubmitterFigures, now: &SubmitterFigures) -> bool {
-    before.queued <= now.queued
-        && before.replied <= now.replied
-        && before.committed <= now.committed
-        && before.longest_wait <= now.longest_wait
-        && now.replied <= now.queued
-        && now.committed <= now.queued
+    let wait = now.longest_wait;
+    are_at_most(
+        &[
+            before.queued,
+            before.replied,
+            before.committed,
+            before.longest_wait,
+            now.replied,
+            now.committed,
+        ],
+        &[
+            now.queued,
+            now.replied,
+            now.committed,
+            wait,
+            now.queued,
+            now.queued,
+        ],
+    )
+}
+
+/// Returns what is committed: batches, pulses, packets and events.
+fn committed(read: &FiguresRead) -> [u64; 4] {
+    [read.batches, read.pulses, read.packets, read.events]
 }
 
 /// Reads figures until the run is done. Ends the test unless they only rise, and returns what was read last.
@@ -155,8 +175,7 @@ fn watch<R: Abort>(rt: &R, figures: &Figures, is_done: &AtomicBool) -> FiguresRe
             check!(rt; rose(before, now));
         }
         check!(rt; rose(&before.total, &now.total));
-        check!(rt; before.batches <= now.batches && before.pulses <= now.pulses);
-        check!(rt; before.packets <= now.packets && before.events <= now.events);
+        check!(rt; are_at_most(&committed(&before), &committed(&now)));
         check!(rt; now.packets <= now.total.queued);
         before = now;
         thread::yield_now();
@@ -173,17 +192,16 @@ fn run_watched<R: Threads + Wait + Clock + Sync + Abort, L: AnyLedger + Send>(
 ) -> (CountedLedger<L>, FiguresRead) {
     let is_done = AtomicBool::new(false);
     let is_done = &is_done;
-    thread::scope(
-        thread::scope_env(),
+    let (read, ledger) = thread::join(
         rt,
-        |scope| -> (CountedLedger<L>, FiguresRead) {
-            let watcher = scope.spawn(move || watch(rt, figures, is_done)).ok();
+        move || watch(rt, figures, is_done),
+        || {
             let ledger = run_senders(rt, alloc, figures, ledger);
             is_done.store(true, Ordering::SeqCst);
-            let read = watcher.expect(rt, "a thread can be started").join(rt);
-            (ledger, read)
+            ledger
         },
-    )
+    );
+    (ledger, read)
 }
 
 /// Asserts that the figures are those of this number of runs, and that the counts are the same.
@@ -198,17 +216,15 @@ fn assert_figures<L: AnyLedger>(
     let packets = each.saturating_mul(u64::from(SENDERS));
     let pulses = runs.saturating_mul(PULSES as u64);
     let events = packets.saturating_mul(2);
-    check!(rt; counts.packets == packets && read.packets == packets);
-    check!(rt; counts.events == events && read.events == events);
-    check!(rt; counts.pulses == pulses && read.pulses == pulses);
-    check!(rt; counts.batches <= packets && read.batches == counts.batches);
+    let counted = [counts.batches, counts.pulses, counts.packets, counts.events];
+    check!(rt; counted == [counts.batches, pulses, packets, events]);
+    check!(rt; committed(read) == counted && counts.batches <= packets);
     for (counted, one) in counts.submitters.iter().zip(read.submitters.iter()) {
-        check!(rt; *counted == each && one.committed == *counted);
-        check!(rt; one.queued == *counted && one.replied == *counted);
+        check!(rt; [*counted, one.committed, one.queued, one.replied] == [each; 4]);
         check!(rt; one.in_flight() == 0 && one.uncommitted() == 0);
         check!(rt; 0 < one.longest_wait && one.longest_wait <= u64::from(CREDIT) * 2000);
     }
-    check!(rt; read.total.queued == packets && read.total.replied == packets);
+    check!(rt; (read.total.queued, read.total.replied) == (packets, packets));
 }
 
 /// Runs the senders twice over a ledger.

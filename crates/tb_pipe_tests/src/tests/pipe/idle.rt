@@ -1,11 +1,10 @@
 //! Stages that have nothing to do: each looks 64 times, and then sleeps. A clock that stands still counts its readings: a thread reads
 //! it twice for each look, and never while it sleeps.
 
-use super::driven::{end, end_control};
+use super::beside::{end_both, serve_beside};
 use super::gates::Counted;
-use super::joined::over_waiting;
-use super::{Lone, open_lone, queue};
-use crate::tests::in_time;
+use super::joined::waiting_ledger;
+use super::queue;
 use std::alloc::Global;
 use std::process::Abort;
 use std::sync::Wait;
@@ -68,27 +67,18 @@ fn assert_readings(rt: &(impl Abort + Clock), readings: &AtomicU64, wanted: u64)
     check!(rt; readings.load(SeqCst) == wanted);
 }
 
-/// A submitter and the control.
-#[derive(Drop)]
-struct Senders {
-    submitter: Submitter,
-    control: Control,
-}
-
 /// Queues packets, each once all stages sleep. The committer has the second batch by then: what is sealed ahead of it is in the ring of
 /// eight slots, and a batch that has no slot isn't sealed. Then lets them through, and ends.
 fn send_eleven<R: Wait + Clock + Abort>(
     rt: &R,
     alloc: Global,
-    senders: Senders,
+    submitter: Submitter,
+    control: Control,
     gate: &Counted,
     readings: &AtomicU64,
     waits: bool,
 ) {
-    let Senders {
-        mut submitter,
-        control,
-    } = senders;
+    let mut submitter = submitter;
     let (all_wanted, sealed) = if waits {
         (&READINGS_IF_HELD, 3)
     } else {
@@ -101,8 +91,7 @@ fn send_eleven<R: Wait + Clock + Abort>(
     }
     check!(rt; gate.counts() == (sealed, 1));
     gate.let_through(11);
-    drop(end(rt, submitter));
-    drop(end_control(rt, control, false));
+    end_both(rt, submitter, control);
 }
 
 /// Serves eleven packets over a ledger that waits or doesn't. The gate lets the first through at once. Returns how many batches were
@@ -112,34 +101,25 @@ fn serve_eleven<R: Threads + Wait + Clock + Sync + Abort>(
     alloc: Global,
     waits: bool,
 ) -> (u64, u64) {
-    let Lone {
-        pipeline,
-        submitter,
-        control,
-    } = open_lone(rt, alloc, 4, 16, 16);
-    let pipeline = over_waiting(rt, alloc, pipeline, waits);
-    let senders = Senders { submitter, control };
     let counting = Counting {
         _rt: rt,
         readings: AtomicU64::new(0),
     };
     let gate = Counted::new(1);
     let (counting, held) = (&counting, &gate);
-    thread::scope(thread::scope_env(), rt, |scope| {
-        let sender = scope
-            .spawn(move || send_eleven(rt, alloc, senders, held, &counting.readings, waits))
-            .ok()
-            .expect(rt, "a thread can be started");
-        check!(rt; pipeline.serve(counting, held).is_ok());
-        sender.join(rt);
-    });
+    let readings = &counting.readings;
+    let ledger = waiting_ledger(alloc, waits);
+    let send = move |submitter, control| {
+        send_eleven(rt, alloc, submitter, control, held, readings, waits)
+    };
+    serve_beside(rt, counting, alloc, (16, 16), ledger, held, send);
     gate.counts()
 }
 
 #[test]
 fn each_stage_looks_64_times_and_sleeps(rt: HostRuntime) {
     for (waits, batches) in [(false, 11), (true, 4)] {
-        let counts = in_time(&rt, || serve_eleven(&rt, rt.alloc(), waits));
+        let counts = serve_eleven(&rt, rt.alloc(), waits);
         check!(&rt; counts == (batches, batches));
     }
 }

@@ -1,18 +1,17 @@
 //! Packets that join while a commit waits.
 
-use super::driven::{HELD_TURNS, end, end_control, wait_for_reply};
+use super::beside::{end_both, serve_beside};
+use super::driven::{HELD_TURNS, wait_for_reply};
 use super::gates::Counted;
+use super::queue;
 use super::stops::give_way;
-use super::{Lone, open_lone, queue};
 use std::alloc::Global;
 use std::process::Abort;
 use std::sync::Wait;
-use std::thread;
 use std::thread::Threads;
 use std::time::Clock;
 use tb_core::{AnyLedger, BareLedger, Outcomes, Parcel, Seed};
 use tb_layout::CREATE_ACCOUNTS;
-use tb_pipe::Pipeline;
 use tb_submit::{Control, Submitter};
 use tb_test_makers::{OutcomeKind, check};
 
@@ -47,25 +46,10 @@ impl AnyLedger for WaitingLedger {
     }
 }
 
-/// Returns a pipeline over a new ledger that waits or doesn't.
-pub(super) fn over_waiting(
-    rt: &impl Abort,
-    alloc: Global,
-    pipeline: Pipeline,
-    waits: bool,
-) -> Pipeline<WaitingLedger> {
+/// Returns a new ledger that waits or doesn't.
+pub(super) fn waiting_ledger(alloc: Global, waits: bool) -> WaitingLedger {
     let bare = BareLedger::with_seed(alloc, 0, Seed::default());
-    let Ok(pipeline) = pipeline.over(WaitingLedger { bare, waits }) else {
-        rt.panic("the ledger hasn't stopped")
-    };
-    pipeline
-}
-
-/// A submitter and the control.
-#[derive(Drop)]
-struct Senders {
-    submitter: Submitter,
-    control: Control,
+    WaitingLedger { bare, waits }
 }
 
 /// Queues six packets. The gate holds the first, so the second waits for the committer, and the others may join. If they don't, the
@@ -94,14 +78,12 @@ fn queue_six<R: Wait + Clock + Abort>(
 fn send_six<R: Wait + Clock + Abort>(
     rt: &R,
     alloc: Global,
-    senders: Senders,
+    submitter: Submitter,
+    control: Control,
     gate: &Counted,
     joins: bool,
 ) -> u64 {
-    let Senders {
-        mut submitter,
-        control,
-    } = senders;
+    let mut submitter = submitter;
     queue_six(rt, alloc, &mut submitter, gate, joins);
     gate.let_through(6);
     let mut committed = 0;
@@ -110,8 +92,7 @@ fn send_six<R: Wait + Clock + Abort>(
             committed = committed.wrapping_add(1);
         }
     }
-    drop(end(rt, submitter));
-    drop(end_control(rt, control, false));
+    end_both(rt, submitter, control);
     committed
 }
 
@@ -121,23 +102,11 @@ fn serve_six<R: Threads + Wait + Clock + Sync + Abort>(
     alloc: Global,
     waits: bool,
 ) -> (u64, u64) {
-    let Lone {
-        pipeline,
-        submitter,
-        control,
-    } = open_lone(rt, alloc, 4, 64, 64);
-    let pipeline = over_waiting(rt, alloc, pipeline, waits);
-    let senders = Senders { submitter, control };
     let gate = Counted::new(0);
     let held = &gate;
-    let committed = thread::scope(thread::scope_env(), rt, |scope| -> u64 {
-        let sender = scope
-            .spawn(move || send_six(rt, alloc, senders, held, waits))
-            .ok()
-            .expect(rt, "a thread can be started");
-        check!(rt; pipeline.serve(rt, held).is_ok());
-        sender.join(rt)
-    });
+    let ledger = waiting_ledger(alloc, waits);
+    let send = move |submitter, control| send_six(rt, alloc, submitter, control, held, waits);
+    let committed = serve_beside(rt, rt, alloc, (64, 64), ledger, held, send);
     let (sealed, passed) = gate.counts();
     check!(rt; sealed == passed);
     (committed, passed)

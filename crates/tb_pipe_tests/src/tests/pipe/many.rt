@@ -1,14 +1,14 @@
 //! More batches than 16 bits count, each of which the gate sees once and in order, and is asked for before it is applied.
 
-use super::driven::{end, end_control, wait_for_reply};
+use super::beside::{end_both, serve_beside};
+use super::driven::wait_for_reply;
 use super::gates::Counted;
-use super::{Lone, open_lone, queue};
+use super::queue;
 use std::alloc::Global;
 use std::process::Abort;
 use std::sync::Wait;
 use std::sync::atomic::AtomicBool;
 use std::sync::atomic::Ordering::SeqCst;
-use std::thread;
 use std::thread::Threads;
 use std::time::Clock;
 use tb_core::Ledger;
@@ -82,38 +82,23 @@ fn send_all<R: Wait + Clock + Abort>(
     for number in PACKETS - CREDIT..PACKETS {
         assert_reply(rt, &mut submitter, number);
     }
-    drop(end(rt, submitter));
-    drop(end_control(rt, control, false));
+    end_both(rt, submitter, control);
 }
 
 /// Serves all packets. Returns how many batches were sealed and let through, each once and in order.
 fn serve_all<R: Threads + Wait + Clock + Sync + Abort>(rt: &R, alloc: Global) -> (u64, u64) {
-    let Lone {
-        pipeline,
-        submitter,
-        control,
-    } = open_lone(rt, alloc, 4, 128, CREDIT as u32);
     let figures = Figures::new(alloc, 1, CREDIT as u32).ok();
     let figures = figures.expect(rt, "memory");
     let another = figures.clone().ok().expect(rt, "another owner");
-    let ledger = CountedLedger::over(Ledger::new(alloc, 0), another);
-    let Ok(pipeline) = pipeline.over(ledger) else {
-        rt.panic("the ledger hasn't stopped")
-    };
     let gate = InTurn {
         counted: Counted::new(u64::MAX),
         figures,
         is_late: AtomicBool::new(false),
     };
     let in_turn = &gate;
-    thread::scope(thread::scope_env(), rt, |scope| {
-        let sender = scope
-            .spawn(move || send_all(rt, alloc, submitter, control))
-            .ok()
-            .expect(rt, "a thread can be started");
-        check!(rt; pipeline.serve(rt, in_turn).is_ok());
-        sender.join(rt);
-    });
+    let ledger = CountedLedger::over(Ledger::new(alloc, 0), another);
+    let send = move |submitter, control| send_all(rt, alloc, submitter, control);
+    serve_beside(rt, rt, alloc, (128, CREDIT as u32), ledger, in_turn, send);
     check!(rt; !gate.is_late.load(SeqCst));
     gate.counted.counts()
 }

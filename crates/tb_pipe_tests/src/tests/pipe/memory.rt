@@ -2,56 +2,48 @@
 //! differs from run to run, since the stages and the test itself allocate at once: so the tests look only at the
 //! replies, and ask again for what they need themselves.
 
-ghost use Rattle.std.specs.Prelude.{◌≡◌, ◌++◌, ◌∷◌, [], IfOk, map};
+ghost use Rattle.std.specs.Prelude.{◌≡◌, ◌++◌, ◌∷◌, [], map};
 ghost use Rattle.tb_submit.specs.clauses.Ends.{control_seat, end_origin, origin_of};
-ghost use Rattle.tb_pipe_tests.specs.inside.Together.{AreTogether};
 
-use super::driven::{Course, Driving, Saw, drive_lone, run};
+use super::driven::{Course, Driving, Saw, driving_of, opened_driving, run};
 use super::gates::Counted;
 use super::{
-    Ends, Lone, clock, end_control, end_one, finish, next_kind, opened_lone, packet_of,
-    queue_pulse, room_for_ends, submit,
+    Ends, clock, end_control, end_one, finish, next_kind, opened, packet_of, queue_pulse, submit,
 };
 use std::alloc::Global;
 use std::process::Abort;
 use std::sync::Wait;
 use std::thread::Threads;
 use std::time::Clock;
-use tb_layout::{CREATE_ACCOUNTS, NoMemory};
+use tb_layout::CREATE_ACCOUNTS;
 use tb_pipe::{Open, Report};
-use tb_submit::{Control, Ended, Intake, Submitter};
+use tb_submit::{Control, Intake, Submitter};
 use tb_test_makers::{OutcomeKind, check};
 use tb_work::{Item, Refusal, Ticket};
 
 /// Returns a pipeline of one submitter, opened again if memory ran out, and whether it did.
-fn open_again(rt: &impl Abort, alloc: Global, was_refused: &mut bool) -> Result<Lone, Refusal>
-    ensures { IfOk result (λ lone. AreTogether lone.pipeline (lone.submitter ∷ []) lone.control) }
+fn open_again<R: Wait + Clock + Abort>(rt: &R, alloc: Global) -> (Driving, bool)
+    ensures own { map end_origin result.0.ends.items ++ origin_of result.0.last ∷ [] ≡ result.0.pipeline.submitters }
+    ensures control { result.0.control.seat ≡ control_seat result.0.pipeline.intake }
 {
-    match opened_lone(alloc, 4, 64, 64) {
-        Ok(lone) => Ok(lone),
+    match opened(alloc, 4, 64, 64, 1) {
+        Ok(opened) => (driving_of(rt, alloc, opened), false),
         Err(refusal) => {
             check!(rt; refusal == Refusal::NoMemory);
-            *was_refused = true;
-            opened_lone(alloc, 4, 64, 64)
+            (opened_driving(rt, alloc, 64, 64, 1), true)
         }
     }
 }
 
 /// Submits a packet with this account. It takes no memory, since the room for one failure is in the job.
-fn submit_account<R: Wait + Clock + Abort>(
-    rt: &R,
-    alloc: Global,
-    submitter: &mut Submitter,
-    id: u8,
-) -> Result<(), NoMemory>
+fn submit_account<R: Wait + Clock + Abort>(rt: &R, alloc: Global, submitter: &mut Submitter, id: u8)
     ensures { origin_of submitter.new ≡ origin_of submitter.old }
 {
     let packet = match packet_of(alloc, CREATE_ACCOUNTS, id) {
         Ok(packet) => packet,
-        Err(_) => packet_of(alloc, CREATE_ACCOUNTS, id)?,
+        Err(_) => packet_of(alloc, CREATE_ACCOUNTS, id).expect(rt, "memory"),
     };
     check!(rt; submit(rt, alloc, submitter, packet).is_ok());
-    Ok(())
 }
 
 /// Queues two accounts, a pulse, and four accounts, each in its packet.
@@ -60,7 +52,7 @@ fn queue_seven<R: Wait + Clock + Abort>(
     alloc: Global,
     submitter: &mut Submitter,
     control: &mut Control,
-) -> Result<(), NoMemory>
+)
     ensures submitter { origin_of submitter.new ≡ origin_of submitter.old }
     ensures control { control.new.seat ≡ control.old.seat }
 {
@@ -68,28 +60,32 @@ fn queue_seven<R: Wait + Clock + Abort>(
         if id == 3 {
             queue_pulse(rt, control, 5);
         }
-        submit_account(rt, alloc, submitter, id)?;
+        submit_account(rt, alloc, submitter, id);
     }
-    Ok(())
 }
 
 /// Ends both, and serves: the report, or the intake if a thread couldn't be started. There is room for the end.
 fn serve_seven<R: Threads + Wait + Clock + Sync + Abort>(
     rt: &R,
-    lone: Lone,
-    room: Vec<Ended>,
+    driving: Driving,
 ) -> Result<Report, (Intake, Refusal)>
-    requires together { AreTogether lone.pipeline (lone.submitter ∷ []) lone.control }
-    requires none { room.items ≡ [] }
+    requires own { map end_origin driving.ends.items ++ origin_of driving.last ∷ [] ≡ driving.pipeline.submitters }
+    requires control { driving.control.seat ≡ control_seat driving.pipeline.intake }
 {
-    let control = end_control(rt, lone.control, false);
-    let mut submitters = room;
-    end_one(rt, &mut submitters, lone.submitter);
+    let Driving {
+        pipeline,
+        ends,
+        last,
+        control,
+    } = driving;
+    let control = end_control(rt, control, false);
+    let mut submitters = ends;
+    end_one(rt, &mut submitters, last);
     let ends = Ends {
         submitters,
         control,
     };
-    finish(rt, lone.pipeline, ends, &Open)
+    finish(rt, pipeline, ends, &Open)
 }
 
 /// What a ticket says: a packet with its number, or a pulse with its moment.
@@ -168,14 +164,13 @@ fn assert_none_taken<R: Wait + Clock + Abort>(rt: &R, intake: &mut Intake, refus
 /// Serves everything queued, and compares the results.
 fn assert_each_growth<R: Threads + Wait + Clock + Sync + Abort>(
     rt: &R,
-    lone: Lone,
-    room: Vec<Ended>,
+    driving: Driving,
     was_refused: bool,
 )
-    requires together { AreTogether lone.pipeline (lone.submitter ∷ []) lone.control }
-    requires none { room.items ≡ [] }
+    requires own { map end_origin driving.ends.items ++ origin_of driving.last ∷ [] ≡ driving.pipeline.submitters }
+    requires control { driving.control.seat ≡ control_seat driving.pipeline.intake }
 {
-    match serve_seven(rt, lone, room) {
+    match serve_seven(rt, driving) {
         Ok(mut report) => {
             assert_seven(rt, &mut report, was_refused);
             drop(report);
@@ -188,15 +183,10 @@ fn assert_each_growth<R: Threads + Wait + Clock + Sync + Abort>(
 }
 
 #[test]
-fn each_growth_refused_memory(rt: HostRuntime) -> Result<(), Refusal> {
-    let mut was_refused = false;
-    let mut lone = open_again(&rt, rt.alloc(), &mut was_refused)?;
-    let queued = queue_seven(&rt, rt.alloc(), &mut lone.submitter, &mut lone.control);
-    match (queued, room_for_ends(rt.alloc())) {
-        (Ok(()), Ok(room)) => assert_each_growth(&rt, lone, room, was_refused),
-        _ => return Err(Refusal::NoMemory),
-    }
-    Ok(())
+fn each_growth_refused_memory(rt: HostRuntime) {
+    let (mut driving, was_refused) = open_again(&rt, rt.alloc());
+    queue_seven(&rt, rt.alloc(), &mut driving.last, &mut driving.control);
+    assert_each_growth(&rt, driving, was_refused);
 }
 
 /// The tickets of the seven items and of both ends, in order, and nothing after them.
@@ -219,14 +209,13 @@ fn queue_three<R: Wait + Clock + Abort>(
     alloc: Global,
     submitter: &mut Submitter,
     control: &mut Control,
-) -> Result<(), NoMemory>
+)
     ensures submitter { origin_of submitter.new ≡ origin_of submitter.old }
     ensures control { control.new.seat ≡ control.old.seat }
 {
-    submit_account(rt, alloc, submitter, 1)?;
-    submit_account(rt, alloc, submitter, 2)?;
+    submit_account(rt, alloc, submitter, 1);
+    submit_account(rt, alloc, submitter, 2);
     queue_pulse(rt, control, 5);
-    Ok(())
 }
 
 /// Drives what is queued. If the first commit is refused the journal stays empty, and the submitter learns it twice,
@@ -253,14 +242,10 @@ fn assert_first_commit<R: Threads + Wait + Clock + Sync + Abort + Print>(
 
 /// `tools/gate/refuse-each-growth` counts the lines that this prints: some allocation is the first commit's.
 #[test]
-fn first_commit_refused_memory(rt: HostRuntime) -> Result<(), Refusal> {
-    let mut lone = open_again(&rt, rt.alloc(), &mut false)?;
-    let queued = queue_three(&rt, rt.alloc(), &mut lone.submitter, &mut lone.control);
-    match (queued, room_for_ends(rt.alloc())) {
-        (Ok(()), Ok(room)) => assert_first_commit(&rt, rt.alloc(), drive_lone(lone, room)),
-        _ => return Err(Refusal::NoMemory),
-    }
-    Ok(())
+fn first_commit_refused_memory(rt: HostRuntime) {
+    let (mut driving, _) = open_again(&rt, rt.alloc());
+    queue_three(&rt, rt.alloc(), &mut driving.last, &mut driving.control);
+    assert_first_commit(&rt, rt.alloc(), driving);
 }
 
 const ALL_STOPPED: Saw = Saw::Replies(

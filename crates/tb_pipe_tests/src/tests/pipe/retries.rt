@@ -26,15 +26,19 @@ fn by_moments_and_each_once(rt: HostRuntime) {
     }
     check!(&rt; retries.add(1, 6) == Err(6));
     check!(&rt; retries.len() == 5);
-    assert_due(&rt, &mut retries, 2, Some(5), Some(3));
-    assert_due(&rt, &mut retries, 2, None, Some(3));
-    assert_due(&rt, &mut retries, 3, Some(2), Some(5));
+    for (now, wanted, next) in [(2, Some(5), 3), (2, None, 3), (3, Some(2), 5)] {
+        assert_due(&rt, &mut retries, now, wanted, Some(next));
+    }
     check!(&rt; retries.add(4, 7) == Ok(()));
-    assert_due(&rt, &mut retries, 9, Some(7), Some(5));
-    assert_due(&rt, &mut retries, 9, Some(1), Some(5));
-    assert_due(&rt, &mut retries, 9, Some(3), Some(u64::MAX));
-    assert_due(&rt, &mut retries, 9, None, Some(u64::MAX));
-    assert_due(&rt, &mut retries, u64::MAX, Some(4), None);
+    for (now, wanted, next) in [
+        (9, Some(7), Some(5)),
+        (9, Some(1), Some(5)),
+        (9, Some(3), Some(u64::MAX)),
+        (9, None, Some(u64::MAX)),
+        (u64::MAX, Some(4), None),
+    ] {
+        assert_due(&rt, &mut retries, now, wanted, next);
+    }
     check!(&rt; retries.len() == 0);
     drop(retries);
 }

@@ -1,6 +1,6 @@
 use Rattle.std.proofs.Common.{◌≡◌}
-use Rattle.tb_submit_tests.specs.inside.Queue.{AreOf}
-use Rattle.tb_submit_tests.proofs.tests.ahead.learn_all.Given as goal
+use Rattle.tb_pipe_tests.specs.inside.Queue.{AreOf}
+use Rattle.tb_pipe_tests.proofs.tests.submit.ahead.learn_all.Given as goal
 
 abbrev pub invariant-loop : goal.invariant-loop
 invariant-loop g l = record {

@@ -1,7 +1,7 @@
 //! A control that learns what sixteen submitters have queued, before it queues the Close.
 
 ghost use Rattle.std.specs.Prelude.{◌≡◌, Some};
-ghost use Rattle.tb_submit_tests.specs.inside.Queue.{AreOf};
+ghost use Rattle.tb_pipe_tests.specs.inside.Queue.{AreOf};
 
 use super::submit;
 use super::threads::{Counts, MOST_TURNS, submit_all};

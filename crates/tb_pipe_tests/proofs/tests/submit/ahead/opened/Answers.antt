@@ -1,7 +1,7 @@
 use Rattle.std.proofs.Common.{ap, sym}
 use Rattle.tb_submit.specs.clauses.Ends.{SenderState}
-use Rattle.tb_submit_tests.proofs.Submitters.{all_of_queue}
-use Rattle.tb_submit_tests.proofs.tests.ahead.opened.Goals as goal
+use Rattle.tb_pipe_tests.proofs.Submitters.{all_of_queue}
+use Rattle.tb_pipe_tests.proofs.tests.submit.ahead.opened.Goals as goal
 
 pub returns : goal.returns
 returns g c =

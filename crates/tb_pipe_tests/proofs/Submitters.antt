@@ -4,7 +4,7 @@ use Rattle.tb_rings.specs.clauses.Ends.{outlet_ring}
 use Rattle.tb_rings.specs.declared.Outlet.{Outlet}
 use Rattle.tb_work.specs.claim.Packet.{ReplyValue}
 use Rattle.tb_submit.specs.clauses.Ends.{IntakeState, Origin, SenderState, SubmitterState, control_seat, origin_of, origins_from, seat_at}
-use Rattle.tb_submit_tests.specs.inside.Queue.{AreOf}
+use Rattle.tb_pipe_tests.specs.inside.Queue.{AreOf}
 
 pub all_of_queue : (intake : IntakeState) (control : SenderState) (number : ℕ) (outlets : List (Outlet ReplyValue))
     (submitters : List SubmitterState) → (control_seat intake).queue ≡ control.seat.queue
