@@ -2,11 +2,12 @@
 //! make the ledger give it back.
 
 use super::made::packet_of_accounts;
+use crate::tests::must;
 use std::alloc::Global;
 use std::process::Abort;
 use tb_core::{BareLedger, Seed};
 use tb_layout::{BATCH_MAX, CREATE_ACCOUNTS, LOOKUP_ACCOUNTS};
-use tb_test_makers::{job, must, packet_of, zeros};
+use tb_test_makers::{job, packet_of, zeros};
 use tb_work::{Answer, Outcome, Packet, Reply};
 
 /// A committed packet's place, and how many failures and accounts its answer has.

@@ -6,11 +6,11 @@ ghost use Rattle.tb_work.specs.claim.Admission.{count_of};
 ghost use Rattle.tb_work.specs.claim.Job.{count_of_all, is_lookup};
 
 use super::{failures_at, packet_of};
+use crate::tests::must;
 use std::alloc::Global;
 use std::process::Abort;
 use tb_demux::Cutter;
 use tb_layout::{CREATE_ACCOUNTS, Failure, LOOKUP_ACCOUNTS, read_account};
-use tb_test_makers::must;
 use tb_work::{Accounts, Answer, Failures, Job, Outcome, Reply};
 
 /// Returns what packets say of the submitter that queued them.

@@ -9,6 +9,7 @@ mod engine;
 use super::ledger::alone;
 use super::made::{packet_of_accounts, rising};
 use super::outcomes::first_reply;
+use crate::tests::must;
 use sqlite::MemStore;
 use sqlite_trees::schema::Object;
 use sqlite_trees::store::{Shape, Store};
@@ -20,7 +21,7 @@ use tb_batch::Batch;
 use tb_core::{Outcomes, Parcel, Seed};
 use tb_durable::{DurableLedger, OpenFault, Settings};
 use tb_layout::MOMENT_MAX;
-use tb_test_makers::{OutcomeKind, job, kind_of, must};
+use tb_test_makers::{OutcomeKind, job, kind_of};
 use tb_work::{Moment, Packet};
 
 const SETTINGS: Settings = Settings {

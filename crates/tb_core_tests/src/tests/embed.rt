@@ -1,6 +1,7 @@
 //! An engine: calls in a row, each with the result that the rules give it.
 
 use super::made::rising;
+use crate::tests::must;
 use std::alloc::Global;
 use std::process::Abort;
 use tb_embed::{Engine, Seed};
@@ -8,7 +9,7 @@ use tb_layout::{
     Account, CREATE_ACCOUNTS, CREATE_TRANSFERS, LOOKUP_ACCOUNTS, MOMENT_MAX, NoMemory, Transfer,
 };
 use tb_tables::Status;
-use tb_test_makers::{account, accounts_packet, must, transfer, transfers_packet, zeros};
+use tb_test_makers::{account, accounts_packet, transfer, transfers_packet, zeros};
 use tb_work::{Outcome, Packet, Refusal, Reply};
 
 #[derive(Clone, Copy)]

@@ -5,12 +5,13 @@ ghost use Rattle.std.specs.Prelude.{◌≡◌, ◌≤◌, IfOk};
 use super::made::{Made, item, pushed_by};
 use super::number_of;
 use super::outcomes::assert_kinds;
+use crate::tests::must;
 use arrayvec::ArrayVec;
 use std::alloc::Global;
 use std::process::Abort;
 use std::slice;
 use tb_core::{Cause, Front, Ledger, Outcomes, Parcel};
-use tb_test_makers::{OutcomeKind, check, must};
+use tb_test_makers::{OutcomeKind, check};
 use tb_work::{Refusal, Reply, Ticket};
 
 /// Returns the number in a word after a name, as 5 in `pulse5`.

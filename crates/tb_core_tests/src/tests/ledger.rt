@@ -6,13 +6,14 @@ use super::front::{small_front, ticket_of};
 use super::made::{creating, pushed_by};
 use super::number_of;
 use super::outcomes::{EntryKind, assert_entries, first_reply};
+use crate::tests::must;
 use std::alloc::Global;
 use std::process::Abort;
 use tb_batch::{Batch, Batcher, Offered};
 use tb_core::{BareLedger, Cause, Front, Ledger, Outcomes, Parcel, Seed};
 use tb_demux::Cutter;
 use tb_layout::Account;
-use tb_test_makers::{OutcomeKind, account, check, job, kind_of, must};
+use tb_test_makers::{OutcomeKind, account, check, job, kind_of};
 use tb_work::{Answer, Job, Moment, Outcome, Packet, Reply};
 
 /// Asserts what became of a reply's packet: `stopped`, `shutdown`, or the place where it was committed, this far behind the one that is

@@ -6,10 +6,11 @@ ghost use Rattle.tb_layout.specs.claim.Bounds.{batch_max};
 use super::made::{Made, creating, item};
 use super::outcomes::{EntryKind, assert_entries, assert_kinds};
 use super::push;
+use crate::tests::must;
 use std::alloc::Global;
 use std::process::Abort;
 use tb_core::run_list;
-use tb_test_makers::{OutcomeKind, SIX_PLACES, account, kind_of, must};
+use tb_test_makers::{OutcomeKind, SIX_PLACES, account, kind_of};
 use tb_work::{Item, Reply};
 
 /// Items of submitter 0.

@@ -4,11 +4,12 @@ ghost use Rattle.std.specs.Prelude.{◌≡◌, ◌==◌, ◌||◌, ◌/◌, ◌%
 ghost use Rattle.tb_layout.specs.claim.Bounds.{batch_max};
 ghost use Rattle.tb_layout.specs.claim.Events.{create_accounts, create_transfers};
 
+use crate::tests::must;
 use std::alloc::Global;
 use std::process::Abort;
 use tb_layout::{Account, BATCH_MAX, CREATE_ACCOUNTS, CREATE_TRANSFERS, Failure, Transfer};
 use tb_machine::Machine;
-use tb_test_makers::{account_bytes, must, transfer, transfer_bytes};
+use tb_test_makers::{account_bytes, transfer, transfer_bytes};
 
 mod calls;
 mod many;

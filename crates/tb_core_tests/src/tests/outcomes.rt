@@ -1,9 +1,10 @@
 //! Asserts the outcomes that replies have, and the entries of a journal.
 
+use crate::tests::must;
 use std::process::Abort;
 use tb_core::{Entry, Outcomes};
 use tb_layout::Failure;
-use tb_test_makers::{OutcomeKind, check, kind_of, must};
+use tb_test_makers::{OutcomeKind, check, kind_of};
 use tb_work::{Answer, Outcome, Reply};
 
 /// An entry of the journal, without its bytes.

@@ -3,13 +3,14 @@
 
 use super::ledger::Either;
 use super::made::{creating, job_of, rising};
+use crate::tests::must;
 use std::alloc::Global;
 use std::process::Abort;
 use tb_batch::{Batch, Batcher, Offered};
 use tb_core::{BareLedger, Ledger, Parcel, Seed};
 use tb_embed::Engine;
 use tb_layout::Account;
-use tb_test_makers::{account, must};
+use tb_test_makers::account;
 use tb_work::{Job, Refusal};
 
 /// How many accounts and transfers are reserved, and then made.

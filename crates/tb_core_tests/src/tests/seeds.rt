@@ -3,12 +3,13 @@
 use super::ledger::{Either, alone};
 use super::made::{creating, transferring};
 use super::push;
+use crate::tests::must;
 use std::alloc::Global;
 use std::process::Abort;
 use std::time::{Clock, Instant};
 use tb_core::{Ledger, Seed};
 use tb_embed::Engine;
-use tb_test_makers::{account, check, must, transfer};
+use tb_test_makers::{account, check, transfer};
 use tb_work::Job;
 
 const SEED: Seed = Seed {

@@ -3,10 +3,10 @@
 ghost use Rattle.std.specs.Prelude.{◌≡◌, []};
 ghost use Rattle.tb_tables.specs.claim.Facts.{no_facts};
 
+use crate::tests::must;
 use std::process::Abort;
 use tb_layout::{Account, Transfer};
 use tb_tables::{Seed, Status, Tables};
-use tb_test_makers::must;
 
 fn account(id: u128) -> Account
     ensures { result ≡ record {

@@ -3,10 +3,11 @@
 use super::made::{Made, item, pushed_by};
 use super::number_of;
 use super::outcomes::{EntryKind, assert_entries, assert_kinds};
+use crate::tests::must;
 use std::alloc::Global;
 use std::process::Abort;
 use tb_core::Ledger;
-use tb_test_makers::{OutcomeKind, check, must};
+use tb_test_makers::{OutcomeKind, check};
 use tb_work::{Refusal, Ticket};
 use tb_world::{Event, World, run_world};
 

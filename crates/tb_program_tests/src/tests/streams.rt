@@ -1,9 +1,9 @@
+use crate::tests::must;
 use std::alloc::Global;
 use std::io;
 use std::io::{Read, Write};
 use std::process::Abort;
 use tb_program::{ProgramFault, run_script, run_threads};
-use tb_test_makers::must;
 
 /// Gives a line with its first read, fails at the second, and has ended from then on: whoever continues to read after
 /// the fault finds the end of a script.

@@ -1,8 +1,9 @@
 use super::{batcher_of, job_of};
+use crate::tests::must;
 use std::alloc::Global;
 use std::process::Abort;
 use tb_batch::{Batch, Batcher, Offered, Parts};
-use tb_test_makers::{check, must};
+use tb_test_makers::check;
 use tb_work::{Job, Refusal};
 
 const LIMITS: [(u32, Option<Refusal>); 5] = [

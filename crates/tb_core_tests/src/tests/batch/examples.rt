@@ -1,9 +1,9 @@
 use super::{batcher_of, job_of};
-use crate::tests::{number_of, push};
+use crate::tests::{must, number_of, push};
 use std::alloc::Global;
 use std::process::Abort;
 use tb_batch::{Batch, Batcher, Offered};
-use tb_test_makers::{check, must};
+use tb_test_makers::check;
 use tb_work::Job;
 
 /// A row for each example: its name, the limit, its packets, and the size of the batch that is left. A packet is an operation, a colon,

@@ -1,8 +1,9 @@
 use super::batcher_of;
+use crate::tests::must;
 use std::alloc::Global;
 use std::process::Abort;
 use tb_batch::{Batcher, Offered};
-use tb_test_makers::{must, zeros};
+use tb_test_makers::zeros;
 use tb_work::Job;
 
 /// Returns the job of a packet of an account of zeros, or None if memory runs out.

@@ -2,7 +2,7 @@
 
 use super::calls::parts_of_a_lookup;
 use super::examples::assert_examples;
-use tb_test_makers::must;
+use crate::tests::must;
 
 const MANY: &str = "seventeen_packets 8190 129:x1*17=joined = 17/2176:16+1
 as_many_packets_as_events 8190 130:x1*8190=joined = 8190/1048320:8189+1

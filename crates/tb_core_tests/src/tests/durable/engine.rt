@@ -2,6 +2,7 @@
 
 use super::{MIDDLE, empty_store, facts, largest_packet, opened, two_accounts};
 use crate::tests::made::packet_of_accounts;
+use crate::tests::must;
 use sqlite::MemStore;
 use std::alloc::Global;
 use std::process::Abort;
@@ -9,7 +10,7 @@ use tb_core::{AnyLedger, BareLedger, Outcomes, Parcel, Seed};
 use tb_durable::DurableLedger;
 use tb_embed::AnyEngine;
 use tb_layout::MOMENT_MAX;
-use tb_test_makers::{OutcomeKind, check, kind_of, must, transfer, transfers_packet};
+use tb_test_makers::{OutcomeKind, check, kind_of, transfer, transfers_packet};
 use tb_work::{Packet, Refusal};
 
 /// A ledger whose store fails once it has taken some parcels.

@@ -1,12 +1,13 @@
 ghost use Rattle.std.specs.Prelude.{◌≡◌, []};
 
 use super::{make_accounts, make_transfers, resolving};
+use crate::tests::must;
 use std::alloc::Global;
 use std::process::Abort;
 use tb_layout::{Account, Transfer};
 use tb_machine::{Machine, Seed};
 use tb_tables::Status;
-use tb_test_makers::{account, must, transfer};
+use tb_test_makers::{account, transfer};
 use tb_work::Packet;
 
 /// Makes a pending transfer with a timeout, one that is voided, and a plain one. Once the first has expired, only the plain

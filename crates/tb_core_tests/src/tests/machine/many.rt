@@ -1,7 +1,7 @@
 //! More accounts than a batch has events, long chains that fail, and posts with words of their own.
 
 use super::{failures_of, make_accounts, make_transfers, resolving};
-use crate::tests::push;
+use crate::tests::{must, push};
 use std::alloc::Global;
 use std::process::Abort;
 use tb_layout::TransferCode::{
@@ -9,7 +9,7 @@ use tb_layout::TransferCode::{
 };
 use tb_layout::{CREATE_TRANSFERS, Failure, Transfer, TransferCode};
 use tb_machine::Machine;
-use tb_test_makers::{account, check, must, transfer, transfer_bytes};
+use tb_test_makers::{account, check, transfer, transfer_bytes};
 
 /// Returns the account that a transfer debits or credits, of those with ids 1 to 9,000.
 fn nth(number: u32) -> u128 {

@@ -1,6 +1,7 @@
 //! What is tried with each allocation refused in turn, by `tools/gate/refuse-each-growth`.
 
 use super::{MOST, is_packet, resolving};
+use crate::tests::must;
 use std::alloc::Global;
 use std::process::Abort;
 use tb_layout::TransferCode::{
@@ -12,7 +13,7 @@ use tb_layout::{
 };
 use tb_machine::Machine;
 use tb_tables::Status;
-use tb_test_makers::{account, account_bytes, must, transfer, transfer_bytes};
+use tb_test_makers::{account, account_bytes, transfer, transfer_bytes};
 
 /// What the look-ups of a machine answer for ids 1, 2 and 3.
 #[derive(Clone, Copy)]

@@ -4,13 +4,14 @@
 use super::plain::{Row, expire, have_all, status_of, transfer_in, with_balances};
 use super::rule::{Rule, large, pick, small};
 use super::{MOST, commits, failures_of, make_accounts};
+use crate::tests::must;
 use std::alloc::{AllocError, Global};
 use std::process::Abort;
 use tb_layout::{
     Account, CREATE_ACCOUNTS, CREATE_TRANSFERS, NANOSECONDS_PER_SECOND, Transfer, write_transfer,
 };
 use tb_machine::Machine;
-use tb_test_makers::{account, account_bytes, check, must, transfer};
+use tb_test_makers::{account, account_bytes, check, transfer};
 
 /// Returns the accounts of a rule.
 fn accounts(rule: Rule) -> [Account; 4] {

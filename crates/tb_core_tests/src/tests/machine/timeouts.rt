@@ -1,13 +1,13 @@
 //! Thousands of transfers with a timeout, of two packets, half of which are posted.
 
 use super::{make_accounts, make_transfers, resolving};
-use crate::tests::push;
+use crate::tests::{must, push};
 use std::alloc::Global;
 use std::process::Abort;
 use tb_layout::{MOMENT_MAX, NANOSECONDS_PER_SECOND, Transfer};
 use tb_machine::Machine;
 use tb_tables::Status;
-use tb_test_makers::{account, check, must, transfer};
+use tb_test_makers::{account, check, transfer};
 
 /// How many transfers with a timeout there are.
 const COUNT: u32 = 3_000;

@@ -1,7 +1,7 @@
-use crate::tests::packet_of;
+use crate::tests::{must, packet_of};
 use std::alloc::Global;
 use std::process::Abort;
-use tb_test_makers::{check, must};
+use tb_test_makers::check;
 use tb_work::{Refusal, admit};
 
 /// Returns the number of events admitted of a packet of `length` zero bytes.

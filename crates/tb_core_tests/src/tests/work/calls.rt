@@ -1,9 +1,9 @@
 use crate::tests::made::packet_of_accounts;
-use crate::tests::{failures_at, packet_of};
+use crate::tests::{failures_at, must, packet_of};
 use std::alloc::Global;
 use std::process::Abort;
 use tb_layout::{Account, Failure};
-use tb_test_makers::{account, must};
+use tb_test_makers::account;
 use tb_work::{
     Accounts, Answer, Bytes, Failures, Item, Job, Moment, Outcome, Packet, Refusal, Reply, Stub,
     Ticket,

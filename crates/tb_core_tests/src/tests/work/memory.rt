@@ -1,5 +1,6 @@
+use crate::tests::must;
 use tb_layout::{Account, NoMemory, Transfer};
-use tb_test_makers::{must, zeros};
+use tb_test_makers::zeros;
 use tb_work::{Job, Packet, Refusal};
 
 /// What is tried with each allocation refused in turn, by `tools/gate/refuse-each-growth`. The room for four failures isn't

@@ -1,10 +1,10 @@
 //! Packets made of accounts and of transfers.
 
-use crate::tests::push;
+use crate::tests::{must, push};
 use std::alloc::Global;
 use std::process::Abort;
 use tb_layout::{Account, AccountCode, Transfer, TransferCode, read_account, read_transfer};
-use tb_test_makers::{account, accounts_packet, check, must, transfer, transfers_packet};
+use tb_test_makers::{account, accounts_packet, check, transfer, transfers_packet};
 use tb_work::{Packet, Refusal, admit};
 
 /// Returns a packet of these accounts, with user word 7.

@@ -1,11 +1,11 @@
 //! What packets, replies and refused packets print, which is for people.
 
-use crate::tests::packet_of;
+use crate::tests::{must, packet_of};
 use std::alloc::Global;
 use std::fmt::{Debug, Display};
 use std::process::Abort;
 use tb_layout::{Account, Accounts, Failure};
-use tb_test_makers::{check, must};
+use tb_test_makers::check;
 use tb_work::{Job, Outcome, Packet, Refusal, Reply, SubmitError};
 
 /// Returns what a value prints for programmers.

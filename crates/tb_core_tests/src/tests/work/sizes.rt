@@ -1,9 +1,9 @@
 //! Jobs of each size up to the largest. The clauses let `Job::new` run out of memory from three events on.
 
-use crate::tests::packet_of;
+use crate::tests::{must, packet_of};
 use std::alloc::Global;
 use std::process::Abort;
-use tb_test_makers::{check, must};
+use tb_test_makers::check;
 use tb_work::{Job, Stub};
 
 /// Operations, each with the size of its event in bytes.

@@ -2,11 +2,12 @@
 
 use super::assert_steps;
 use crate::tests::made::creating;
+use crate::tests::must;
 use crate::tests::outcomes::EntryKind;
 use std::alloc::Global;
 use std::process::Abort;
 use tb_layout::Account;
-use tb_test_makers::{account, must};
+use tb_test_makers::account;
 use tb_work::{Item, Job, Ticket};
 use tb_world::{Event, World};
 

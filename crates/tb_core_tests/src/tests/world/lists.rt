@@ -2,12 +2,12 @@
 
 use super::{Step, answer, ledger_of};
 use crate::tests::made::Made;
-use crate::tests::push;
+use crate::tests::{must, push};
 use std::alloc::Global;
 use std::process::Abort;
 use tb_core::{Entry, Ledger};
 use tb_layout::{CLOCK_MAX, CREATE_TRANSFERS, LOOKUP_ACCOUNTS, MOMENT_MAX};
-use tb_test_makers::{OutcomeKind, check, kind_of, must};
+use tb_test_makers::{OutcomeKind, check, kind_of};
 use tb_work::{Reply, Stub};
 use tb_world::World;
 

@@ -2,13 +2,14 @@
 
 use super::{Step, add_words, answer, ledger_of, play};
 use crate::tests::made::{Made, creating, first_transferring};
+use crate::tests::must;
 use crate::tests::outcomes::{EntryKind, assert_entries, assert_failures, assert_kinds};
 use std::alloc::Global;
 use std::process::Abort;
 use tb_core::Ledger;
 use tb_layout::{Failure, Transfer};
 use tb_tables::Status;
-use tb_test_makers::{OutcomeKind, SIX_PLACES, account, kind_of, must, transfer};
+use tb_test_makers::{OutcomeKind, SIX_PLACES, account, kind_of, transfer};
 use tb_work::{Item, Job, Refusal, Ticket};
 use tb_world::{Event, World};
 

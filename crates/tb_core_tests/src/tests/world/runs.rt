@@ -2,12 +2,13 @@
 
 use super::{Step, add_step, add_words};
 use crate::tests::made::{Made, creating, transferring};
+use crate::tests::must;
 use crate::tests::outcomes::{EntryKind, assert_entries, assert_failures, assert_kinds};
 use std::alloc::Global;
 use std::process::Abort;
 use std::slice;
 use tb_layout::{Account, CLOCK_MAX, Failure, Transfer};
-use tb_test_makers::{OutcomeKind, SIX_PLACES, account, kind_of, must, transfer};
+use tb_test_makers::{OutcomeKind, SIX_PLACES, account, kind_of, transfer};
 use tb_work::{Item, Job, Refusal, Ticket};
 use tb_world::{Event, World, run_to_rest, run_world};
 
