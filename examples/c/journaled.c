@@ -113,7 +113,7 @@ static void commit_again(int operation, const stub_t *stubs, int count, const ch
 /* Commits what is in the file. The replies were given when it was committed first. */
 static void recover(void) {
     sqlite3_stmt *rows;
-    uint64_t places;
+    uint64_t places = 0;
     must(sqlite3_prepare_v2(file, "select * from entry order by place", -1, &rows, NULL) == SQLITE_OK, "select");
     must(sqlite3_step(rows) == SQLITE_ROW && sqlite3_column_int64(rows, 0) == SETTINGS_PLACE && sqlite3_column_int(rows, 1) == FORMAT_VERSION,
          "the first row has no settings");
@@ -132,7 +132,7 @@ static void recover(void) {
 
 /* Makes call `number` of the bank. A pulse has no reply, so it is stored here, at the place that it took. */
 static void go_on(uint64_t call) {
-    uint64_t places, number = 0;
+    uint64_t places = 0, number = 0;
     data_t *data = &sent[call % GROUP];
     if (call == 0) {
         *data = (data_t){.accounts = {{.id = {1, 0}, .ledger = 1, .code = 1}, {.id = {2, 0}, .ledger = 1, .code = 1}}};
@@ -164,7 +164,7 @@ int main(int count, char **words) {
     setvbuf(stdout, NULL, _IOLBF, 0); /* each line at once, also into a pipe */
     open_file(words[1]);
     recover();
-    uint64_t calls = strtoull(words[2], NULL, 10), place;
+    uint64_t calls = strtoull(words[2], NULL, 10), place = 0;
     must(kip_places(&kip, &place) == KIP_OK, "kip_places");
     printf("recovered %llu\n", (unsigned long long)place);
     while (place < calls) {
@@ -177,7 +177,7 @@ int main(int count, char **words) {
     }
 
     kip_account account = {0};
-    uint64_t clock;
+    uint64_t clock = 0;
     must(kip_lookup_account(&kip, 1, 0, &account) == KIP_OK || calls == 0, "account 1");
     must(kip_clock(&kip, &clock) == KIP_OK && kip_close(&kip) == KIP_OK, "kip_close");
     printf("debits %llu, clock %llu\n", (unsigned long long)account.debits_posted.low, (unsigned long long)clock);
