@@ -108,6 +108,13 @@ class Committing(InFolder):
         with DurableClient(self.path) as client:
             self.assertEqual(sorted(it.id for it in client.accounts()), list(range(1, 201)))
 
+    def test_a_client_that_refused_a_call_is_freed_with_its_last_name(self):
+        client = DurableClient(self.path)
+        with self.assertRaises(KipError):
+            client.submit(77, b"")
+        del client
+        DurableClient(self.path).close()
+
     def test_a_closed_client_refuses(self):
         client = DurableClient(self.path)
         client.close()

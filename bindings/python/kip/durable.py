@@ -100,7 +100,6 @@ class DurableClient(ClientSync):
 
     def __init__(self, path, clock=None, limit=None, submitters=None, **more):
         self._is_open = self._is_writing = False
-        self._refusal = None  # the last one of the library
         self._data = {}  # of each packet that isn't in the file yet
         self._stored = collections.deque()  # replies that weren't returned, to packets that are in the file
         if sqlite3.sqlite_version_info < (3, 37):
@@ -170,8 +169,9 @@ class DurableClient(ClientSync):
 
     def _must(self, status):
         if status:
-            self._refusal = KipError(status)
-            raise self._refusal
+            refusal = KipError(status)
+            refusal._client = id(self)  # (not the client, which would keep itself alive by the error's frames)
+            raise refusal
 
     def _alone(self, call):
         """Makes a call that a signal handler's calls may not divide. What fails and isn't refused by the library closes the client."""
@@ -185,7 +185,7 @@ class DurableClient(ClientSync):
                 return call()
             except BaseException as why:
                 # (what is committed may not be in the file, and a packet may be queued whose data isn't kept)
-                if why is not self._refusal:
+                if getattr(why, "_client", None) != id(self):
                     self._end()
                 raise
             finally:
