@@ -110,7 +110,7 @@ class Committing(InFolder):
 
     def test_a_client_that_refused_a_call_is_freed_with_its_last_name(self):
         client = DurableClient(self.path)
-        with self.assertRaises(KipError):
+        with contextlib.suppress(KipError):  # (assertRaises would clear the frames of the error)
             client.submit(77, b"")
         del client
         DurableClient(self.path).close()
