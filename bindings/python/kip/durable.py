@@ -167,11 +167,15 @@ class DurableClient(ClientSync):
             pass
         self._unread.clear()
 
+    def _refusal(self, status):
+        """Returns a refusal of the library. Neither it nor a frame of its refers to the other, or they would keep the client."""
+        refusal = KipError(status)
+        refusal._client = id(self)
+        return refusal
+
     def _must(self, status):
         if status:
-            refusal = KipError(status)
-            refusal._client = id(self)  # (not the client, which would keep itself alive by the error's frames)
-            raise refusal
+            raise self._refusal(status)
 
     def _alone(self, call):
         """Makes a call that a signal handler's calls may not divide. What fails and isn't refused by the library closes the client."""
