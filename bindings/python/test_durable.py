@@ -7,6 +7,8 @@ import shutil
 import signal
 import sqlite3
 import struct
+import subprocess
+import sys
 import tempfile
 import threading
 import unittest
@@ -176,6 +178,94 @@ class Failing(InFolder):
             self.assertEqual(client.create_accounts([Account(id=1, ledger=1, code=1)]), [])
 
 
+class OtherPrograms(InFolder):
+    def run_python(self, text):
+        """Runs a program that has the path as an argument, and returns the lines that it prints."""
+        begin = "import os, signal, sqlite3, sys\nfrom kip import *\nfrom kip.durable import DurableClient\npath = sys.argv[1]\n"
+        begin += "def make(id): return client.create_accounts([Account(id=id, ledger=1, code=1)])\n"
+        ran = subprocess.run([sys.executable, "-B", "-c", begin + text, self.path], capture_output=True, text=True,
+                             env={**os.environ, "PYTHONPATH": os.path.dirname(os.path.abspath(__file__))})
+        self.assertEqual(ran.stderr, "")
+        return ran.stdout.splitlines()
+
+    def ids(self):
+        with DurableClient(self.path) as client:
+            return [it.id for it in client.accounts()]
+
+    def test_a_client_that_is_refused_leaves_the_lock_of_the_first(self):
+        with DurableClient(self.path):
+            with self.assertRaises(BlockingIOError):
+                DurableClient(self.path)
+            found = self.run_python("try: DurableClient(path)\nexcept BlockingIOError: print('refused')")
+            self.assertEqual(found, ["refused"])
+        self.assertEqual(self.ids(), [])
+
+    def test_the_end_of_a_child_leaves_its_parent_the_file(self):
+        for end in "sys.exit(0)", "client.close()", "make(4)", "del client":
+            with self.subTest(end):
+                self.path.unlink(missing_ok=True)
+                found = self.run_python(
+                    "client = DurableClient(path)\nmake(1)\nclient.submit(CREATE_ACCOUNTS, b'')\nif os.fork() == 0:\n"
+                    f"    try: {end}\n    except KipError as why: print(why)\n    sys.exit(0)\n"
+                    "os.wait()\nmake(2)\nsys.stdout.flush()\nos.kill(os.getpid(), signal.SIGKILL)")
+                self.assertEqual(found, ["closed"] if "(" in end and "exit" not in end else [])
+                with DurableClient(self.path) as client:
+                    self.assertEqual(([it.id for it in client.accounts()], client.places()), ([1, 2], 3))
+
+    def test_a_client_whose_file_is_written_by_another_program_is_closed(self):
+        for other in "sqlite3.connect(path).execute('select * from entry').fetchall()", "client = DurableClient(path)\nmake(7)":
+            with self.subTest(other):
+                self.path.unlink(missing_ok=True)
+                client = DurableClient(self.path)
+                client.create_accounts([Account(id=1, ledger=1, code=1)])
+                shutil.copy(self.path, f"{self.path}.copy")  # (this process has lost its lock then)
+                self.run_python(other)
+                with self.assertRaisesRegex(sqlite3.OperationalError, "another program"):
+                    client.create_accounts([Account(id=2, ledger=1, code=1)])
+                with self.assertRaisesRegex(BlockingIOError, "this process"):
+                    DurableClient(self.path)
+                found = self.run_python("with DurableClient(path) as client: print(*[it.id for it in client.accounts()])")
+                self.assertEqual(found, ["1 7" if "7" in other else "1"])
+
+    def test_a_client_whose_file_is_moved_or_deleted_is_closed(self):
+        log = pathlib.Path(f"{self.path}-wal")
+        for lost in self.path, log:
+            for call in lambda: client.create_accounts([Account(id=2, ledger=1, code=1)]), lambda: client.close():
+                with self.subTest(lost):
+                    self.path.unlink(missing_ok=True)
+                    log.unlink(missing_ok=True)
+                    client = DurableClient(self.path)
+                    client.create_accounts([Account(id=1, ledger=1, code=1)])
+                    lost.rename(f"{lost}.moved")
+                    with self.assertRaisesRegex(sqlite3.OperationalError, "moved"):
+                        call()
+                    with self.assertRaises(KipError):
+                        client.flush()
+                    pathlib.Path(f"{lost}.moved").rename(lost)
+                    self.assertEqual(self.rows()[1], (0, CREATE_ACCOUNTS, 0, stub(), 128))
+
+    def test_a_file_with_another_name_is_refused(self):
+        self.run_python("client = DurableClient(path)\nmake(1)\nsys.stdout.flush()\nos.kill(os.getpid(), signal.SIGKILL)")
+        other = f"{self.path}.other"
+        os.link(self.path, other)
+        for path in self.path, other:
+            with self.assertRaisesRegex(BadFile, "another name"):
+                DurableClient(path)
+        os.unlink(other)
+        self.assertEqual(self.ids(), [1])
+
+    def test_a_link_leads_to_the_file_and_its_log(self):
+        self.run_python("client = DurableClient(path)\nmake(1)\nsys.stdout.flush()\nos.kill(os.getpid(), signal.SIGKILL)")
+        moved, link = f"{self.path}.moved", f"{self.path}.link"
+        os.symlink(self.path, link)
+        os.rename(self.path, moved)
+        with self.assertRaisesRegex(BadFile, "its log"):
+            DurableClient(link)
+        os.rename(moved, self.path)
+        with DurableClient(link) as client:
+            self.assertEqual(len(client.accounts()), 1)
+
+
 class BadFiles(InFolder):
     def refused(self, word):
         before = self.path.read_bytes()
@@ -196,6 +286,10 @@ class BadFiles(InFolder):
             "fit": [SETTINGS, (0, CREATE_ACCOUNTS, 0, stub(), EVENT * 2)],
             "buffer|invalid_data_size|fit": [SETTINGS, (0, CREATE_ACCOUNTS, 0, stub(0, 0, 2), EVENT)],
             "moment_too_large": [SETTINGS, (0, 0, 2**62 + 1, b"", b"")],
+            "its moment": [SETTINGS, (0, CREATE_ACCOUNTS, -5, stub(), EVENT)],
+            "wrong settings: bad_limit": [(*SETTINGS[:3], stub(0, 1, 0), b"")],
+            "wrong settings: bad_submitters": [(*SETTINGS[:3], stub(0, 17, 1), b"")],
+            "wrong settings: clock": [(*SETTINGS[:2], -1, *SETTINGS[3:])],
             "multiple": [SETTINGS, (0, CREATE_ACCOUNTS, 0, stub()[1:], EVENT)],
         }
         for word, rows in cases.items():
@@ -211,6 +305,14 @@ class BadFiles(InFolder):
     def test_other_tables(self):
         self.write(SETTINGS, table=TABLE.replace(" STRICT", ""))
         self.refused("another program")
+
+    def test_a_database_that_tbpipe_does_not_read(self):
+        for setting in "auto_vacuum", "encoding":
+            self.path.unlink(missing_ok=True)
+            with contextlib.closing(sqlite3.connect(self.path)) as database:
+                database.execute(f"pragma {setting} = '{'full' if setting == 'auto_vacuum' else 'UTF-16'}'")
+                database.execute(TABLE)
+            self.refused(setting)
 
     def test_no_database(self):
         for data in b"no database, but a text of some length" * 20, bytes(4096):

@@ -9,6 +9,7 @@
 #include <sqlite3.h>
 #include <stdio.h>
 #include <stdlib.h>
+#include <sys/stat.h>
 
 enum { SETTINGS_PLACE = -1, FORMAT_VERSION = 1, PULSE = 0, GROUP = 4 };
 
@@ -55,6 +56,17 @@ static void store(sqlite3_int64 place, int operation, sqlite3_int64 moment, cons
     must(sqlite3_step(insert) == SQLITE_DONE && sqlite3_reset(insert) == SQLITE_OK, "insert");
 }
 
+/* Refuses a file whose log isn't beside it: one with another name, by which its log may be named, and a log without its file, which SQLite
+ * would delete. A database in memory has no name, and would be lost. */
+static void look_at_log(void) {
+    const char *path = sqlite3_db_filename(file, "main");
+    struct stat found, log;
+    must(path && *path, "the file needs a name");
+    must(stat(path, &found) == 0 && found.st_nlink == 1, "the file has another name, by which its log may be named: remove that hard link");
+    must(found.st_size > 0 || stat(sqlite3_filename_wal(path), &log) != 0 || log.st_size == 0,
+         "there is no file, but its log has pages: put the file back, or move the log away");
+}
+
 /* Returns whether the file may be written here: pages with sums, as tb_durable makes them, would lose these. */
 static int has_no_sums(const char *path) {
     unsigned char head[21] = {0};
@@ -77,6 +89,7 @@ static void open_file(const char *path) {
     const stub_t settings = {0, 1, KIP_BATCH_MAX};
     must(has_no_sums(path), "the pages of the file have sums, which this SQLite doesn't write: continue it by tbpipe");
     must(sqlite3_open(path, &file) == SQLITE_OK, path);
+    look_at_log();
     sql("pragma locking_mode=exclusive; pragma synchronous=full; begin exclusive");
     int is_new = sqlite3_exec(file, "select 1 from entry", NULL, NULL, NULL) != SQLITE_OK;
     if (is_new) sql(TABLE);
@@ -100,10 +113,11 @@ static void commit_again(int operation, const stub_t *stubs, int count, const ch
     uint64_t number;
     int at = 0;
     for (int i = 0; i < count; i++, first_number++) {
-        int events = size / 128 < (int)stubs[i].events ? -1 : (int)stubs[i].events * 128;
-        must(operation != KIP_OPERATION_LOOKUP_ACCOUNTS && events >= 0 && at + events <= size, "a row has no packets of this bank");
-        must(kip_submit(&kip, stubs[i].submitter, operation, body + at, events, 0, &number) == KIP_OK, "a row has a packet that is refused");
-        at += events;
+        must(operation != KIP_OPERATION_LOOKUP_ACCOUNTS && stubs[i].events <= (uint32_t)(size - at) / 128, "a row has no packets of this bank");
+        int length = (int)stubs[i].events * 128;
+        const char *data = length ? body + at : NULL; /* (an empty body is a null) */
+        must(kip_submit(&kip, stubs[i].submitter, operation, data, length, 0, &number) == KIP_OK, "a row has a packet that is refused");
+        at += length;
     }
     must(count > 0 && at == size, "a row has no packets, or bytes of none");
     must(kip_flush(&kip) == KIP_OK, "flush");
@@ -115,9 +129,12 @@ static void recover(void) {
     sqlite3_stmt *rows;
     uint64_t places = 0;
     must(sqlite3_prepare_v2(file, "select * from entry order by place", -1, &rows, NULL) == SQLITE_OK, "select");
-    must(sqlite3_step(rows) == SQLITE_ROW && sqlite3_column_int64(rows, 0) == SETTINGS_PLACE && sqlite3_column_int(rows, 1) == FORMAT_VERSION,
+    must(sqlite3_step(rows) == SQLITE_ROW && sqlite3_column_int64(rows, 0) == SETTINGS_PLACE && sqlite3_column_int(rows, 1) == FORMAT_VERSION &&
+             sqlite3_column_bytes(rows, 3) == sizeof(stub_t),
          "the first row has no settings");
-    must(kip_open(&kip, sqlite3_column_int64(rows, 2), KIP_BATCH_MAX, 1) == KIP_OK, "kip_open");
+    const stub_t *settings = sqlite3_column_blob(rows, 3); /* (its events are the limit) */
+    must(settings != NULL, "out of memory");
+    must(kip_open(&kip, sqlite3_column_int64(rows, 2), settings->events, settings->submitter) == KIP_OK, "the first row has wrong settings");
     while (sqlite3_step(rows) == SQLITE_ROW) {
         must(kip_places(&kip, &places) == KIP_OK && sqlite3_column_int64(rows, 0) == (sqlite3_int64)places, "a row is missing");
         if (sqlite3_column_int(rows, 1) == PULSE)
@@ -160,11 +177,12 @@ static void store_replies(void) {
 }
 
 int main(int count, char **words) {
-    must(count == 3, "usage: journaled FILE CALLS");
+    char *rest = NULL;
+    uint64_t calls = count == 3 ? strtoull(words[2], &rest, 10) : 0, place = 0;
+    must(rest && *rest == 0 && words[2][0] >= '0' && words[2][0] <= '9', "usage: journaled FILE CALLS");
     setvbuf(stdout, NULL, _IOLBF, 0); /* each line at once, also into a pipe */
     open_file(words[1]);
     recover();
-    uint64_t calls = strtoull(words[2], NULL, 10), place = 0;
     must(kip_places(&kip, &place) == KIP_OK, "kip_places");
     printf("recovered %llu\n", (unsigned long long)place);
     while (place < calls) {

@@ -37,7 +37,7 @@ def main():
             for number in range(bank.places(), calls):
                 go_on(bank, number)
             print(f"debits {sum(it.debits_posted for it in bank.lookup_accounts([1]))}, clock {bank.clock()}")
-    except (ValueError, OSError, sqlite3.Error) as why:
+    except (ValueError, OSError, sqlite3.Error, tb.KipError) as why:
         sys.exit(f"journaled: {why}")
 
 

@@ -8,13 +8,18 @@
 
 The file has one table, `entry`: a row with the settings, and one for each packet and pulse that is committed, by its place
 (docs/DURABLE.md has the columns). `tbpipe replay FILE` and `tbpipe list --journal FILE` open it too, and so do programs over `tb_durable`.
+
+The file and its log, `ledger.db-wal`, are the ledger together: copy or move both, while no client has them open.
 """
 import collections
 import contextlib
+import ctypes
 import functools
 import os
 import sqlite3
 import struct
+import threading
+import weakref
 
 from . import BUSY, CLOSED, COMMITTED, LOOKUP_ACCOUNTS, NO_MEMORY, ClientSync, KipError, _bytes, _moment, _number
 
@@ -25,6 +30,8 @@ SETTINGS = "clock", "limit", "submitters"
 SETTINGS_PLACE, FORMAT_VERSION, PULSE = -1, 1, 0
 # Of a packet its number in its run, its submitter, and its count of events.
 _STUB = struct.Struct("<QII")
+# The clients of this process, and the device and inode of each file that one has open.
+_clients, _open_files, _opening = weakref.WeakSet(), set(), threading.RLock()
 
 
 class BadFile(ValueError):
@@ -35,14 +42,27 @@ def _event_size(operation):
     return 16 if operation == LOOKUP_ACCOUNTS else 128
 
 
-def _size(path):
-    return os.path.getsize(path) if os.path.exists(path) else 0
+def _stat(path):
+    with contextlib.suppress(FileNotFoundError):
+        return os.stat(path)
+
+
+def _identity(path):
+    found = _stat(path)
+    return found and (found.st_dev, found.st_ino)
 
 
 def _refuse_other_files(path):
-    """Refuses a file that this SQLite would spoil: one whose pages end in sums, as `tb_durable` makes it, and a log without its file."""
-    if _size(path) == 0 and _size(f"{path}-wal") > 0:
+    """Refuses a file that another client of this process has open, and one that this SQLite would spoil: one with another name, by which
+    its log may be named, one whose pages end in sums, as `tb_durable` makes it, and a log without its file."""
+    file, log = _stat(path), _stat(f"{path}-wal")
+    # (looked at ahead of `open`: when a process closes a file, it loses all its locks of it, also those of another client)
+    if file and (file.st_dev, file.st_ino) in _open_files:
+        raise BlockingIOError(f"{path}: another client of this process has it open, or failed with it: close that one, or start again")
+    if not (file and file.st_size) and log and log.st_size:
         raise BadFile(f"{path}: there is no file, but its log has pages: put the file back, or move the log away")
+    if file and file.st_nlink > 1 and os.path.isfile(path):
+        raise BadFile(f"{path}: it has another name, by which its log may be named: remove that hard link")
     with contextlib.suppress(FileNotFoundError), open(path, "rb") as file:
         if file.read(21)[20:] not in (b"", b"\0"):
             raise BadFile(f"{path}: its pages have sums, which Python's SQLite doesn't write: continue it by tbpipe or tb_durable")
@@ -53,7 +73,27 @@ def _is_new(path, database):
     found = database.execute("select type, name, sql from sqlite_master").fetchall()
     if found not in ([], [("table", "entry", TABLE)]):
         raise BadFile(f"{path}: it has the tables of another program: give another file")
+    for name, wanted in ("auto_vacuum", 0), ("encoding", "UTF-8"):
+        if (value := database.execute(f"pragma {name}").fetchone()[0]) != wanted:
+            raise BadFile(f"{path}: its {name} is {value}, which tbpipe doesn't read: copy its rows to a new file")
     return not found
+
+
+def _never_close(database):
+    """Keeps a connection for ever, also at the end of the process: as SQLite closes one, it copies the log into the file and deletes it."""
+    ctypes.pythonapi.Py_IncRef(ctypes.py_object(database))
+
+
+def _leave_to_parent():
+    """Closes the clients in a child, without their files: those are its parent's, which still writes them."""
+    global _opening
+    _opening = threading.RLock()
+    _open_files.clear()
+    for client in list(_clients):
+        client._leave()
+
+
+os.register_at_fork(after_in_child=_leave_to_parent)
 
 
 @contextlib.contextmanager
@@ -71,8 +111,8 @@ def _naming(path):
 
 def _lock(path, database, settings):
     """Locks a ledger's file until it is closed, and makes the table of a new one, with these settings."""
-    database.execute("pragma locking_mode = exclusive")
-    database.execute("pragma synchronous = full")
+    for setting in "auto_vacuum = none", "page_size = 4096", "locking_mode = exclusive", "synchronous = full":  # (the first two of a new file)
+        database.execute(f"pragma {setting}")
     database.execute("begin exclusive")
     if _is_new(path, database):
         database.execute(TABLE)
@@ -96,28 +136,51 @@ class DurableClient(ClientSync):
     A submitter's packets have the numbers that count on from those in the file. If the file can't be written, the call raises
     sqlite3.Error and the client is closed: open the file again, which has all that was acknowledged. So it is if a signal handler raises
     in the middle of a call. A handler that calls the client while it writes gets KipError `busy`.
+
+    A `with` commits and stores what waits also if it ends by an exception, and so does a client that isn't closed.
+
+    While a client is open, its process doesn't open the file by other means, as `shutil.copy` does: closing it there takes the lock from
+    the client too. If then another program writes to the file, or if the file or its log is moved or deleted, the next call that stores
+    raises sqlite3.OperationalError, and the client is closed. After a fork the client is the parent's, and the child's copy refuses
+    each call that would store as `closed`.
     """
 
     def __init__(self, path, clock=None, limit=None, submitters=None, **more):
         self._is_open = self._is_writing = False
         self._data = {}  # of each packet that isn't in the file yet
         self._stored = collections.deque()  # replies that weren't returned, to packets that are in the file
+        self._database = self._seen = self._key = None
         if sqlite3.sqlite_version_info < (3, 37):
             raise RuntimeError(f"SQLite {sqlite3.sqlite_version} has no strict tables: Python needs one with SQLite 3.37 or newer")
-        path, asked = os.path.abspath(os.fsdecode(path)), (clock, limit, submitters)
+        path, asked = os.path.realpath(os.fsdecode(path)), (clock, limit, submitters)  # (SQLite follows links too)
         settings = [_number(name, default if it is None else it, 64) for name, it, default in zip(SETTINGS, asked, (0, 8190, 1))]
         ClientSync(**dict(zip(SETTINGS, settings)), **more).close()  # wrong settings are refused ahead of a file
-        _refuse_other_files(path)
+        self._path = path
+        _clients.add(self)
         with _naming(path):
-            self._database = sqlite3.connect(path, isolation_level=None, timeout=0, check_same_thread=False)
             try:
-                _lock(path, self._database, settings)
-                super().__init__(**self._kept_settings(path, asked), **more)
+                self._open_file(settings)
+                kept = self._kept_settings(path, asked)
+                try:
+                    super().__init__(**kept, **more)
+                except (KipError, OverflowError) as why:
+                    if getattr(why, "status", None) == NO_MEMORY:
+                        raise
+                    raise BadFile(f"{path}: its first row has wrong settings: {why}") from None
                 self._restore_all(path)
                 self._database.execute("pragma journal_mode = wal")
+                self._seen = self._look()
             except BaseException:
                 self._end()
                 raise
+
+    def _open_file(self, settings):
+        with _opening:
+            _refuse_other_files(self._path)
+            self._database = sqlite3.connect(self._path, isolation_level=None, timeout=0, check_same_thread=False)
+            _lock(self._path, self._database, settings)
+            self._key = _identity(self._path)
+            _open_files.add(self._key)
 
     def _kept_settings(self, path, asked):
         """Returns the settings in the first row. Those that are asked for must be the same."""
@@ -148,6 +211,7 @@ class DurableClient(ClientSync):
     def _restore(self, following, place, operation, moment, stubs, body):
         if place != self.places():
             raise BadFile(f"the next place is {self.places()}")
+        _moment("its moment", moment)
         if operation == PULSE:
             super().pulse(moment)
             return
@@ -196,9 +260,36 @@ class DurableClient(ClientSync):
                 self._is_writing = False
 
     def _end(self):
-        self._database.close()
+        database, self._database = self._database, None
+        if database is not None:
+            if self._seen is None or self._is_same(self._look()):
+                database.close()
+                _open_files.discard(self._key)
+            else:
+                _never_close(database)
         if self._is_open:
             super().close()
+
+    def _leave(self):
+        """Closes the client without its file, in a child."""
+        database, self._database, self._is_open, self._lock = self._database, None, False, threading.RLock()
+        if database is not None:
+            _never_close(database)
+
+    def _look(self):
+        """Returns which file and log are at the path, and the log's size and time. A log is made by the first write."""
+        log = _stat(f"{self._path}-wal")
+        return _identity(self._path), log and (log.st_dev, log.st_ino), log and (log.st_size, log.st_mtime_ns)
+
+    def _is_same(self, look):
+        return look[0] == self._seen[0] and self._seen[1] in (None, look[1])
+
+    def _must_be_mine(self, is_mine):
+        """Fails if another program has changed the file or its log, or where they are. SQLite doesn't look, and its lock may be lost."""
+        if not is_mine:
+            self._seen = None, (), None  # (so that SQLite doesn't copy the log as it closes)
+            raise sqlite3.OperationalError(f"{self._path}: the file or its log was moved, deleted, or written by another program, which can be "
+                                           "if this process opened and closed it by other means: look at both, and start again")
 
     def _row(self, reply):
         data = self._data[reply.submitter, reply.number]
@@ -210,9 +301,13 @@ class DurableClient(ClientSync):
         replies = list(iter(super()._next, None))
         rows = [*(self._row(reply) for reply in replies if reply.outcome == COMMITTED), *pulses]
         if rows:
+            self._must_be_mine(self._look() == self._seen)
             self._database.execute("begin")
             self._database.executemany("insert into entry values (?, ?, ?, ?, ?)", rows)
             self._database.execute("commit")
+            look = self._look()
+            self._must_be_mine(self._is_same(look))
+            self._seen = look
         for reply in replies:
             del self._data[reply.submitter, reply.number]
         self._stored.extend(replies)
@@ -254,10 +349,14 @@ class DurableClient(ClientSync):
         """Commits the packets that wait for others to join, and stores them."""
         self._alone(self._flush_and_store)
 
+    def _flush_and_close(self):
+        self._flush_and_store()
+        self._must_be_mine(self._look() == self._seen)
+
     def close(self):
         """Commits and stores what waits, and frees the ledger. A second close raises `closed`."""
         try:
-            self._alone(self._flush_and_store)
+            self._alone(self._flush_and_close)
         finally:
             if not self._is_writing:
                 self._end()
