@@ -20,7 +20,8 @@
  *
  * The caller must ensure, and nothing checks:
  *  - Each pointer is valid, aligned and not null, and its memory belongs to no other argument of the call, and to no call
- *    of another thread. Null is allowed only for data and results of size 0, in kip_submit and kip_reply.
+ *    of another thread. Null is allowed only for data and results of size 0, in kip_submit, kip_reply, kip_entry and
+ *    kip_restore.
  *  - Buffers are as large as their sizes say.
  *  - A handle is zeroed before its first kip_open. Only the functions below change it, and no copy of it is used.
  *  - One call at a time is made with a handle, on any thread; what one thread did is visible to the next, as by a lock.
@@ -80,14 +81,14 @@ typedef enum KIP_OPERATION {
     KIP_OPERATION_LOOKUP_ACCOUNTS = 131,
 } KIP_OPERATION;
 
-/* Up to 99 a status is the number of a refusal of the pipeline. The first that applies is returned. kip_submit and kip_reply
- * look for KIP_NULL_POINTER ahead of all. Each call but kip_version then looks for KIP_BUSY, and then for those that it lists
+/* Up to 99 a status is the number of a refusal of the pipeline. The first that applies is returned. kip_submit, kip_reply, kip_entry and
+ * kip_restore look for KIP_NULL_POINTER ahead of all. Each call but kip_version then looks for KIP_BUSY, and then for those that it lists
  * below, in that order.
  *
  * With another status than KIP_OK the engine is as it was, and what a call would have written looks like no result. An account,
- * a transfer and counts are zeroed. A packet's number, a clock, a pending status and a reply's outcome are numbers that none of
- * them has: they are defined below. The exports, which callers in other languages use, write only kip_reply_bytes's head, with
- * KIP_TOO_SMALL. */
+ * a transfer and counts are zeroed. A packet's number, a clock, a pending status, a reply's outcome and an entry's place are numbers that
+ * none of them has: they are defined below. The exports, which callers in other languages use, write only the head of kip_reply_bytes and
+ * of kip_entry_bytes, with KIP_TOO_SMALL, and what kip_entry_bytes says of KIP_NO_MEMORY. */
 typedef enum KIP_STATUS {
     KIP_OK = 0,
     KIP_INVALID_OPERATION = 1,
@@ -107,6 +108,11 @@ typedef enum KIP_STATUS {
     KIP_NOT_FOUND = 104,
     KIP_NULL_POINTER = 105, /* null data or results of a size above 0 */
     KIP_BUSY = 106,         /* another thread is in a call with this handle */
+    KIP_NO_ENTRY = 107,     /* all that is committed was handed out */
+    KIP_NOT_NEXT = 108,     /* an entry isn't at the next place, or its number isn't its submitter's next */
+    KIP_IN_USE = 109,       /* packets wait, replies are unread, entries aren't handed out, or kip_shut was called */
+    KIP_NOT_RECORDED = 110, /* the handle wasn't opened by kip_open_recorded */
+    KIP_NOT_COMMITTED = 111, /* there aren't as many places */
 } KIP_STATUS;
 
 typedef enum KIP_OUTCOME {
@@ -120,7 +126,9 @@ typedef enum KIP_OUTCOME {
 #define KIP_NUMBER_NONE UINT64_MAX     /* of a packet that isn't queued */
 #define KIP_PENDING_UNKNOWN UINT32_MAX /* of a transfer that wasn't found */
 #define KIP_CLOCK_NONE UINT64_MAX
-#define KIP_PLACES_NONE UINT64_MAX
+#define KIP_PLACES_NONE UINT64_MAX     /* also of an entry that wasn't handed out */
+
+#define KIP_ENTRY_PULSE 0 /* what a pulse's entry has for an operation */
 
 typedef enum KIP_PENDING_STATUS {
     KIP_PENDING_NONE = 0, /* the transfer isn't pending */
@@ -183,6 +191,16 @@ typedef struct kip_reply_t {
     uint32_t is_read; /* this header's, and 1 if kip_reply returned KIP_OK; the exports write 0 */
 } kip_reply_t;
 
+/* An entry of the journal: a packet or a pulse that is committed, at its place. A packet's data are its events. */
+typedef struct kip_entry_t {
+    uint64_t place;     /* among all committed packets and pulses */
+    uint64_t moment;    /* a pulse's, in nanoseconds; 0 of a packet */
+    uint64_t number;    /* the packet's, among its submitter's */
+    uint64_t size;      /* the bytes of its data */
+    uint32_t submitter;
+    uint32_t operation; /* KIP_ENTRY_PULSE of a pulse, which has no data */
+} kip_entry_t;
+
 typedef struct kip_counts_t {
     uint64_t accounts;
     uint64_t transfers;
@@ -199,6 +217,7 @@ KIP_STATIC_ASSERT(sizeof(kip_failure) == 8 && offsetof(kip_failure, result) == 4
 KIP_STATIC_ASSERT(sizeof(kip_counts_t) == 24 && offsetof(kip_counts_t, failed_ids) == 16, "kip_counts_t");
 KIP_STATIC_ASSERT(sizeof(kip_reply_t) == 48 && offsetof(kip_reply_t, outcome) == 36, "kip_reply_t");
 KIP_STATIC_ASSERT(offsetof(kip_reply_t, is_read) == 44, "kip_reply_t");
+KIP_STATIC_ASSERT(sizeof(kip_entry_t) == 40 && offsetof(kip_entry_t, operation) == 36, "kip_entry_t");
 
 /* Returns KIP_VERSION of the library. */
 uint32_t kip_version(void);
@@ -218,6 +237,16 @@ uint32_t kip_open(kip_t *kip, uint64_t clock, uint32_t limit, uint32_t submitter
 KIP_CHECKED
 uint32_t kip_open_seeded(kip_t *kip, uint64_t clock, uint32_t limit, uint32_t submitters, uint64_t seed_low,
                          uint64_t seed_high);
+
+/* Opens a closed handle as kip_open_seeded does, for a host that keeps the journal in a store of its own, so that the ledger is there again
+ * after a crash. kip_entry hands out what is committed. The host stores it, and then says so by kip_durable. Until then kip_reply
+ * doesn't give the packet's reply: nobody can be told that a packet is committed which a crash could lose. After a crash the host opens
+ * with the same clock, limit and submitters, and kip_restore commits each stored entry again. Statuses: those of kip_open.
+ *
+ * Look-ups, kip_counts and kip_clock show what is committed, stored or not. */
+KIP_CHECKED
+uint32_t kip_open_recorded(kip_t *kip, uint64_t clock, uint32_t limit, uint32_t submitters, uint64_t seed_low,
+                           uint64_t seed_high);
 
 /* Reserves capacity for accounts and transfers that are still to be made. Until then no commit waits for their maps to
  * grow, which moves all that is stored; failed ids and expiries grow as needed. Statuses: KIP_CLOSED, KIP_NO_MEMORY. */
@@ -259,6 +288,29 @@ uint32_t kip_flush(kip_t *kip);
  * for null results of another size. */
 KIP_CHECKED
 uint32_t kip_reply_bytes(kip_t *kip, kip_reply_t *reply, void *results, size_t results_size);
+
+/* Hands out the next entry of the journal, and writes a packet's data: first what is committed first. Packets that wait are in no entry
+ * before kip_flush. With KIP_TOO_SMALL the entry stays the next one, and its head is written, with the size that is needed. Head and data
+ * may have been written with KIP_NO_MEMORY. Statuses: KIP_CLOSED, KIP_NOT_RECORDED, KIP_NO_ENTRY, KIP_TOO_SMALL, KIP_NO_MEMORY.
+ * kip_entry, below, also takes null data of size 0, and returns KIP_NULL_POINTER for null data of another size. With another status than
+ * KIP_OK the head's place is KIP_PLACES_NONE, and with another than KIP_TOO_SMALL too the rest of it is zeroed. */
+KIP_CHECKED
+uint32_t kip_entry_bytes(kip_t *kip, kip_entry_t *entry, void *data, size_t data_size);
+
+/* Notes that all entries at places below a number are stored, so that a crash can't lose them: then their replies can be read. The number
+ * is kip_places once all entries were handed out and stored. A lower number than before changes nothing. Nothing checks that the host
+ * has stored them. Statuses: KIP_CLOSED, KIP_NOT_RECORDED, KIP_NOT_COMMITTED. */
+KIP_CHECKED
+uint32_t kip_durable(kip_t *kip, uint64_t places);
+
+/* Commits an entry again, by itself and at the next place. Its reply isn't given, its packet gets its old number, and it isn't handed out.
+ * Entries are restored in the order of places, while no packet waits and no reply is unread: so a handle's own packets come after them.
+ * The handle may be one of kip_open too. Statuses: KIP_CLOSED, KIP_INVALID_DATA_SIZE if the entry has another size
+ * than the data, KIP_IN_USE, those of kip_submit_bytes or kip_pulse, KIP_NOT_NEXT, KIP_NO_MEMORY; KIP_NO_MEMORY may also come ahead of those
+ * after KIP_INVALID_DATA_SIZE. kip_restore, below, also takes null data of size 0, and returns KIP_NULL_POINTER for null data of another
+ * size. */
+KIP_CHECKED
+uint32_t kip_restore_bytes(kip_t *kip, const kip_entry_t *entry, const void *data, size_t data_size);
 
 /* Returns KIP_STOPPED if the engine stopped. Statuses: KIP_CLOSED, KIP_STOPPED. */
 KIP_CHECKED
@@ -338,6 +390,12 @@ KIP_CHECKED static inline uint32_t kip_guarded_open_seeded(kip_t *kip, uint64_t 
     return kip_leave(kip, kip_open_seeded(kip, clock, kip_narrow(limit), kip_narrow(submitters), seed_low, seed_high));
 }
 
+KIP_CHECKED static inline uint32_t kip_guarded_open_recorded(kip_t *kip, uint64_t clock, uint64_t limit, uint64_t submitters,
+                                                             uint64_t seed_low, uint64_t seed_high) {
+    if (!kip_enter(kip)) return KIP_BUSY;
+    return kip_leave(kip, kip_open_recorded(kip, clock, kip_narrow(limit), kip_narrow(submitters), seed_low, seed_high));
+}
+
 KIP_CHECKED static inline uint32_t kip_guarded_reserve(kip_t *kip, size_t accounts, size_t transfers) {
     if (!kip_enter(kip)) return KIP_BUSY;
     return kip_leave(kip, kip_reserve(kip, accounts, transfers));
@@ -383,6 +441,33 @@ KIP_CHECKED static inline uint32_t kip_guarded_reply_bytes(kip_t *kip, kip_reply
     else
         reply->outcome = KIP_OUTCOME_UNREAD;
     return kip_leave(kip, status);
+}
+
+/* Zeroes an entry, and says that none was handed out. */
+static inline void kip_no_entry(kip_entry_t *entry) {
+    memset(entry, 0, sizeof *entry);
+    entry->place = KIP_PLACES_NONE;
+}
+
+KIP_CHECKED static inline uint32_t kip_guarded_entry_bytes(kip_t *kip, kip_entry_t *entry, void *data, size_t data_size) {
+    uint32_t status;
+    kip_no_entry(entry);
+    if (!kip_enter(kip)) return KIP_BUSY;
+    status = kip_entry_bytes(kip, entry, data, data_size);
+    if (status != KIP_OK && status != KIP_TOO_SMALL) kip_no_entry(entry);
+    if (status != KIP_OK) entry->place = KIP_PLACES_NONE;
+    return kip_leave(kip, status);
+}
+
+KIP_CHECKED static inline uint32_t kip_guarded_durable(kip_t *kip, uint64_t places) {
+    if (!kip_enter(kip)) return KIP_BUSY;
+    return kip_leave(kip, kip_durable(kip, places));
+}
+
+KIP_CHECKED static inline uint32_t kip_guarded_restore_bytes(kip_t *kip, const kip_entry_t *entry, const void *data,
+                                                             size_t data_size) {
+    if (!kip_enter(kip)) return KIP_BUSY;
+    return kip_leave(kip, kip_restore_bytes(kip, entry, data, data_size));
 }
 
 KIP_CHECKED static inline uint32_t kip_guarded_stopped(kip_t *kip) {
@@ -439,6 +524,7 @@ KIP_CHECKED static inline uint32_t kip_guarded_places(kip_t *kip, uint64_t *plac
 
 #define kip_open kip_guarded_open
 #define kip_open_seeded kip_guarded_open_seeded
+#define kip_open_recorded kip_guarded_open_recorded
 #define kip_reserve kip_guarded_reserve
 #define kip_close kip_guarded_close
 #define kip_submit_bytes kip_guarded_submit_bytes
@@ -446,6 +532,9 @@ KIP_CHECKED static inline uint32_t kip_guarded_places(kip_t *kip, uint64_t *plac
 #define kip_shut kip_guarded_shut
 #define kip_flush kip_guarded_flush
 #define kip_reply_bytes kip_guarded_reply_bytes
+#define kip_entry_bytes kip_guarded_entry_bytes
+#define kip_durable kip_guarded_durable
+#define kip_restore_bytes kip_guarded_restore_bytes
 #define kip_stopped kip_guarded_stopped
 #define kip_lookup_account kip_guarded_lookup_account
 #define kip_account_at kip_guarded_account_at
@@ -469,6 +558,18 @@ KIP_CHECKED static inline uint32_t kip_reply(kip_t *kip, kip_reply_t *reply, voi
     return kip_reply_bytes(kip, reply, results ? results : &nothing, results_size);
 }
 
+KIP_CHECKED static inline uint32_t kip_entry(kip_t *kip, kip_entry_t *entry, void *data, size_t data_size) {
+    char nothing;
+    kip_no_entry(entry);
+    if (!data && data_size != 0) return KIP_NULL_POINTER;
+    return kip_entry_bytes(kip, entry, data ? data : &nothing, data_size);
+}
+
+KIP_CHECKED static inline uint32_t kip_restore(kip_t *kip, const kip_entry_t *entry, const void *data, size_t data_size) {
+    if (!data && data_size != 0) return KIP_NULL_POINTER;
+    return kip_restore_bytes(kip, entry, data ? data : "", data_size);
+}
+
 /* Returns a status's name as in KIP_STATUS, without "KIP_", in lower case; "unknown" for any other number. */
 static inline const char *kip_status_name(uint32_t status) {
     switch (status) {
@@ -490,6 +591,11 @@ static inline const char *kip_status_name(uint32_t status) {
         case KIP_NOT_FOUND: return "not_found";
         case KIP_NULL_POINTER: return "null_pointer";
         case KIP_BUSY: return "busy";
+        case KIP_NO_ENTRY: return "no_entry";
+        case KIP_NOT_NEXT: return "not_next";
+        case KIP_IN_USE: return "in_use";
+        case KIP_NOT_RECORDED: return "not_recorded";
+        case KIP_NOT_COMMITTED: return "not_committed";
         default: return "unknown";
     }
 }

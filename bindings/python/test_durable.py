@@ -12,19 +12,25 @@ import sys
 import tempfile
 import threading
 import unittest
+import unittest.mock
 
-from kip import CREATE_ACCOUNTS, CREATE_TRANSFERS, LOOKUP_ACCOUNTS, Account, KipError, NotCommitted, Transfer
+from kip import CREATE_ACCOUNTS, CREATE_TRANSFERS, LOOKUP_ACCOUNTS, NO_MEMORY, SHUTDOWN, Account, KipError, Ledger, NotCommitted, Transfer
 from kip.durable import TABLE, BadFile, DurableClient
 
 ROUTE = dict(debit_account_id=1, credit_account_id=2, ledger=1, code=1)
-EVENT = struct.pack("<16s96sIHHQ", (1).to_bytes(16, "little"), bytes(96), 1, 1, 0, 0)
 IDS = (1).to_bytes(16, "little")
+
+
+def event(id, flags=0):
+    """Returns an account's bytes."""
+    return struct.pack("<16s96sIHHQ", id.to_bytes(16, "little"), bytes(96), 1, 1, flags, 0)
 
 
 def stub(number=0, submitter=0, events=1):
     return struct.pack("<QII", number, submitter, events)
 
 
+EVENT = event(1)
 SETTINGS = -1, 1, 0, stub(0, 1, 8190), b""
 MADE = 0, CREATE_ACCOUNTS, 0, stub(), EVENT
 
@@ -49,6 +55,70 @@ class InFolder(unittest.TestCase):
                 shutil.copy(f"{self.path}{end}", f"{self.path}.copy{end}")
         with contextlib.closing(sqlite3.connect(f"{self.path}.copy")) as database:
             return database.execute("select place, operation, moment, stubs, length(body) from entry order by place").fetchall()
+
+
+class Recorded(Ledger):
+    """A ledger whose journal is kept by the test."""
+
+    _is_recorded = True
+
+
+class Recording(unittest.TestCase):
+    def refused(self, name, call, *arguments):
+        with self.assertRaises(KipError) as caught:
+            call(*arguments)
+        self.assertEqual(caught.exception.name, name)
+
+    def entries(self, ledger):
+        return list(iter(ledger._entry, None))
+
+    def test_a_reply_is_given_once_its_place_is_durable(self):
+        for seed in None, (3, 5):
+            with Recorded(seed=seed) as ledger:
+                numbers = [ledger.submit(CREATE_ACCOUNTS, EVENT) for _ in range(2)]
+                ledger.flush()
+                self.assertEqual((ledger.places(), ledger.reply()), (2, None))
+                self.assertEqual((self.entries(ledger)[1][:5], ledger.reply(1)), ((1, 129, 0, 0, 1), None))
+                self.refused("not_committed", ledger._durable, 3)
+                self.assertIsNone(ledger.reply())
+                ledger._durable(1)
+                self.assertEqual((ledger.reply(1), ledger.reply(0).place), (None, 0))
+                ledger._durable(2)
+                self.assertEqual((ledger.reply(numbers[1]).place, ledger.reply()), (1, None))
+
+    def test_entries_are_in_order_and_are_restored(self):
+        with Recorded(submitters=2) as ledger, Recorded(submitters=2) as other:
+            ledger.submit(CREATE_ACCOUNTS, event(1) + event(2))
+            ledger.pulse(70)
+            ledger.submit(CREATE_ACCOUNTS, event(3) * 8000, 1)
+            ledger.submit(LOOKUP_ACCOUNTS, IDS, 1)
+            ledger.pulse(8100)
+            entries = self.entries(ledger)
+            heads = [(0, 129, 0, 0, 0), (1, 0, 70, 0, 0), (2, 129, 0, 1, 0), (3, 131, 0, 1, 1), (4, 0, 8100, 0, 0)]
+            self.assertEqual([it[:5] for it in entries], heads)
+            self.assertEqual([it.data for it in entries], [event(1) + event(2), b"", event(3) * 8000, IDS, b""])
+            for place, entry in enumerate(entries):
+                self.refused("not_next", other._restore_entry, entry._replace(place=place + 1))
+                if entry.operation:
+                    self.refused("not_next", other._restore_entry, entry._replace(number=entry.number + 1))
+                    self.refused("invalid_operation", other._restore_entry, entry._replace(operation=77))
+                    with self.assertRaises(OverflowError):
+                        other._restore_entry(entry._replace(operation=256 + 129))
+                other._restore_entry(entry)
+            self.assertEqual((other.accounts(), other.clock(), other.places()), (ledger.accounts(), ledger.clock(), 5))
+            self.assertEqual((other._entry(), other.reply(), other.submit(CREATE_ACCOUNTS, b"", 1)), (None, None, 2))
+            self.refused("in_use", other._restore_entry, entry._replace(place=5))
+
+    def test_what_is_not_committed_waits_for_nothing(self):
+        with Recorded() as ledger:
+            ledger.shut()
+            ledger.submit(CREATE_ACCOUNTS, EVENT)
+            self.assertEqual((ledger.reply().outcome, ledger._entry()), (SHUTDOWN, None))
+
+    def test_another_ledger_keeps_no_journal(self):
+        with Ledger() as ledger:
+            self.refused("not_recorded", ledger._entry)
+            self.refused("not_recorded", ledger._durable, 0)
 
 
 class Committing(InFolder):
@@ -82,6 +152,43 @@ class Committing(InFolder):
             with DurableClient(self.path) as client:
                 self.assertEqual([client.submit(CREATE_ACCOUNTS, EVENT) for _ in range(2)], [2 * run, 2 * run + 1])
         self.assertEqual([row[3] for row in self.rows()[1:]], [stub(), stub(1)] * 3)
+
+    def test_pulses_are_stored_between_packets(self):
+        with DurableClient(self.path) as client:
+            client.submit(CREATE_ACCOUNTS, EVENT)
+            client.pulse(70)
+            self.assertEqual([row[:3] for row in self.rows()[1:]], [(0, 129, 0), (1, 0, 70)])
+            client.submit(CREATE_ACCOUNTS, EVENT)
+            client.submit(LOOKUP_ACCOUNTS, IDS)
+            client.pulse(80)
+            client.pulse(90)
+            client.submit(CREATE_ACCOUNTS, EVENT)
+            self.assertEqual([client.reply(it).place for it in (2, 0, 1)], [3, 0, 2])
+        wanted = [(0, 129, 0), (1, 0, 70), (2, 129, 0), (3, 131, 0), (4, 0, 80), (5, 0, 90), (6, 129, 0)]
+        self.assertEqual([row[:3] for row in self.rows()[1:]], wanted)
+        with DurableClient(self.path) as client:
+            self.assertEqual((client.places(), client.clock(), client.reply()), (7, 91, None))
+
+    def test_a_row_of_several_packets(self):
+        first = 0, CREATE_ACCOUNTS, 0, stub(0, 0, 2) + stub(0, 1, 0) + stub(1), event(1) + event(2) + event(1)
+        later = 4, CREATE_ACCOUNTS, 0, stub(1, 1) + stub(0, 0), event(3) + event(4)
+        self.write((*SETTINGS[:3], stub(0, 2, 2), b""), first, (3, 0, 70, b"", b""), later)
+        for run in range(2):
+            with DurableClient(self.path) as client:
+                self.assertEqual(([it.id for it in client.accounts()], client.places()), ([1, 2, 3, 4], 6 + run))
+                self.assertEqual((client.submit(CREATE_ACCOUNTS, b"", run), client.reply()), (3 - run, None))
+        self.assertEqual([row[0] for row in self.rows()], [-1, 0, 3, 4, 6, 7])
+
+    def test_ten_thousand_packets(self):
+        with DurableClient(self.path) as client:
+            for id in range(10**4):
+                client.submit(CREATE_ACCOUNTS, event(id + 1))
+            client.flush()
+            self.assertEqual([client.reply().place for _ in range(10**4)], list(range(10**4)))
+            self.assertIsNone(client.reply())
+        with DurableClient(self.path) as client:
+            self.assertEqual((client.places(), [it.id for it in client.accounts()]), (10**4, list(range(1, 10**4 + 1))))
+            self.assertEqual(client.submit(CREATE_ACCOUNTS, b""), 10**4)
 
     def test_a_packet_of_8190_events(self):
         with DurableClient(self.path) as client:
@@ -126,7 +233,54 @@ class Committing(InFolder):
             self.assertEqual(caught.exception.name, "closed")
 
 
+class FailingStore:
+    """A connection that fails ahead of a statement, or right after it."""
+
+    def __init__(self, database, text, is_done=False):
+        self.database, self.text, self.is_done, self.close = database, text, is_done, database.close
+
+    def execute(self, text, *rows, call="execute"):
+        if self.is_done or not text.startswith(self.text):
+            getattr(self.database, call)(text, *rows)
+        if text.startswith(self.text):
+            raise sqlite3.OperationalError("no disk")
+
+    def executemany(self, text, rows):
+        self.execute(text, rows, call="executemany")
+
+
 class Failing(InFolder):
+    def test_no_reply_is_given_without_its_row(self):
+        for text, is_done in ("begin", False), ("insert", False), ("insert", True), ("commit", False), ("commit", True):
+            for way in "flush", "reply", "pulse", "close":
+                with self.subTest((text, is_done, way)):
+                    self.path.unlink(missing_ok=True)
+                    client = DurableClient(self.path)
+                    client.create_accounts([Account(id=1, ledger=1, code=1)])
+                    numbers = client.submit(CREATE_ACCOUNTS, event(2)), client.submit(LOOKUP_ACCOUNTS, IDS)
+                    client._database = FailingStore(client._database, text, is_done)
+                    with self.assertRaisesRegex(sqlite3.OperationalError, "no disk"):
+                        {"flush": client.flush, "reply": client.reply, "pulse": lambda: client.pulse(5), "close": client.close}[way]()
+                    for call in client.reply, lambda: client.reply(numbers[0]), client.flush, client.close:
+                        with self.assertRaises(KipError) as caught:
+                            call()
+                        self.assertEqual(caught.exception.name, "closed")
+                    with DurableClient(self.path) as client:
+                        self.assertEqual([it.id for it in client.accounts()], [1, 2] if text == "commit" and is_done else [1])
+
+    def test_no_memory_for_an_entry_closes_the_client(self):
+        client = DurableClient(self.path)
+        client.submit(CREATE_ACCOUNTS, EVENT)
+        client.submit(LOOKUP_ACCOUNTS, IDS)
+        client._entry = unittest.mock.Mock(side_effect=[client._entry(), client._refusal(NO_MEMORY)])
+        with self.assertRaisesRegex(MemoryError, "no_memory"):
+            client.flush()
+        with self.assertRaises(KipError) as caught:
+            client.reply()
+        self.assertEqual(caught.exception.name, "closed")
+        with DurableClient(self.path) as client:
+            self.assertEqual(client.places(), 0)
+
     def test_a_file_that_can_not_grow_closes_the_client_and_keeps_what_was_acknowledged(self):
         made, soft = 0, resource.getrlimit(resource.RLIMIT_FSIZE)
         self.addCleanup(signal.signal, signal.SIGXFSZ, signal.signal(signal.SIGXFSZ, signal.SIG_IGN))
@@ -297,6 +451,14 @@ class BadFiles(InFolder):
                 self.path.unlink(missing_ok=True)
                 self.write(*rows)
                 self.refused(word)
+
+    def test_packets_that_can_not_share_a_batch(self):
+        linked, two = event(1, flags=1), stub() + stub(1)
+        for row in ((0, CREATE_ACCOUNTS, 0, stub(0, 0, 8190) + stub(1), EVENT * 8191), (0, LOOKUP_ACCOUNTS, 0, two, IDS * 2),
+                    (0, CREATE_ACCOUNTS, 0, two, EVENT + linked), (0, CREATE_ACCOUNTS, 0, two, linked + EVENT)):
+            self.path.unlink(missing_ok=True)
+            self.write(SETTINGS, row)
+            self.refused("can't share")
 
     def test_empty_stubs(self):
         self.write(SETTINGS, (0, CREATE_ACCOUNTS, 0, b"", b""))

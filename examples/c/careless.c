@@ -103,6 +103,58 @@ static void nothing_is_counted_or_queued(kip_t *kip) {
     assert(number == KIP_NUMBER_NONE);
 }
 
+/* Returns whether an entry is none, and has nothing of another. */
+static int is_no_entry(const kip_entry_t *entry) {
+    kip_entry_t none = KIP_INIT;
+    none.place = KIP_PLACES_NONE;
+    return memcmp(entry, &none, sizeof none) == 0;
+}
+
+/* No entry: of a handle without a journal, of a closed one, during another thread's call, with null data, and as none is left. */
+static void entries_that_are_not_handed_out(kip_t *plain) {
+    kip_t kip = KIP_INIT, closed = KIP_INIT;
+    kip_entry_t entry;
+    char data[sizeof made];
+    assert(kip_open_recorded(&kip, 0, 8190, 1, 3, 5) == KIP_OK);
+    for (int way = 0; way < 6; way++) {
+        queued(&kip, KIP_OPERATION_CREATE_ACCOUNTS, made, sizeof made);
+        assert(kip_flush(&kip) == KIP_OK && kip_entry(&kip, &entry, data, sizeof data) == KIP_OK);
+        assert(entry.number == (uint64_t)way && memcmp(data, made, sizeof made) == 0);
+        kip.entered = way == 2;
+        if (way == 0) dropped(kip_entry(plain, &entry, data, sizeof data));
+        else if (way == 1) dropped(kip_entry(&closed, &entry, data, sizeof data));
+        else if (way == 3) dropped(kip_entry(&kip, &entry, NULL, 8));
+        else if (way == 4) dropped(kip_entry_bytes(&kip, &entry, data, sizeof data));
+        else dropped(kip_entry(&kip, &entry, data, sizeof data));
+        kip.entered = 0;
+        assert(is_no_entry(&entry));
+    }
+    assert(kip_close(&kip) == KIP_OK);
+}
+
+/* Replies that are read ahead of the store, entries whose data doesn't fit, and a journal that is restored wrongly. */
+static void entries_that_are_not_stored(void) {
+    kip_t kip = KIP_INIT;
+    kip_entry_t entry, wrong = {.place = 2, .number = 1, .size = sizeof made, .operation = KIP_OPERATION_CREATE_ACCOUNTS};
+    kip_reply_t reply;
+    char data[sizeof made] = {7};
+    uint64_t places;
+    assert(kip_open_recorded(&kip, 0, 8190, 1, 3, 5) == KIP_OK);
+    queued(&kip, KIP_OPERATION_CREATE_ACCOUNTS, made, sizeof made);
+    assert(kip_flush(&kip) == KIP_OK);
+    dropped(kip_entry(&kip, &entry, data, sizeof data - 1));
+    assert(entry.size == sizeof made && data[0] == 7);
+    dropped(kip_durable(&kip, 2));
+    assert(kip_entry(&kip, &entry, data, sizeof data) == KIP_OK);
+    dropped(kip_reply(&kip, &reply, NULL, 0));
+    assert(is_unread(&reply));
+    assert(kip_durable(&kip, 1) == KIP_OK && kip_reply(&kip, &reply, NULL, 0) == KIP_OK && kip_succeeded(&reply));
+    dropped(kip_restore(&kip, &wrong, made, sizeof made));
+    dropped(kip_restore(&kip, &wrong, NULL, sizeof made));
+    assert(kip_places(&kip, &places) == KIP_OK && places == 1);
+    assert(kip_close(&kip) == KIP_OK);
+}
+
 /* Numbers that need more bits than the library takes: cut, each would be one that it accepts. */
 static void numbers_that_are_too_large(kip_t *kip) {
     const uint64_t more = (uint64_t)1 << 32;
@@ -117,6 +169,8 @@ static void numbers_that_are_too_large(kip_t *kip) {
     assert(kip_open(&closed, 0, more + 1, 1) == KIP_BAD_LIMIT && kip_open(&closed, 0, 1, more + 1) == KIP_BAD_SUBMITTERS);
     assert(kip_open_seeded(&closed, 0, more + 1, 1, 3, 5) == KIP_BAD_LIMIT);
     assert(kip_open_seeded(&closed, 0, 1, more + 1, 3, 5) == KIP_BAD_SUBMITTERS && !closed.is_open);
+    assert(kip_open_recorded(&closed, 0, more + 1, 1, 3, 5) == KIP_BAD_LIMIT);
+    assert(kip_open_recorded(&closed, 0, 1, more + 1, 3, 5) == KIP_BAD_SUBMITTERS && !closed.is_open);
 }
 
 int main(void) {
@@ -131,6 +185,8 @@ int main(void) {
     nothing_is_found(&kip);
     nothing_is_counted_or_queued(&kip);
     kip.entered = 0;
+    entries_that_are_not_handed_out(&kip);
+    entries_that_are_not_stored();
     numbers_that_are_too_large(&kip);
     assert(kip_close(&kip) == KIP_OK);
     puts("nothing that was refused looks like success");

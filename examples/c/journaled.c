@@ -9,9 +9,10 @@
 #include <sqlite3.h>
 #include <stdio.h>
 #include <stdlib.h>
+#include <sys/random.h>
 #include <sys/stat.h>
 
-enum { SETTINGS_PLACE = -1, FORMAT_VERSION = 1, PULSE = 0, GROUP = 4 };
+enum { SETTINGS_PLACE = -1, FORMAT_VERSION = 1, GROUP = 4 };
 
 #define TABLE \
     "CREATE TABLE entry (place INTEGER PRIMARY KEY, operation INTEGER NOT NULL, moment INTEGER NOT NULL, stubs BLOB NOT NULL, body " \
@@ -24,17 +25,10 @@ typedef struct {
 } stub_t;
 KIP_STATIC_ASSERT(sizeof(stub_t) == 16, "a stub has 16 bytes");
 
-/* The bytes of a packet, until it is in the file. */
-typedef union {
-    kip_account accounts[2];
-    kip_transfer transfer;
-} data_t;
-
 static kip_t kip;
 static sqlite3 *file;
 static sqlite3_stmt *insert;
-static data_t sent[GROUP];
-static uint64_t first_number; /* of this run's packets: as many are in the file */
+static uint64_t first_numbers[KIP_SUBMITTERS_MAX]; /* of each submitter's packets in this run: as many are in the file */
 
 static void must(int holds, const char *what) {
     if (!holds) {
@@ -47,12 +41,13 @@ static void must(int holds, const char *what) {
 
 static void sql(const char *text) { must(sqlite3_exec(file, text, NULL, NULL, NULL) == SQLITE_OK, text); }
 
-static void store(sqlite3_int64 place, int operation, sqlite3_int64 moment, const stub_t *stub, const void *body, int size) {
+/* Puts a row, with a stub or none. */
+static void put(sqlite3_int64 place, int operation, sqlite3_int64 moment, const stub_t *stub, const void *body, int size) {
     sqlite3_bind_int64(insert, 1, place);
     sqlite3_bind_int(insert, 2, operation);
     sqlite3_bind_int64(insert, 3, moment);
     sqlite3_bind_blob(insert, 4, stub ? (const void *)stub : "", stub ? sizeof *stub : 0, SQLITE_STATIC);
-    sqlite3_bind_blob(insert, 5, size ? body : "", size, SQLITE_STATIC);
+    sqlite3_bind_blob(insert, 5, body, size, SQLITE_STATIC);
     must(sqlite3_step(insert) == SQLITE_DONE && sqlite3_reset(insert) == SQLITE_OK, "insert");
 }
 
@@ -95,85 +90,85 @@ static void open_file(const char *path) {
     if (is_new) sql(TABLE);
     must(is_ledger(), "the file has the tables of another program");
     must(sqlite3_prepare_v2(file, "insert into entry values (?, ?, ?, ?, ?)", -1, &insert, NULL) == SQLITE_OK, "insert");
-    if (is_new) store(SETTINGS_PLACE, FORMAT_VERSION, 0, &settings, NULL, 0);
+    if (is_new) put(SETTINGS_PLACE, FORMAT_VERSION, 0, &settings, "", 0);
     sql("commit");
 }
 
-/* Reads the next reply; false if there is none. A packet of this bank has at most two events that fail. */
-static int next_reply(kip_reply_t *reply) {
-    kip_failure failures[2];
-    uint32_t status = kip_reply(&kip, reply, failures, sizeof failures);
-    must(status == KIP_NO_REPLY || (status == KIP_OK && kip_committed(reply)), kip_status_name(status));
-    return status == KIP_OK;
-}
+static int event_size(uint32_t operation) { return operation == KIP_OPERATION_LOOKUP_ACCOUNTS ? 16 : 128; }
 
-/* Commits the packets of a row again, and drops their replies. */
-static void commit_again(int operation, const stub_t *stubs, int count, const char *body, int size) {
-    kip_reply_t reply;
-    uint64_t number;
-    int at = 0;
-    for (int i = 0; i < count; i++, first_number++) {
-        must(operation != KIP_OPERATION_LOOKUP_ACCOUNTS && stubs[i].events <= (uint32_t)(size - at) / 128, "a row has no packets of this bank");
-        int length = (int)stubs[i].events * 128;
-        const char *data = length ? body + at : NULL; /* (an empty body is a null) */
-        must(kip_submit(&kip, stubs[i].submitter, operation, data, length, 0, &number) == KIP_OK, "a row has a packet that is refused");
-        at += length;
+/* Commits a row again: a pulse, or the packets of a batch. */
+static void restore(sqlite3_stmt *row) {
+    kip_entry_t entry = {
+        .place = sqlite3_column_int64(row, 0), .operation = sqlite3_column_int(row, 1), .moment = sqlite3_column_int64(row, 2)};
+    const stub_t *stubs = sqlite3_column_blob(row, 3);
+    const char *body = sqlite3_column_blob(row, 4); /* (null if it is empty) */
+    uint64_t count = sqlite3_column_bytes(row, 3) / sizeof *stubs, size = sqlite3_column_bytes(row, 4), at = 0;
+    if (entry.operation == KIP_ENTRY_PULSE) {
+        must(kip_restore(&kip, &entry, NULL, 0) == KIP_OK, "a row's pulse isn't next, or is refused");
+        return;
+    }
+    for (uint64_t i = 0; i < count; i++, entry.place++) {
+        entry.size = (uint64_t)stubs[i].events * event_size(entry.operation);
+        must(entry.size <= size - at && stubs[i].submitter < KIP_SUBMITTERS_MAX, "a row's stub doesn't fit");
+        entry.submitter = stubs[i].submitter;
+        entry.number = first_numbers[entry.submitter]++;
+        must(kip_restore(&kip, &entry, entry.size ? body + at : NULL, entry.size) == KIP_OK, "a row's packet isn't next, or is refused");
+        at += entry.size;
     }
     must(count > 0 && at == size, "a row has no packets, or bytes of none");
-    must(kip_flush(&kip) == KIP_OK, "flush");
-    while (next_reply(&reply)) {}
 }
 
 /* Commits what is in the file. The replies were given when it was committed first. */
 static void recover(void) {
     sqlite3_stmt *rows;
-    uint64_t places = 0;
     must(sqlite3_prepare_v2(file, "select * from entry order by place", -1, &rows, NULL) == SQLITE_OK, "select");
     must(sqlite3_step(rows) == SQLITE_ROW && sqlite3_column_int64(rows, 0) == SETTINGS_PLACE && sqlite3_column_int(rows, 1) == FORMAT_VERSION &&
              sqlite3_column_bytes(rows, 3) == sizeof(stub_t),
          "the first row has no settings");
     const stub_t *settings = sqlite3_column_blob(rows, 3); /* (its events are the limit) */
+    uint64_t seed[2];
     must(settings != NULL, "out of memory");
-    must(kip_open(&kip, sqlite3_column_int64(rows, 2), settings->events, settings->submitter) == KIP_OK, "the first row has wrong settings");
-    while (sqlite3_step(rows) == SQLITE_ROW) {
-        must(kip_places(&kip, &places) == KIP_OK && sqlite3_column_int64(rows, 0) == (sqlite3_int64)places, "a row is missing");
-        if (sqlite3_column_int(rows, 1) == PULSE)
-            must(kip_pulse(&kip, sqlite3_column_int64(rows, 2)) == KIP_OK, "a pulse");
-        else
-            commit_again(sqlite3_column_int(rows, 1), sqlite3_column_blob(rows, 3), sqlite3_column_bytes(rows, 3) / sizeof(stub_t),
-                         sqlite3_column_blob(rows, 4), sqlite3_column_bytes(rows, 4));
-    }
+    must(getentropy(seed, sizeof seed) == 0, "getentropy");
+    must(kip_open_recorded(&kip, sqlite3_column_int64(rows, 2), settings->events, settings->submitter, seed[0], seed[1]) == KIP_OK,
+         "the first row has wrong settings");
+    while (sqlite3_step(rows) == SQLITE_ROW) restore(rows);
     must(sqlite3_finalize(rows) == SQLITE_OK, "select");
     sql("pragma journal_mode=wal"); /* (a file that is refused stays as it was) */
 }
 
-/* Makes call `number` of the bank. A pulse has no reply, so it is stored here, at the place that it took. */
+/* Makes call `number` of the bank. */
 static void go_on(uint64_t call) {
-    uint64_t places = 0, number = 0;
-    data_t *data = &sent[call % GROUP];
+    uint64_t number = 0;
     if (call == 0) {
-        *data = (data_t){.accounts = {{.id = {1, 0}, .ledger = 1, .code = 1}, {.id = {2, 0}, .ledger = 1, .code = 1}}};
-        must(kip_submit(&kip, 0, KIP_OPERATION_CREATE_ACCOUNTS, data->accounts, sizeof data->accounts, call, &number) == KIP_OK, "submit");
+        const kip_account accounts[] = {{.id = {1, 0}, .ledger = 1, .code = 1}, {.id = {2, 0}, .ledger = 1, .code = 1}};
+        must(kip_submit(&kip, 0, KIP_OPERATION_CREATE_ACCOUNTS, accounts, sizeof accounts, 0, &number) == KIP_OK, "submit");
     } else if (call % 10 != 0) {
-        data->transfer = (kip_transfer){.id = {call, 0}, .debit_account_id = {1, 0}, .credit_account_id = {2, 0}, .amount = {call, 0},
-                                        .ledger = 1, .code = 1};
-        must(kip_submit(&kip, 0, KIP_OPERATION_CREATE_TRANSFERS, &data->transfer, sizeof data->transfer, call, &number) == KIP_OK, "submit");
+        const kip_transfer transfer = {.id = {call, 0}, .debit_account_id = {1, 0}, .credit_account_id = {2, 0}, .amount = {call, 0},
+                                       .ledger = 1, .code = 1};
+        must(kip_submit(&kip, 0, KIP_OPERATION_CREATE_TRANSFERS, &transfer, sizeof transfer, 0, &number) == KIP_OK, "submit");
     } else {
-        must(kip_pulse(&kip, call * 1000000000) == KIP_OK && kip_places(&kip, &places) == KIP_OK, "pulse");
-        store(places - 1, PULSE, call * 1000000000, NULL, NULL, 0);
+        must(kip_pulse(&kip, call * 1000000000) == KIP_OK, "pulse");
     }
 }
 
-/* Stores what is committed: each packet's user data is its call, by which its bytes are found. */
-static void store_replies(void) {
+/* Stores what is committed, and then reads its replies: the library doesn't give them before. */
+static void store(void) {
+    static char data[KIP_BATCH_MAX * 128]; /* (no packet has more) */
+    kip_entry_t entry;
     kip_reply_t reply;
-    must(kip_flush(&kip) == KIP_OK, "flush");
-    while (next_reply(&reply)) {
-        const data_t *data = &sent[reply.user_data % GROUP];
-        int events = reply.operation == KIP_OPERATION_CREATE_ACCOUNTS ? 2 : 1;
-        stub_t stub = {reply.number - first_number, reply.submitter, events};
-        store(reply.place, reply.operation, 0, &stub, data, events * 128);
+    uint64_t places = 0;
+    uint32_t status;
+    must(kip_flush(&kip) == KIP_OK && kip_places(&kip, &places) == KIP_OK, "flush");
+    sql("begin");
+    while ((status = kip_entry(&kip, &entry, data, sizeof data)) == KIP_OK) {
+        stub_t stub = {entry.number - first_numbers[entry.submitter], entry.submitter, entry.size / event_size(entry.operation)};
+        put(entry.place, entry.operation, entry.moment, entry.operation == KIP_ENTRY_PULSE ? NULL : &stub, data, entry.size);
     }
+    must(status == KIP_NO_ENTRY, kip_status_name(status));
+    sql("commit"); /* what is committed is on the disk, so it may be printed */
+    must(kip_durable(&kip, places) == KIP_OK, "durable");
+    while ((status = kip_reply(&kip, &reply, data, sizeof data)) == KIP_OK) must(kip_committed(&reply), "a packet isn't committed");
+    must(status == KIP_NO_REPLY, kip_status_name(status));
 }
 
 int main(int count, char **words) {
@@ -187,10 +182,8 @@ int main(int count, char **words) {
     printf("recovered %llu\n", (unsigned long long)place);
     while (place < calls) {
         uint64_t end = place + GROUP < calls ? place + GROUP : calls;
-        sql("begin");
         for (uint64_t call = place; call < end; call++) go_on(call);
-        store_replies();
-        sql("commit"); /* what is committed is on the disk, so it may be printed */
+        store();
         for (; place < end; place++) printf("committed %llu\n", (unsigned long long)place);
     }
 

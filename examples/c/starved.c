@@ -1,6 +1,7 @@
 /* Lets the Nth allocation fail, for each N. The call that made it returns KIP_NO_MEMORY, and nothing has changed. It is made
- * again, and then all goes on as without a failure: each packet's number, each reply and each look-up is the same. The engine
- * never stops, and closing it frees all. Link with -Wl,--wrap=malloc,--wrap=realloc,--wrap=free. */
+ * again, and then all goes on as without a failure: each packet's number, each reply and each look-up is the same. So are the entries
+ * of a journal, and what another engine restores of them. The engine never stops, and closing it frees all.
+ * Link with -Wl,--wrap=malloc,--wrap=realloc,--wrap=free. */
 #undef NDEBUG
 #include <assert.h>
 #include <kip.h>
@@ -34,8 +35,9 @@ void __wrap_free(void *at) {
     __real_free(at);
 }
 
-enum { OPEN, RESERVE, SUBMIT, SEAL, PULSE, FLUSH, SHUT, CALLS };
-static const char *const call_names[CALLS] = {"open", "reserve", "submit", "submit that seals", "pulse", "flush", "shut"};
+enum { OPEN, RESERVE, SUBMIT, SEAL, PULSE, FLUSH, SHUT, ENTRY, RESTORE, CALLS };
+static const char *const call_names[CALLS] = {"open",  "reserve", "submit", "submit that seals", "pulse",
+                                              "flush", "shut",    "entry",  "restore"};
 static long refused[CALLS];
 
 /* What a run said, and where it is in that. */
@@ -85,6 +87,20 @@ static void submitted(kip_t *kip, int call, uint32_t submitter, uint8_t operatio
     tell(&number, sizeof number);
 }
 
+/* Hands out all entries of a journal, restores each in another engine, and says that they are stored. */
+static void hand_out(kip_t *kip, kip_t *copy) {
+    static char data[1000 * 128];
+    kip_entry_t entry;
+    uint64_t places;
+    uint32_t status;
+    while ((status = kip_entry(kip, &entry, data, sizeof data)) != KIP_NO_ENTRY) {
+        if (is_again(kip, ENTRY, status)) continue;
+        tell(&entry, sizeof entry);
+        while (is_again(copy, RESTORE, kip_restore(copy, &entry, data, entry.size))) continue;
+    }
+    assert(kip_places(kip, &places) == KIP_OK && kip_durable(kip, places) == KIP_OK);
+}
+
 static void read_all(kip_t *kip) {
     kip_reply_t reply;
     static char results[20 * 128 + 1000 * sizeof(kip_failure)];
@@ -114,7 +130,7 @@ static void make_transfers(size_t count) {
 }
 
 /* What commits the transfers that are held, more each time, so that what is stored of them has to grow. */
-static void held_then(kip_t *kip, int call, size_t count) {
+static void held_then(kip_t *kip, kip_t *copy, int call, size_t count) {
     kip_uint128 ids[2] = {{1, 0}, {2, 0}};
     make_transfers(count);
     submitted(kip, SUBMIT, 0, KIP_OPERATION_CREATE_TRANSFERS, transfers, count * sizeof *transfers);
@@ -123,44 +139,63 @@ static void held_then(kip_t *kip, int call, size_t count) {
     if (call == PULSE) while (is_again(kip, PULSE, kip_pulse(kip, count * 1000000000))) continue;
     if (call == FLUSH) while (is_again(kip, FLUSH, kip_flush(kip))) continue;
     if (call == SHUT) while (is_again(kip, SHUT, kip_shut(kip))) continue;
+    if (copy->is_open) hand_out(kip, copy);
     read_all(kip);
 }
 
-/* Returns whether an allocation failed. */
-static int run(long nth) {
-    kip_t kip = {0};
+static void opened(kip_t *kip, int is_recorded) {
     long before = live;
     uint32_t status;
-    length = made = 0;
-    countdown = nth;
-    while ((status = kip_open_seeded(&kip, 0, 8190, 2, 3, 5)) != KIP_OK) {
-        assert(status == KIP_NO_MEMORY && countdown == 0 && live == before && !kip.is_open);
+    while ((status = is_recorded ? kip_open_recorded(kip, 0, 8190, 2, 3, 5) : kip_open_seeded(kip, 0, 8190, 2, 3, 5)) != KIP_OK) {
+        assert(status == KIP_NO_MEMORY && countdown == 0 && live == before && !kip->is_open);
         refused[OPEN]++;
     }
+}
+
+/* Runs an engine, with a journal that is restored in another one or without. Returns whether an allocation failed. */
+static int run(long nth, int is_recorded) {
+    kip_t kip = {0}, copy = {0};
+    long before = live;
+    length = made = 0;
+    countdown = nth;
+    opened(&kip, is_recorded);
+    if (is_recorded) opened(&copy, 0);
     submitted(&kip, SUBMIT, 0, KIP_OPERATION_CREATE_ACCOUNTS, accounts, sizeof accounts);
     static const int calls[] = {SEAL, PULSE, FLUSH, PULSE, SEAL, FLUSH, SEAL, PULSE, SHUT};
     for (size_t i = 0; i < sizeof calls / sizeof *calls; i++) {
-        held_then(&kip, calls[i], (size_t)3 << i);
+        held_then(&kip, &copy, calls[i], (size_t)3 << i);
         while (is_again(&kip, RESERVE, kip_reserve(&kip, 40 * i, 40 * i))) continue;
     }
+    size_t state = length;
     tell_state(&kip);
+    size_t size = length - state;
+    if (is_recorded) {
+        tell_state(&copy);
+        assert(length == state + 2 * size && memcmp(told + state, told + state + size, size) == 0 && kip_close(&copy) == KIP_OK);
+    }
     int failed = countdown == 0;
     countdown = -1;
     assert(kip_close(&kip) == KIP_OK && live == before);
     return failed;
 }
 
-int main(void) {
+/* Lets each allocation of a run fail in turn, and returns how many there are. */
+static long starve(int is_recorded) {
     long nth = 1;
-    for (uint64_t i = 0; i < 20; i++) accounts[i] = (kip_account){.id = {i + 1, 0}, .ledger = 1, .code = 1};
-    assert(!run(-1));
+    assert(!run(-1, is_recorded));
     first_length = length;
     memcpy(first_told, told, length);
-    for (; run(nth); nth++) assert(length == first_length && memcmp(told, first_told, length) == 0);
+    for (; run(nth, is_recorded); nth++) assert(length == first_length && memcmp(told, first_told, length) == 0);
+    return nth - 1;
+}
+
+int main(void) {
+    for (uint64_t i = 0; i < 20; i++) accounts[i] = (kip_account){.id = {i + 1, 0}, .ledger = 1, .code = 1};
+    long count = starve(0) + starve(1);
     for (int call = 0; call < CALLS; call++) {
         assert(refused[call] > 0);
         printf("%s: %ld allocations failed\n", call_names[call], refused[call]);
     }
-    printf("each of %ld allocations failed once: nothing lost\n", nth - 1);
+    printf("each of %ld allocations failed once: nothing lost\n", count);
     return 0;
 }

@@ -36,9 +36,10 @@ from .results import CreateAccountResult, CreateTransferResult
 CREATE_ACCOUNTS, CREATE_TRANSFERS, LOOKUP_ACCOUNTS = 129, 130, 131
 COMMITTED, SHUTDOWN, STOPPED = 0, 7, 8
 STATUSES = {1: "invalid_operation", 2: "invalid_data_size", 3: "too_much_data", 5: "full", 6: "no_memory", 7: "shutdown",
-            8: "stopped", 9: "bad_limit", 11: "bad_submitters", 12: "moment_too_large", 100: "closed", 101: "already_open", 106: "busy"}
+            8: "stopped", 9: "bad_limit", 11: "bad_submitters", 12: "moment_too_large", 100: "closed", 101: "already_open", 106: "busy",
+            107: "no_entry", 108: "not_next", 109: "in_use", 110: "not_recorded", 111: "not_committed"}
 OUTCOMES = {COMMITTED: "committed", SHUTDOWN: "shutdown", STOPPED: "stopped"}
-NO_MEMORY, CLOSED, NO_REPLY, TOO_SMALL, NOT_FOUND, BUSY = 6, 100, 102, 103, 104, 106
+NO_MEMORY, CLOSED, NO_REPLY, TOO_SMALL, NOT_FOUND, BUSY, NO_ENTRY = 6, 100, 102, 103, 104, 106, 107
 VERSION = 0x000100  # of kip.h: major, minor, patch
 HALF = 2**64 - 1
 amount_max = 2**128 - 1
@@ -263,6 +264,22 @@ class _Head(ctypes.Structure):
                 ("operation", ctypes.c_uint32), ("reserved", ctypes.c_uint32)]
 
 
+class _EntryHead(ctypes.Structure):
+    _fields_ = [("place", ctypes.c_uint64), ("moment", ctypes.c_uint64), ("number", ctypes.c_uint64), ("size", ctypes.c_uint64),
+                ("submitter", ctypes.c_uint32), ("operation", ctypes.c_uint32)]
+
+
+class _Entry(typing.NamedTuple):
+    """An entry of the journal: a packet that is committed, or a pulse, whose operation is 0 and which has only a moment."""
+
+    place: int
+    operation: int
+    moment: int = 0
+    submitter: int = 0
+    number: int = 0
+    data: bytes = b""
+
+
 def _failures(operation, results):
     """Returns the failures in a reply's results; a look-up has none."""
     if operation == CREATE_ACCOUNTS:
@@ -361,9 +378,12 @@ def _load(path):
         "shut": [address], "flush": [address], "reply_bytes": [address, address, address, size], "stopped": [address],
         "lookup_account": [address, u64, u64, address], "account_at": [address, size, address], "transfer_at": [address, size, address, address],
         "lookup_transfer": [address, u64, u64, address, address], "clock": [address, address],
-        "counts": [address, address], "places": [address, address],
+        "counts": [address, address], "places": [address, address], "open_recorded": [address, u64, u32, u32, u64, u64],
+        "entry_bytes": [address, address, address, size], "durable": [address, u64], "restore_bytes": [address, address, address, size],
     }.items():
-        call = getattr(library, f"kip_{name}")
+        call = getattr(library, f"kip_{name}", None)
+        if call is None:
+            raise OSError(f"{path} lacks kip_{name}, so it is older than this package: unset KIP_SO, or give it a newer library's path")
         call.argtypes, call.restype = arguments, u32
     version = library.kip_version()
     if version >> 8 != VERSION >> 8:
@@ -398,6 +418,8 @@ class Ledger:
     unread or lost: look up what it makes, or send it again with the same ids.
     """
 
+    _is_recorded = False  # whether it hands out the entries of its journal, and gives no reply to a packet before it is stored
+
     def __init__(self, clock=0, limit=8190, submitters=1, library=None, seed=None):
         self._is_open = False
         self._lock = threading.RLock()
@@ -407,11 +429,14 @@ class Ledger:
         self._handle = _Handle()
         self._at = ctypes.addressof(self._handle)
         settings = _moment("clock", clock), _number("limit", limit, 32), _number("submitters", submitters, 32)
+        if seed is None and self._is_recorded:
+            seed = secrets.randbits(64), secrets.randbits(64)
         if seed is None:
             self._must(self._library.kip_open(self._at, *settings))
         else:
             low, high = seed
-            self._must(self._library.kip_open_seeded(self._at, *settings, _number("a seed", low, 64), _number("a seed", high, 64)))
+            open_seeded = self._library.kip_open_recorded if self._is_recorded else self._library.kip_open_seeded
+            self._must(open_seeded(self._at, *settings, _number("a seed", low, 64), _number("a seed", high, 64)))
         self._is_open = True
 
     @staticmethod
@@ -485,16 +510,40 @@ class Ledger:
             raise KipError(status)
         return status == STOPPED
 
-    def _next(self):
-        """Reads the next reply, or None. The buffer is this call's own: a signal handler that reads replies has another."""
-        head, buffer = _Head(), ctypes.create_string_buffer(128)
-        while (status := self._library.kip_reply_bytes(self._at, ctypes.byref(head), buffer, len(buffer))) == TOO_SMALL:
+    def _read(self, call, head):
+        """Returns the bytes that a call writes besides a head, or None if there is no next. The buffer is this call's own: a signal handler
+        that reads has another."""
+        buffer = ctypes.create_string_buffer(128)
+        while (status := call(self._at, ctypes.byref(head), buffer, len(buffer))) == TOO_SMALL:
             buffer = ctypes.create_string_buffer(head.size)
-        if status == NO_REPLY:
+        if status in (NO_REPLY, NO_ENTRY):
             return None
         self._must(status)
-        return Reply(head.submitter, head.number, head.operation, head.user_data, head.outcome, head.place,
-                     ctypes.string_at(buffer, head.size))
+        return ctypes.string_at(buffer, head.size)
+
+    def _next(self):
+        """Reads the next reply, or None."""
+        head = _Head()
+        results = self._read(self._library.kip_reply_bytes, head)
+        if results is None:
+            return None
+        return Reply(head.submitter, head.number, head.operation, head.user_data, head.outcome, head.place, results)
+
+    def _entry(self):
+        """Takes the next entry of the journal, or None. The reply to its packet isn't there before `_durable`."""
+        head = _EntryHead()
+        data = self._read(self._library.kip_entry_bytes, head)
+        return None if data is None else _Entry(head.place, head.operation, head.moment, head.submitter, head.number, data)
+
+    def _durable(self, places):
+        """Notes that all entries at lower places are stored."""
+        self._must(self._library.kip_durable(self._at, places))
+
+    def _restore_entry(self, entry):
+        """Commits an entry again, at the next place. It has no reply."""
+        place, operation, moment, submitter, number, data = entry
+        head = _EntryHead(place, moment, number, len(data), submitter, _number("operation", operation, 8))
+        self._must(self._library.kip_restore_bytes(self._at, ctypes.byref(head), data, len(data)))
 
     def _oldest(self):
         """Returns the oldest reply, or None. A signal handler may keep replies meanwhile, or take them."""

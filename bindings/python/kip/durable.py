@@ -21,13 +21,15 @@ import struct
 import threading
 import weakref
 
-from . import BUSY, CLOSED, COMMITTED, LOOKUP_ACCOUNTS, NO_MEMORY, ClientSync, KipError, _bytes, _moment, _number
+from . import BUSY, CLOSED, LOOKUP_ACCOUNTS, NO_MEMORY, ClientSync, KipError, _bytes, _Entry, _moment, _number
 
 TABLE = ("CREATE TABLE entry (place INTEGER PRIMARY KEY, operation INTEGER NOT NULL, moment INTEGER NOT NULL, stubs BLOB NOT NULL, "
          "body BLOB NOT NULL) STRICT")
 SETTINGS = "clock", "limit", "submitters"
 # The place of the settings, the version of the format, which is their operation, and what a pulse has for an operation.
 SETTINGS_PLACE, FORMAT_VERSION, PULSE = -1, 1, 0
+# How many events share a row at most. The limit of another program that wrote it may have been higher than the file's.
+BATCH_MAX = 8190
 # Of a packet its number in its run, its submitter, and its count of events.
 _STUB = struct.Struct("<QII")
 # The clients of this process, and the device and inode of each file that one has open.
@@ -40,6 +42,11 @@ class BadFile(ValueError):
 
 def _event_size(operation):
     return 16 if operation == LOOKUP_ACCOUNTS else 128
+
+
+def _may_share(operation, data):
+    """Returns whether a packet may share a batch: it looks nothing up, and its last event isn't linked to one that follows."""
+    return operation != LOOKUP_ACCOUNTS and not (data and data[-10] & 1)
 
 
 def _stat(path):
@@ -134,10 +141,12 @@ class DurableClient(ClientSync):
     and results aren't stored either. Opening applies all rows, some 50,000 packets a second.
 
     A submitter's packets have the numbers that count on from those in the file. If the file can't be written, the call raises
-    sqlite3.Error and the client is closed: open the file again, which has all that was acknowledged. So it is if a signal handler raises
-    in the middle of a call. A handler that calls the client while it writes gets KipError `busy`.
+    sqlite3.Error and the client is closed: open the file again, which has all that was acknowledged. So it is if memory runs out as a call
+    stores, which raises MemoryError, and if a signal handler raises in the middle of a call. A handler that calls the client while it
+    writes gets KipError `busy`.
 
-    A `with` commits and stores what waits also if it ends by an exception, and so does a client that isn't closed.
+    A `with` commits and stores what waits also if it ends by an exception, and so does a client that isn't closed. Ids are hashed with a
+    random seed, unless one is given.
 
     While a client is open, its process doesn't open the file by other means, as `shutil.copy` does: closing it there takes the lock from
     the client too. If then another program writes to the file, or if the file or its log is moved or deleted, the next call that stores
@@ -145,10 +154,10 @@ class DurableClient(ClientSync):
     each call that would store as `closed`.
     """
 
+    _is_recorded = True
+
     def __init__(self, path, clock=None, limit=None, submitters=None, **more):
         self._is_open = self._is_writing = False
-        self._data = {}  # of each packet that isn't in the file yet
-        self._stored = collections.deque()  # replies that weren't returned, to packets that are in the file
         self._database = self._seen = self._key = None
         if sqlite3.sqlite_version_info < (3, 37):
             raise RuntimeError(f"SQLite {sqlite3.sqlite_version} has no strict tables: Python needs one with SQLite 3.37 or newer")
@@ -213,23 +222,22 @@ class DurableClient(ClientSync):
             raise BadFile(f"the next place is {self.places()}")
         _moment("its moment", moment)
         if operation == PULSE:
-            super().pulse(moment)
+            self._restore_entry(_Entry(place, PULSE, moment))
             return
-        packets, at = list(_STUB.iter_unpack(stubs)), 0
-        for number, submitter, events in packets:
+        packets, size, at = list(_STUB.iter_unpack(stubs)), _event_size(operation), 0
+        together = sum(events for _, _, events in packets)
+        if not packets or together * size != len(body):
+            raise BadFile("its packets and its bytes don't fit")
+        for index, (number, submitter, events) in enumerate(packets):
+            data = body[at:at + events * size]
+            at += len(data)
             if number not in (0, following[submitter]):
                 raise BadFile(f"packet {number} of submitter {submitter} isn't the next")
+            if len(packets) > 1 and (together > BATCH_MAX or not _may_share(operation, data)):
+                raise BadFile("its packets can't share a batch")
+            self._restore_entry(_Entry(place + index, operation, 0, submitter, self._first[submitter], data))
             following[submitter] = number + 1
             self._first[submitter] += 1
-            end = at + events * _event_size(operation)
-            super().submit(operation, body[at:end], submitter)
-            at = end
-        super().flush()
-        if at != len(body) or not packets or self.places() != place + len(packets):
-            raise BadFile("its packets and its bytes don't fit")
-        while super()._next() is not None:
-            pass
-        self._unread.clear()
 
     def _refusal(self, status):
         """Returns a refusal of the library. Neither it nor a frame of its refers to the other, or they would keep the client."""
@@ -252,7 +260,7 @@ class DurableClient(ClientSync):
                     self._must(CLOSED)
                 return call()
             except BaseException as why:
-                # (what is committed may not be in the file, and a packet may be queued whose data isn't kept)
+                # (what is committed may not be in the file, and what was handed out is nowhere else)
                 if getattr(why, "_client", None) != id(self):
                     self._end()
                 raise
@@ -291,47 +299,47 @@ class DurableClient(ClientSync):
             raise sqlite3.OperationalError(f"{self._path}: the file or its log was moved, deleted, or written by another program, which can be "
                                            "if this process opened and closed it by other means: look at both, and start again")
 
-    def _row(self, reply):
-        data = self._data[reply.submitter, reply.number]
-        number, events = reply.number - self._first[reply.submitter], len(data) // _event_size(reply.operation)
-        return reply._place, reply.operation, 0, _STUB.pack(number, reply.submitter, events), data
+    def _row(self, entry):
+        number, events = entry.number - self._first[entry.submitter], len(entry.data) // _event_size(entry.operation)
+        stub = b"" if entry.operation == PULSE else _STUB.pack(number, entry.submitter, events)
+        return entry.place, entry.operation, entry.moment, stub, entry.data
 
-    def _store(self, pulses=()):
-        """Stores what is committed and isn't in the file yet, in one transaction, and keeps the replies."""
-        replies = list(iter(super()._next, None))
-        rows = [*(self._row(reply) for reply in replies if reply.outcome == COMMITTED), *pulses]
-        if rows:
-            self._must_be_mine(self._look() == self._seen)
-            self._database.execute("begin")
-            self._database.executemany("insert into entry values (?, ?, ?, ?, ?)", rows)
-            self._database.execute("commit")
-            look = self._look()
-            self._must_be_mine(self._is_same(look))
-            self._seen = look
-        for reply in replies:
-            del self._data[reply.submitter, reply.number]
-        self._stored.extend(replies)
+    def _rows(self):
+        """Takes what is committed and isn't in the file yet. If it fails, the client can't go on without what it took."""
+        try:
+            return [self._row(entry) for entry in iter(self._entry, None)]
+        except KipError as why:
+            if why.status != NO_MEMORY:  # (a signal handler raised it)
+                raise
+            raise MemoryError(f"{self._path}: {why}") from None
+
+    def _store(self):
+        """Stores what is committed and isn't in the file yet, in one transaction. Then its replies can be read."""
+        rows = self._rows()
+        if not rows:
+            return
+        self._must_be_mine(self._look() == self._seen)
+        self._database.execute("begin")
+        self._database.executemany("insert into entry values (?, ?, ?, ?, ?)", rows)
+        self._database.execute("commit")
+        look = self._look()
+        self._must_be_mine(self._is_same(look))
+        self._seen = look
+        self._durable(self.places())
 
     def _next(self):
         """Returns the next reply, or None. Its packet is in the file."""
-        if not self._stored:
-            self._alone(self._store)
-        with contextlib.suppress(IndexError):  # there is none
-            return self._stored.popleft()
-
-    def _submit_and_keep(self, operation, data, submitter, user_data):
-        number = super().submit(operation, data, submitter, user_data)
-        self._data[submitter, number] = data
-        return number
+        self._alone(self._store)
+        return super()._next()
 
     def submit(self, operation, data, submitter=0, user_data=0):
         """Queues a packet and returns its number, as `Ledger.submit` does."""
         words = _number("operation", operation, 8), _bytes(data), _number("submitter", submitter, 32), _number("user_data", user_data, 64)
-        return self._alone(functools.partial(self._submit_and_keep, *words))
+        return self._alone(functools.partial(super().submit, *words))
 
     def _pulse_and_store(self, moment):
         super().pulse(moment)
-        self._store([(self.places() - 1, PULSE, moment, b"", b"")])
+        self._store()
 
     def pulse(self, nanoseconds):
         """Queues a pulse, which raises the clock, and stores it with what was committed ahead of it."""

@@ -12,6 +12,7 @@ pub use Rattle.std_alloc.proofs.BoxSteps.Steps.{box_out, box_in}
 pub use Rattle.std_alloc.proofs.ResultValues.{and_tt}
 pub use Rattle.std_alloc.specs.Box.Ownership.{box_owns}
 pub use Rattle.tb_embed.specs.clauses.Engine.{EngineState, Queues}
+pub use Rattle.tb_embed.specs.clauses.Recorded.{ChangesEngine, RecordedState, readable}
 pub use Rattle.tb_layout.specs.clauses.Failure.{failure_bytes}
 pub use Rattle.tb_layout.specs.clauses.Records.{account_bytes}
 pub use base.Fml.{Lft, GName, Share, Fml, ftrue, flft, fsep}

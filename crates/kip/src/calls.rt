@@ -1,6 +1,6 @@
 //! The exported functions.
 
-ghost use Rattle.std.specs.Prelude.{◌≡◌, ◌<◌, [], length, slice_get, IfOk, IfErr, OnOk, OnErr, IsOk, None};
+ghost use Rattle.std.specs.Prelude.{true, false, ◌≡◌, ◌<◌, [], length, slice_get, IfOk, IfErr, OnOk, OnErr, IsOk, None};
 ghost use Rattle.tb_tables.specs.claim.Facts.{transfer_with};
 ghost use Rattle.tb_tables.specs.claim.Balances.{balanced_account};
 ghost use Rattle.tb_machine.specs.clauses.Accounts.{balanced_accounts};
@@ -9,13 +9,16 @@ ghost use Rattle.tb_work.specs.declared.item.Item.TheVariants as item;
 ghost use Rattle.tb_work.specs.declared.refusal.Refusal.TheVariants.{NoMemory as NoMemoryRefusal};
 ghost use Rattle.tb_embed.specs.clauses.Engine.{EngineState, IsOpened, Queues, Continues, IsRefusal, packet_with, submit_refusal, pulse_refusal, shut_refusal, state_of};
 ghost use Rattle.tb_embed.specs.clauses.Queued.{packet_ticket, ticket_of};
-ghost use Rattle.kip.specs.clauses.Handle.{Moves, IsOpen, IsStatus, IsStatusOf, IsOpeningStatus, IsClosingStatus, IsPeek, IsReading, IsReadingOf, IsAccount, IsAccountIn, IsTransfer, IsTransferIn, IsClockOf, IsCountsOf, IsPlacesOf, id_of, open_refusal, pending_number, stopped_status};
+ghost use Rattle.tb_embed.specs.clauses.Recorded.{ChangesEngine, PulsesRecorded, RecordedState, recorded};
+ghost use Rattle.kip.specs.clauses.Entries.{IsHandingOutOf, IsRestoringOf, IsStoringOf};
+ghost use Rattle.kip.specs.clauses.Handle.{Becomes, Moves, IsOpen, IsOpenedAs, IsStatus, IsStatusOf, IsOpeningStatus, IsClosingStatus, IsPeek, IsReading, IsReadingOf, IsAccount, IsAccountIn, IsTransfer, IsTransferIn, IsClockOf, IsCountsOf, IsPlacesOf, id_of, open_refusal, pending_number, stopped_status};
 
 use crate::counts::KipCounts;
+use crate::entries::{KipEntry, hand_out, restore, store};
 use crate::handle::Kip;
 use crate::reading::{KipReply, head_of, put_results};
 use std::alloc::{AllocError, Global};
-use tb_embed::{Engine, Seed};
+use tb_embed::{Engine, RecordedEngine, Seed};
 use tb_layout::{Account, CLOCK_MAX, Transfer, U64_VALUES, write_account, write_transfer};
 use tb_tables::Status;
 use tb_work::{Bytes, Packet, Refusal};
@@ -58,44 +61,85 @@ fn status_of(done: Result<(), Refusal>) -> u32
     }
 }
 
-fn open(
-    alloc: Global,
+/// How a handle is opened.
+#[derive(Clone, Copy)]
+struct Opening {
     clock: u64,
     limit: u32,
     submitters: u32,
     seed: Seed,
-) -> Result<Box<Engine>, Refusal>
-    ensures opened { IfOk result (λ engine. IsOpened clock limit submitters engine.value) }
-    ensures opens { OnOk result (open_refusal clock limit submitters ≡ None) }
-    ensures refusal { IfErr result (λ refusal. IsRefusal (open_refusal clock limit submitters) refusal) }
-{
-    if clock > CLOCK_MAX {
-        return Err(Refusal::MomentTooLarge);
-    }
-    let engine = Engine::with_seed(alloc, clock, limit, submitters, seed)?;
-    let Ok(engine) = Box::new(alloc, engine) else {
-        return Err(Refusal::NoMemory);
-    };
-    Ok(engine)
+    records: bool,
 }
 
-/// Opens a closed handle and hashes ids with a seed.
-fn open_handle(
-    alloc: Global,
-    kip: &mut Kip,
-    clock: u64,
-    limit: u32,
-    submitters: u32,
-    seed: Seed,
-) -> u32
-    ensures ok { result ≡ 0 → IsOpen (IsOpened clock limit submitters) kip.new.pointer.engine }
-    ensures status { IsOpeningStatus clock limit submitters kip.old.pointer.engine result }
+impl Opening {
+    fn plain(clock: u64, limit: u32, submitters: u32) -> Opening
+        ensures clock { result.clock ≡ clock }
+        ensures limit { result.limit ≡ limit }
+        ensures submitters { result.submitters ≡ submitters }
+        ensures records { result.records ≡ false }
+    {
+        Opening {
+            clock,
+            limit,
+            submitters,
+            seed: Seed::default(),
+            records: false,
+        }
+    }
+
+    fn seeded(self, low: u64, high: u64) -> Opening
+        ensures { result ≡ record self { seed = result.seed } }
+    {
+        Opening {
+            seed: Seed { low, high },
+            ..self
+        }
+    }
+
+    fn recorded(self) -> Opening
+        ensures { result ≡ record self { records = true } }
+    {
+        Opening {
+            records: true,
+            ..self
+        }
+    }
+}
+
+fn open(alloc: Global, opening: Opening) -> Result<Box<RecordedEngine>, Refusal>
+    ensures opened { IfOk result (λ host. IsOpened opening.clock opening.limit opening.submitters host.value.engine) }
+    ensures recorded { IfOk result (λ host. host.value ≡ recorded host.value.engine opening.records) }
+    ensures opens { OnOk result (open_refusal opening.clock opening.limit opening.submitters ≡ None) }
+    ensures refusal { IfErr result (λ refusal.
+        IsRefusal (open_refusal opening.clock opening.limit opening.submitters) refusal) }
+{
+    if opening.clock > CLOCK_MAX {
+        return Err(Refusal::MomentTooLarge);
+    }
+    let engine = Engine::with_seed(
+        alloc,
+        opening.clock,
+        opening.limit,
+        opening.submitters,
+        opening.seed,
+    )?;
+    let Ok(host) = Box::new(alloc, RecordedEngine::new(alloc, engine, opening.records)) else {
+        return Err(Refusal::NoMemory);
+    };
+    Ok(host)
+}
+
+/// Opens a closed handle.
+fn open_handle(alloc: Global, kip: &mut Kip, opening: Opening) -> u32
+    ensures ok { result ≡ 0 → IsOpenedAs opening.records (IsOpened opening.clock opening.limit opening.submitters)
+        kip.new.pointer.engine }
+    ensures status { IsOpeningStatus opening.clock opening.limit opening.submitters kip.old.pointer.engine result }
     ensures same { (result ≡ 0 → ⊥) → kip.new.pointer.engine ≡ kip.old.pointer.engine }
 {
     if kip.is_open {
         return ALREADY_OPEN;
     }
-    match open(alloc, clock, limit, submitters, seed) {
+    match open(alloc, opening) {
         Ok(engine) => {
             kip.put(engine);
             0
@@ -113,11 +157,11 @@ pub extern "C" fn kip_open(
     limit: u32,
     submitters: u32,
 ) -> u32
-    ensures ok { result ≡ 0 → IsOpen (IsOpened clock limit submitters) kip.new.pointer.engine }
+    ensures ok { result ≡ 0 → IsOpenedAs false (IsOpened clock limit submitters) kip.new.pointer.engine }
     ensures status { IsOpeningStatus clock limit submitters kip.old.pointer.engine result }
     ensures same { (result ≡ 0 → ⊥) → kip.new.pointer.engine ≡ kip.old.pointer.engine }
 {
-    open_handle(alloc, kip, clock, limit, submitters, Seed::default())
+    open_handle(alloc, kip, Opening::plain(clock, limit, submitters))
 }
 
 /// Opens a closed handle as `kip_open` does, and hashes ids with a seed of two numbers.
@@ -131,15 +175,31 @@ pub extern "C" fn kip_open_seeded(
     seed_low: u64,
     seed_high: u64,
 ) -> u32
-    ensures ok { result ≡ 0 → IsOpen (IsOpened clock limit submitters) kip.new.pointer.engine }
+    ensures ok { result ≡ 0 → IsOpenedAs false (IsOpened clock limit submitters) kip.new.pointer.engine }
     ensures status { IsOpeningStatus clock limit submitters kip.old.pointer.engine result }
     ensures same { (result ≡ 0 → ⊥) → kip.new.pointer.engine ≡ kip.old.pointer.engine }
 {
-    let seed = Seed {
-        low: seed_low,
-        high: seed_high,
-    };
-    open_handle(alloc, kip, clock, limit, submitters, seed)
+    let opening = Opening::plain(clock, limit, submitters);
+    open_handle(alloc, kip, opening.seeded(seed_low, seed_high))
+}
+
+/// Opens a closed handle as `kip_open_seeded` does, for a host that keeps the journal in a store of its own.
+#[unsafe(no_mangle)]
+pub extern "C" fn kip_open_recorded(
+    alloc: Global,
+    kip: &mut Kip,
+    clock: u64,
+    limit: u32,
+    submitters: u32,
+    seed_low: u64,
+    seed_high: u64,
+) -> u32
+    ensures ok { result ≡ 0 → IsOpenedAs true (IsOpened clock limit submitters) kip.new.pointer.engine }
+    ensures status { IsOpeningStatus clock limit submitters kip.old.pointer.engine result }
+    ensures same { (result ≡ 0 → ⊥) → kip.new.pointer.engine ≡ kip.old.pointer.engine }
+{
+    let opening = Opening::plain(clock, limit, submitters).recorded();
+    open_handle(alloc, kip, opening.seeded(seed_low, seed_high))
 }
 
 /// Reserves capacity for accounts and transfers that are still to be made.
@@ -177,7 +237,12 @@ pub extern "C" fn kip_close(alloc: Global, kip: &mut Kip) -> u32
 }
 
 /// Returns a packet with a copy of the data.
-fn packet_of(alloc: Global, operation: u8, bytes: &[u8], user: u64) -> Result<Packet, AllocError>
+pub(crate) fn packet_of(
+    alloc: Global,
+    operation: u8,
+    bytes: &[u8],
+    user: u64,
+) -> Result<Packet, AllocError>
     ensures { IfOk result (λ packet. packet ≡ packet_with operation bytes.now user) }
 {
     let mut copy = Vec::with_capacity(alloc, bytes.len())?;
@@ -215,13 +280,14 @@ fn checked_packet(
 /// Queues a packet, and writes its number.
 fn submit(
     alloc: Global,
-    engine: &mut Engine,
+    engine: &mut RecordedEngine,
     submitter: u32,
     packet: Packet,
     number: &mut u64,
 ) -> u32
-    ensures ok { result ≡ 0 → Queues engine.old (packet_ticket submitter number.new packet) engine.new }
-    ensures status { IsStatus (submit_refusal engine.old submitter packet) result }
+    ensures ok { result ≡ 0 → Queues engine.old.engine (packet_ticket submitter number.new packet) engine.new.engine }
+    ensures engine { ChangesEngine engine.old engine.new }
+    ensures status { IsStatus (submit_refusal engine.old.engine submitter packet) result }
     ensures same { (result ≡ 0 → ⊥) → (engine.new ≡ engine.old) × (number.new ≡ number.old) }
 {
     match engine.submit(alloc, submitter, packet) {
@@ -257,7 +323,14 @@ pub extern "C" fn kip_submit_bytes(
     let Some(mut engine) = kip.take(alloc) else {
         return CLOSED;
     };
-    match checked_packet(alloc, &engine, submitter, operation, bytes, user_data) {
+    match checked_packet(
+        alloc,
+        engine.engine(),
+        submitter,
+        operation,
+        bytes,
+        user_data,
+    ) {
         Ok(packet) => {
             let status = submit(alloc, &mut engine, submitter, packet, number);
             kip.put(engine);
@@ -273,8 +346,9 @@ pub extern "C" fn kip_submit_bytes(
 /// Queues a pulse: a moment in nanoseconds to which the clock is raised.
 #[unsafe(no_mangle)]
 pub extern "C" fn kip_pulse(alloc: Global, kip: &mut Kip, nanoseconds: u64) -> u32
-    ensures ok { result ≡ 0 → Moves (λ old new. Queues old
-        (ticket_of old.front.submitters (item.Pulse nanoseconds)) new) kip.old.pointer.engine kip.new.pointer.engine }
+    ensures ok { result ≡ 0 → Becomes (λ old new. Queues old.engine
+        (ticket_of old.engine.front.submitters (item.Pulse nanoseconds)) new.engine) kip.old.pointer.engine kip.new.pointer.engine }
+    ensures recorded { result ≡ 0 → Becomes (λ old new. PulsesRecorded old nanoseconds new) kip.old.pointer.engine kip.new.pointer.engine }
     ensures status { IsStatusOf (λ engine. pulse_refusal engine nanoseconds) kip.old.pointer.engine result }
     ensures same { (result ≡ 0 → ⊥) → kip.new.pointer.engine ≡ kip.old.pointer.engine }
 {
@@ -320,7 +394,7 @@ pub extern "C" fn kip_flush(alloc: Global, kip: &mut Kip) -> u32
 }
 
 /// Writes the head of the next reply, which stays. Returns 0 if its results fit into `size` bytes.
-fn peek(engine: &Engine, head: &mut KipReply, size: usize) -> u32
+fn peek(engine: &RecordedEngine, head: &mut KipReply, size: usize) -> u32
     ensures { IsPeek result head.new size engine.now }
 {
     let Some(next) = engine.next_reply() else {
@@ -334,7 +408,7 @@ fn peek(engine: &Engine, head: &mut KipReply, size: usize) -> u32
 }
 
 /// Reads the next reply and its results.
-fn read(engine: &mut Engine, head: &mut KipReply, results: &mut [u8]) -> u32
+fn read(engine: &mut RecordedEngine, head: &mut KipReply, results: &mut [u8]) -> u32
     ensures { IsReading result head.new results.old results.new engine.old engine.new }
 {
     let status = peek(engine, head, results.len());
@@ -368,6 +442,56 @@ pub extern "C" fn kip_reply_bytes(
     status
 }
 
+/// Hands out the next entry of the journal, with a packet's data. If the data needs more than the buffer has, the entry stays the next
+/// one, and its head has the size.
+#[unsafe(no_mangle)]
+pub extern "C" fn kip_entry_bytes(
+    alloc: Global,
+    kip: &mut Kip,
+    entry: &mut KipEntry,
+    data: &mut [u8],
+) -> u32
+    ensures { IsHandingOutOf result entry.new data.old data.new kip.old.pointer.engine kip.new.pointer.engine }
+{
+    let Some(mut engine) = kip.take(alloc) else {
+        return CLOSED;
+    };
+    let status = hand_out(&mut engine, entry, data);
+    kip.put(engine);
+    status
+}
+
+/// Notes that all packets and pulses at places below a number are stored: the replies to those packets can be read.
+#[unsafe(no_mangle)]
+pub extern "C" fn kip_durable(alloc: Global, kip: &mut Kip, places: u64) -> u32
+    ensures { IsStoringOf result places kip.old.pointer.engine kip.new.pointer.engine }
+{
+    let Some(mut engine) = kip.take(alloc) else {
+        return CLOSED;
+    };
+    let status = store(&mut engine, places);
+    kip.put(engine);
+    status
+}
+
+/// Commits an entry of a journal again, by itself and at the next place.
+#[unsafe(no_mangle)]
+pub extern "C" fn kip_restore_bytes(
+    alloc: Global,
+    kip: &mut Kip,
+    entry: &KipEntry,
+    data: &[u8],
+) -> u32
+    ensures { IsRestoringOf result entry.now data.now kip.old.pointer.engine kip.new.pointer.engine }
+{
+    let Some(mut engine) = kip.take(alloc) else {
+        return CLOSED;
+    };
+    let status = restore(alloc, &mut engine, entry, data);
+    kip.put(engine);
+    status
+}
+
 /// Writes an account that was found, in 128 bytes.
 fn put_found(found: Option<Account>, account: &mut [u8; 128]) -> u32
     ensures { IsAccount result found account.old account.new }
@@ -397,7 +521,7 @@ pub extern "C" fn kip_lookup_account(
         return CLOSED;
     };
     let id = u128::from(id_high) * U64_VALUES + u128::from(id_low);
-    put_found(engine.lookup_account(id), account)
+    put_found(engine.engine().lookup_account(id), account)
 }
 
 /// Writes the account at an index in the order of making, counted from 0, in 128 bytes.
@@ -410,7 +534,7 @@ pub extern "C" fn kip_account_at(kip: &mut Kip, index: usize, account: &mut [u8;
     let Some(engine) = kip.engine() else {
         return CLOSED;
     };
-    put_found(engine.account_at(index), account)
+    put_found(engine.engine().account_at(index), account)
 }
 
 /// Returns the number of a pending transfer's status; 0 for a transfer that isn't pending.
@@ -462,8 +586,13 @@ pub extern "C" fn kip_lookup_transfer(
         return CLOSED;
     };
     let id = u128::from(id_high) * U64_VALUES + u128::from(id_low);
-    let found = engine.lookup_transfer(id);
-    put_transfer(found, engine.transfer_status(id), transfer, pending_status)
+    let found = engine.engine().lookup_transfer(id);
+    put_transfer(
+        found,
+        engine.engine().transfer_status(id),
+        transfer,
+        pending_status,
+    )
 }
 
 /// Writes the transfer at an index in the order of making, counted from 0, in 128 bytes, and the number of its status if
@@ -482,10 +611,10 @@ pub extern "C" fn kip_transfer_at(
     let Some(engine) = kip.engine() else {
         return CLOSED;
     };
-    let found = engine.transfer_at(index);
+    let found = engine.engine().transfer_at(index);
     put_transfer(
         found,
-        engine.transfer_status_at(index),
+        engine.engine().transfer_status_at(index),
         transfer,
         pending_status,
     )
@@ -500,7 +629,7 @@ pub extern "C" fn kip_stopped(kip: &mut Kip) -> u32
     let Some(engine) = kip.engine() else {
         return CLOSED;
     };
-    let has_stopped = engine.stopped();
+    let has_stopped = engine.engine().stopped();
     if has_stopped {
         Refusal::Stopped.number()
     } else {
@@ -517,7 +646,7 @@ pub extern "C" fn kip_counts(kip: &mut Kip, counts: &mut KipCounts) -> u32
     let Some(engine) = kip.engine() else {
         return CLOSED;
     };
-    let stored = engine.counts();
+    let stored = engine.engine().counts();
     *counts = KipCounts {
         accounts: stored.accounts as u64,
         transfers: stored.transfers as u64,
@@ -535,7 +664,7 @@ pub extern "C" fn kip_clock(kip: &mut Kip, nanoseconds: &mut u64) -> u32
     let Some(engine) = kip.engine() else {
         return CLOSED;
     };
-    *nanoseconds = engine.clock();
+    *nanoseconds = engine.engine().clock();
     0
 }
 
@@ -548,6 +677,6 @@ pub extern "C" fn kip_places(kip: &mut Kip, places: &mut u64) -> u32
     let Some(engine) = kip.engine() else {
         return CLOSED;
     };
-    *places = engine.places();
+    *places = engine.engine().places();
     0
 }

@@ -8,6 +8,7 @@
 mod calls;
 mod counts;
 mod engine_pointer;
+mod entries;
 mod handle;
 mod raw_box;
 mod reading;

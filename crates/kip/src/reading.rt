@@ -66,6 +66,14 @@ fn put(out: &mut [u8], offset: usize, bytes: &[u8])
     out[offset..offset + bytes.len()].copy_from_slice(bytes);
 }
 
+/// Writes bytes at the start of a buffer.
+pub(crate) fn put_bytes(bytes: &[u8], out: &mut [u8])
+    requires { length bytes.now ≤ length out.old }
+    ensures { AreWritten bytes.now (length bytes.now) out.old out.new }
+{
+    put(out, 0, bytes);
+}
+
 fn put_failure(out: &mut [u8], offset: usize, failure: &Failure)
     requires { offset + 8 ≤ length out.old }
     ensures put { out.new ≡ take offset out.old ++ (failure_bytes failure.now ++ drop (offset + 8) out.old) }

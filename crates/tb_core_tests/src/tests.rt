@@ -14,6 +14,7 @@ mod batch;
 mod demux;
 mod durable;
 mod embed;
+mod entries;
 mod front;
 mod ledger;
 mod list;

@@ -7,3 +7,6 @@ mod AnyRun
 mod EngineRun
 mod Replies
 mod Again
+mod Restored
+mod Handed
+mod TruePlaces

@@ -59,7 +59,7 @@ ticket_taken {items} {front} {next} {parcels} was is ticket sound among step sen
 
 -- ---- a pulse or the Close
 
-nothing_held : (front : FrontState) → front.held ≡ [] → with_group front [] ≡ front
+pub nothing_held : (front : FrontState) → front.held ≡ [] → with_group front [] ≡ front
 nothing_held front none = ap (with_group front) (sym none)
 
 -- the front after it, if the group held was sealed before

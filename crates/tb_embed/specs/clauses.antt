@@ -2,3 +2,5 @@
 pub mod AnyEngine
 pub mod Engine
 pub mod Queued
+pub mod Recorded
+pub mod Restoring

@@ -1,6 +1,6 @@
 //! The engine.
 
-ghost use Rattle.std.specs.Prelude.{◌≡◌, ◌<◌, ◌≤◌, ◌+◌, ◌++◌, ◌∷◌, [], ℕ, List, Some, None, true, false, ◌||◌, length, map, IfOk, IfErr, OnOk, OnErr, IfSome, IfNone, option_to_list, get_or, slice_get, slice_set};
+ghost use Rattle.std.specs.Prelude.{◌≡◌, ◌<◌, ◌≤◌, ◌+◌, ◌-◌, ◌^◌, ◌++◌, ◌∷◌, [], ℕ, List, Some, None, true, false, ◌||◌, length, map, IfOk, IfErr, OnOk, OnErr, IfSome, IfNone, option_to_list, get_or, slice_get, slice_set};
 ghost use Rattle.std.specs.Option.{option_copied};
 ghost use Rattle.std.specs.List.{flat_map};
 ghost use Rattle.tb_layout.specs.claim.Limits.{clock_max};
@@ -22,6 +22,7 @@ ghost use Rattle.tb_core.specs.claim.BareLedger.{HasSent, halts, places_with};
 ghost use Rattle.tb_core.specs.claim.Journal.{LedgerState};
 ghost use Rattle.tb_embed.specs.clauses.Engine.{HasTaken, IsControl, IsPacketItem, IsOpened, IsOpenedOver, HoldsNothing, Steps, places_in, places_of, Queues, Reads, Continues, IsRefusal, sender_refusal, packet_with, submit_refusal, pulse_refusal, shut_refusal, has_stopped, state_of};
 ghost use Rattle.tb_embed.specs.clauses.Queued.{ticket_of, packet_ticket};
+ghost use Rattle.tb_embed.specs.clauses.Restoring.{RestoresTicket, is_idle};
 ghost use Rattle.tb_embed.specs.inside.Waiting.{jobs_in};
 
 use crate::unread::Unread;
@@ -447,6 +448,15 @@ impl Engine {
         None
     }
 
+    /// Returns the number of a submitter's next packet, which counts that submitter's packets from 0; 0 if there is no such submitter.
+    pub fn next_number(&self, submitter: u32) -> u64
+        ensures { result ≡ get_or self.now.numbers submitter 0 }
+    {
+        self.numbers
+            .get(submitter as usize)
+            .map_or(0, |number| *number)
+    }
+
     /// Returns why `submit` would refuse a packet with this operation and data if memory is there; None if it would
     /// queue the packet. Reads only the length of the data.
     pub fn refusal_of(&self, submitter: u32, operation: u8, bytes: &[u8]) -> Option<Refusal>
@@ -492,6 +502,21 @@ impl Engine {
         }
     }
 
+    /// Returns why `pulse` would refuse this moment if memory is there; None if it would queue the pulse.
+    pub fn refusal_of_pulse(&self, nanoseconds: u64) -> Option<Refusal>
+        ensures { result ≡ pulse_refusal self.now nanoseconds }
+    {
+        if nanoseconds > MOMENT_MAX {
+            Some(Refusal::MomentTooLarge)
+        } else if self.shut {
+            Some(Refusal::Shutdown)
+        } else if self.stopped() {
+            Some(Refusal::Stopped)
+        } else {
+            None
+        }
+    }
+
     /// Queues a pulse, which raises the clock to a moment in nanoseconds and lets pending transfers expire whose
     /// timeout is over by then.
     ///
@@ -506,14 +531,8 @@ impl Engine {
         ensures same { OnErr result (self.new ≡ self.old) }
         ensures refusal { IfErr result (λ refusal. IsRefusal (pulse_refusal self.old nanoseconds) refusal) }
     {
-        if nanoseconds > MOMENT_MAX {
-            return Err(Refusal::MomentTooLarge);
-        }
-        if self.shut {
-            return Err(Refusal::Shutdown);
-        }
-        if self.stopped() {
-            return Err(Refusal::Stopped);
+        if let Some(refusal) = self.refusal_of_pulse(nanoseconds) {
+            return Err(refusal);
         }
         self.take_control(Item::Pulse(Moment::new(nanoseconds)))?;
         Ok(())
@@ -559,6 +578,46 @@ impl Engine {
         }
         commit_held(&mut self.front, &mut self.ledger, &mut self.unread)?;
         Ok(())
+    }
+
+    /// Returns whether nothing is held or unread, and no Close was taken: a packet would be committed as it comes.
+    pub(crate) fn is_idle(&self) -> bool
+        ensures { result ≡ is_idle self.now }
+    {
+        self.front.begins_group() && self.unread.next().is_none()
+    }
+
+    /// Queues a submitter's packet while nothing is held or unread, commits it by itself, and returns its reply. If memory runs out, the
+    /// packet comes back and nothing has changed.
+    pub(crate) fn commit_alone(
+        &mut self,
+        alloc: Global,
+        submitter: u32,
+        packet: Packet,
+    ) -> Result<Reply, Packet>
+        requires idle { is_idle self.old ≡ true }
+        requires among { submitter < self.old.front.submitters }
+        requires more { get_or self.old.numbers submitter 0 < 2 ^ 64 - 1 }
+        ensures ok { IfOk result (λ reply. RestoresTicket self.old
+            (packet_ticket submitter (get_or self.old.numbers submitter 0) packet) (reply ∷ []) self.new) }
+        ensures back { IfErr result (λ back. (back ≡ packet) × (self.new ≡ self.old)) }
+    {
+        self.ledger.has_few_places();
+        // The law that what a front holds is one group.
+        let _ = self.front.begins_group();
+        let at = submitter as usize;
+        let number = self.numbers[at];
+        let job = match Job::new(alloc, submitter, number, self.limit, packet) {
+            Ok(job) => job,
+            Err((packet, _)) => return Err(packet),
+        };
+        match self.ledger.try_alone(job) {
+            Ok(reply) => {
+                self.numbers[at] = number + 1;
+                Ok(reply)
+            }
+            Err(job) => Err(job.into_packet()),
+        }
     }
 
     /// Returns the next reply, which stays unread; None if there is none.

@@ -1,7 +1,7 @@
 //! What follows from an engine's calls.
 
 ghost use Rattle.tb_embed.specs.clauses.AnyEngine.{AnyServingIsLawful};
-ghost use Rattle.tb_embed.specs.clauses.Engine.{JournalRestores, QueueDecides, RepliesCome, ServingIsLawful};
+ghost use Rattle.tb_embed.specs.clauses.Engine.{JournalRestores, PlacesAreTrue, QueueDecides, RepliesCome, ServingIsLawful};
 
 use tb_core::{AnyLedger, each_part_is_lawful, run_is_lawful};
 
@@ -47,6 +47,14 @@ pub fn queue_decides()
 /// packet at its place, can have the ledger again.
 pub fn journal_restores()
     ensures { JournalRestores }
+{
+    serving_is_lawful();
+}
+
+/// Establishes that a reply which says that its packet is committed at a place is right about it: at that place the journal has exactly
+/// that packet. So a host that stores packets by the places in their replies stores the journal.
+pub fn places_are_true()
+    ensures { PlacesAreTrue }
 {
     serving_is_lawful();
 }

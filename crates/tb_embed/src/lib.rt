@@ -12,9 +12,12 @@
 //! a copy.
 //!
 //! What is queued decides the rest (`queue_decides`): a host that stores its calls can make them again after a crash. One that stores
-//! what is committed can queue that again (`journal_restores`).
+//! what is committed, each packet at the place in its reply (`places_are_true`), can queue that again (`journal_restores`).
 //!
 //! An engine that holds nothing yields its ledger (`Engine::into_ledger`), and another goes on with it (`Engine::over`).
+//!
+//! A `RecordedEngine` is for a host that keeps the journal in a store of its own. It hands out what is committed, and holds a reply back
+//! until its packet is stored. `Engine::restore_packet` and `Engine::restore_pulse` commit again what was stored.
 //!
 //! An `AnyEngine` queues, commits and reads so over any ledger, such as one in a file (`any_serving_is_lawful`).
 //!
@@ -24,12 +27,17 @@
 mod any_engine;
 mod engine;
 mod laws;
+mod recorded;
+mod restoring;
 mod unread;
 mod waiting;
 
 pub use any_engine::AnyEngine;
 pub use engine::Engine;
 pub use laws::{
-    any_serving_is_lawful, journal_restores, queue_decides, replies_come, serving_is_lawful,
+    any_serving_is_lawful, journal_restores, places_are_true, queue_decides, replies_come,
+    serving_is_lawful,
 };
+pub use recorded::RecordedEngine;
+pub use restoring::{PlacedPacket, PlacedPulse, RestoreFault};
 pub use tb_core::Seed;

@@ -1,6 +1,6 @@
 //! What waits in an engine.
 
-ghost use Rattle.std.specs.Prelude.{◌≡◌, ◌<◌, ◌≤◌, ◌==◌, ◌||◌, ◌∷◌, [], true, false, not, Some, None, length, IfOk, IfErr, OnOk, OnErr, IfSome, IfNone, option_to_list};
+ghost use Rattle.std.specs.Prelude.{◌≡◌, ◌<◌, ◌≤◌, ◌==◌, ◌&&◌, ◌||◌, ◌∷◌, [], true, false, not, Some, None, length, IfOk, IfErr, OnOk, OnErr, IfSome, IfNone, option_to_list};
 ghost use Rattle.tb_work.specs.declared.item.Item.TheVariants.{Packet as PacketItem};
 ghost use Rattle.tb_batch.specs.claim.Grouping.{IsGroup};
 ghost use Rattle.tb_core.specs.claim.Front.{IsFront, step_of_packet, take_result, take_step, takes_memory, with_group};
@@ -97,6 +97,14 @@ impl Waiting {
         self.alone.is_some() || self.front.is_holding()
     }
 
+    /// Returns whether a packet would begin a group, as `Front::begins_group` does.
+    pub(crate) fn begins_group(&self) -> bool
+        ensures value { result ≡ ((length self.now.held == 0) && not (self.now.closed || self.now.stopped)) }
+        ensures front { IsFront self.now }
+    {
+        self.alone.is_none() && self.front.begins_group()
+    }
+
     /// Takes a packet, and returns the parcel that it yields, as `Front::try_packet` does.
     pub(crate) fn try_packet(&mut self, job: Job) -> Result<Option<Parcel>, Job>
         ensures ok { IfOk result (λ parcel. take_result self.new (option_to_list parcel) ≡ step_of_packet false self.old job) }
@@ -104,7 +112,7 @@ impl Waiting {
         ensures memory { OnErr result (takes_memory self.old (PacketItem job) ≡ true) }
         ensures front { IsFront self.old }
     {
-        if self.alone.is_none() && self.front.begins_group() {
+        if self.begins_group() {
             self.alone = Some(job);
             return Ok(None);
         }

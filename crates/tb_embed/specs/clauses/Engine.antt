@@ -1,13 +1,14 @@
 -- An engine: what was queued in it, which replies were read, and what follows. No batch is in it.
-use Rattle.std.specs.Prelude.{◌≡◌, ◌≤◌, ◌==◌, ◌⊎◌, ◌^◌, ◌-◌, ℕ, Bool, false, nat_lt, nat_le, if◌then◌else◌, List, [], ◌∷◌, ◌++◌, ◌+◌, map, length, get_or, Option, Some, None, Result, Ok, Err}
+use Rattle.std.specs.Prelude.{◌≡◌, ◌<◌, ◌≤◌, ◌==◌, ◌⊎◌, ◌^◌, ◌-◌, ℕ, Bool, false, nat_lt, nat_le, if◌then◌else◌, List, [], ◌∷◌, ◌++◌, ◌+◌, map, length, get_or, slice_get, Option, Some, None, Result, Ok, Err}
 use Rattle.tb_layout.specs.claim.Bounds.{batch_max, moment_max, places_max, submitters_max}
 use Rattle.tb_machine.specs.claim.Replay.{State, replay}
 use Rattle.tb_work.specs.claim.Admission.{admission_of}
 use Rattle.tb_work.specs.claim.Ahead.{ahead, items_in, items_from}
-use Rattle.tb_work.specs.claim.Packet.{ReplyValue}
+use Rattle.tb_work.specs.claim.Packet.{ReplyValue, input_of}
 use Rattle.tb_work.specs.declared.item.Item.{Item}
 use Rattle.tb_work.specs.declared.item.Item.TheVariants as item
 use Rattle.tb_work.specs.declared.item.Ticket.{Ticket}
+use Rattle.tb_work.specs.declared.outcome.Outcome.TheVariants.{Committed}
 use Rattle.tb_work.specs.declared.packet.Packet.{Packet}
 use Rattle.tb_work.specs.declared.refusal.Refusal.{Refusal}
 use Rattle.tb_work.specs.declared.refusal.Refusal.TheVariants.{BadSubmitters, Full, MomentTooLarge, NoMemory, Shutdown, Stopped}
@@ -15,6 +16,7 @@ use Rattle.tb_core.specs.claim.Due.{all_due, replies_to}
 use Rattle.tb_core.specs.claim.Decision.{inputs_in, Decision, AreDecisions}
 use Rattle.tb_core.specs.claim.Front.{FrontState, held_by, take_step, with_group}
 use Rattle.tb_layout.specs.claim.Events.{Input}
+use Rattle.tb_layout.specs.declared.answer.Answer.{Answer}
 use Rattle.tb_core.specs.claim.Journal.{LedgerState, inputs, groups_since, inputs_since}
 use Rattle.tb_core.specs.claim.Ledger.{new_ledger}
 use Rattle.tb_core.specs.claim.EndedRun.{Run, IsPrefix}
@@ -303,3 +305,14 @@ JournalRestores =
     → Serves start queue read engine → HasPlaces start (items_in queue) → engine.front.held ≡ []
     → (state_of engine ≡ replay start.opening (inputs start ++ ahead (items_in queue)))
     × (engine.ledger.places ≡ length (inputs start ++ ahead (items_in queue)))
+
+-- A reply that says that its packet is committed at a place tells what the journal has there: exactly that packet. The place is one of
+-- those that are committed. So a host that stores packets by the places in their replies stores the journal.
+abbrev pub PlacesAreTrue : Type 0
+PlacesAreTrue =
+    (start : LedgerState) (queue : List Ticket) (read : List ReplyValue) (engine : EngineState)
+    (index : ℕ) (reply : ReplyValue) (place : ℕ) (answer : Answer)
+    → Serves start queue read engine → slice_get (read ++ engine.unread) index ≡ Some reply
+    → reply.outcome ≡ Committed place answer
+    → (place < engine.ledger.places)
+    × (slice_get (inputs start ++ ahead (items_in queue)) place ≡ Some (input_of reply.packet))

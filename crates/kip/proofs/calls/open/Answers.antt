@@ -1,12 +1,9 @@
--- Found by the prover itself; on file since the check of an edit then costs less.
-use Rattle.std.proofs.Common.{rules}
+use Rattle.std.proofs.Common.{refl, inr}
+use Rattle.kip.proofs.Moved.{opens}
 use Rattle.kip.proofs.calls.open.Goals as goal
 
-pub returns-in_err-engine-clause-refusal : goal.returns-in_err-engine-clause-refusal
-returns-in_err-engine-clause-refusal c = search rules
-
 pub returns-in_default-clause-refusal : goal.returns-in_default-clause-refusal
-returns-in_default-clause-refusal c = search rules
+returns-in_default-clause-refusal c = inr (opens c.args.opening.clock c.args.opening.limit c.args.opening.submitters c.if-opening-gt-CLOCK_MAX.false c.in_ok-engine.ensures.opens, refl)
 
-pub returns-clause-refusal : goal.returns-clause-refusal
-returns-clause-refusal c = search rules
+pub returns-clause-opens : goal.returns-clause-opens
+returns-clause-opens c = opens c.args.opening.clock c.args.opening.limit c.args.opening.submitters c.if-opening-gt-CLOCK_MAX.false c.in_ok-engine.ensures.opens

@@ -8,8 +8,8 @@ use Rattle.std.specs.Global.{Global}
 use Rattle.std.proofs.Crossing as crossing
 use Rattle.std_alloc.proofs.SendSync.{quiet, lies}
 use Rattle.std_heap.proofs.Global.TheSendSync as allocator
-use Rattle.tb_embed.specs.contracts.engine.Engine as Engine
-use Rattle.tb_embed.proofs.engine.Engine.TheSendSync.{the_send as engine_send}
+use Rattle.tb_embed.specs.contracts.recorded.RecordedEngine as Engine
+use Rattle.tb_embed.proofs.recorded.RecordedEngine.TheSendSync.{the_send as engine_send}
 use Rattle.kip.specs.clauses.EnginePointer.{pointer_owns}
 use Rattle.kip.specs.contracts.engine_pointer.EnginePointer.{the_row, the_type}
 

@@ -7,7 +7,7 @@ use denote.Follow.{follows, Part, lends_Part}
 use denote.Memory.{part_of}
 use denote.Ref.{MutRef, mut_vals, mut_Tells}
 use Rattle.std_alloc.proofs.VecSteps.Shapes.{after}
-use Rattle.tb_embed.specs.contracts.engine.Engine as Engine
+use Rattle.tb_embed.specs.contracts.recorded.RecordedEngine as Engine
 use Rattle.kip.specs.inside.Lent.{with_engine}
 use Rattle.kip.proofs.AsBox.{E, some_of}
 use Rattle.kip.specs.contracts.engine_pointer.EnginePointer as EnginePointer

@@ -1,7 +1,8 @@
-use Rattle.std.proofs.Common.{refl, sym, subst, ap, ◌∙◌}
+use Rattle.std.proofs.Common.{refl, sym, subst, ◌∙◌}
 use Rattle.tb_work.specs.declared.item.Item.TheVariants as item
 use Rattle.tb_embed.proofs.Words.{EngineState, Queues, ticket_of}
 use Rattle.tb_embed.proofs.EngineRun.{Took, control_serves}
+use Rattle.tb_embed.proofs.Restored.{open_if_not_refused}
 use Rattle.tb_embed.proofs.engine.Engine.pulse.Goals as goal
 
 pub returns-clause-ok : goal.returns-clause-ok
@@ -10,7 +11,7 @@ returns-clause-ok c =
     let new = c.take_control.new.self in
     let done = c.in_ok-take_control.ensures in
     let x = item.Pulse c.args.nanoseconds in
-    let open_yet = ap (λ (e : EngineState). e.shut) (sym c.self.view_is) ∙ c.if-self.false in
+    let open_yet = open_if_not_refused old c.args.nanoseconds (sym c.refusal_of_pulse.ensures ∙ c.in_default.is) in
     subst (λ b. Queues old (ticket_of old.front.submitters x) (record new { shut = b })) (sym (done.same.1 ∙ open_yet))
     (control_serves x (subst (λ moment. Took old (ticket_of old.front.submitters (item.Pulse moment)) new) c.new.ensures
     (record { takes = done.taken; steps = done.steps; stopped = done.stopped; sound = done.front; same = done.same }))

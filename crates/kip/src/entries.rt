@@ -1,0 +1,229 @@
+//! The entries of a journal, as C reads and writes them.
+
+ghost use Rattle.std.specs.Prelude.{◌≡◌, ◌<◌, Some, None, true, IfOk, IfErr, OnOk, OnErr};
+ghost use Rattle.tb_work.specs.claim.Packet.{ReplyValue};
+ghost use Rattle.tb_embed.specs.clauses.Recorded.{ChangesEngine, recorded_packet_fault, recorded_pulse_fault};
+ghost use Rattle.tb_embed.specs.clauses.Restoring.{IsFault, RestoresPacket, RestoresPulse};
+ghost use Rattle.kip.specs.clauses.Entries.{IsFaultOrMemory, IsHandingOut, IsPacketStatus, IsRestoring, IsStoring, fault_number, if_empty, packet_entry, placed_packet, placed_pulse, pulse_entry};
+ghost use Rattle.kip.specs.clauses.Results.{AreWritten, place_of};
+
+use crate::calls::packet_of;
+use crate::reading::put_bytes;
+use std::alloc::{AllocError, Global};
+use tb_embed::{PlacedPacket, PlacedPulse, RecordedEngine, RestoreFault};
+use tb_work::{Outcome, Refusal, Reply};
+
+/// What a pulse has for an operation.
+const PULSE: u32 = 0;
+
+/// The buffer is too small for the data.
+const TOO_SMALL: u32 = 103;
+
+/// Nothing is left to be handed out.
+const NO_ENTRY: u32 = 107;
+
+/// An entry isn't the next by its place, or by its number among its submitter's.
+const NOT_NEXT: u32 = 108;
+
+/// The engine holds a packet, has an unread reply, or is shut.
+const IN_USE: u32 = 109;
+
+/// The host doesn't keep the journal.
+const NOT_RECORDED: u32 = 110;
+
+/// There aren't as many places.
+const NOT_COMMITTED: u32 = 111;
+
+/// The head of an entry of the journal, whose data are a packet's events.
+#[repr(C)]
+#[derive(Clone, Copy)]
+pub struct KipEntry {
+    pub place: u64,
+    /// Of a pulse, in nanoseconds; 0 of a packet.
+    pub moment: u64,
+    /// The packet's number among its submitter's.
+    pub number: u64,
+    /// How many bytes its data has.
+    pub size: u64,
+    pub submitter: u32,
+    /// 0 of a pulse.
+    pub operation: u32,
+}
+
+fn entry_of_pulse(pulse: PlacedPulse) -> KipEntry
+    ensures { result ≡ pulse_entry pulse }
+{
+    KipEntry {
+        place: pulse.place,
+        moment: pulse.moment,
+        number: 0,
+        size: 0,
+        submitter: 0,
+        operation: PULSE,
+    }
+}
+
+fn place_of(outcome: &Outcome) -> u64
+    ensures { result ≡ place_of outcome.now }
+{
+    match outcome {
+        Outcome::Committed { place, .. } => *place,
+        Outcome::Shutdown | Outcome::Stopped => 0,
+    }
+}
+
+fn entry_of_packet(reply: &Reply) -> KipEntry
+    ensures { result ≡ packet_entry reply.now }
+{
+    KipEntry {
+        place: place_of(&reply.outcome),
+        moment: 0,
+        number: reply.number,
+        size: reply.packet.bytes.as_slice().len() as u64,
+        submitter: reply.submitter,
+        operation: u32::from(reply.packet.operation),
+    }
+}
+
+/// Writes the next packet's entry and its data. Nothing is handed out by that.
+fn peek_packet(engine: &RecordedEngine, entry: &mut KipEntry, data: &mut [u8]) -> u32
+    ensures { IsPacketStatus result entry.new data.old data.new engine.now }
+{
+    let Some(reply) = engine.next_packet() else {
+        return NO_ENTRY;
+    };
+    *entry = entry_of_packet(reply);
+    let bytes = reply.packet.bytes.as_slice();
+    if bytes.len() > data.len() {
+        return TOO_SMALL;
+    }
+    put_bytes(bytes, data);
+    0
+}
+
+/// Hands out what is next, with its data.
+pub(crate) fn hand_out(engine: &mut RecordedEngine, entry: &mut KipEntry, data: &mut [u8]) -> u32
+    ensures { IsHandingOut result entry.new data.old data.new engine.old engine.new }
+{
+    if !engine.records() {
+        return NOT_RECORDED;
+    }
+    if let Some(pulse) = engine.next_pulse() {
+        *entry = entry_of_pulse(pulse);
+        engine.hand_pulse();
+        return 0;
+    }
+    let status = peek_packet(engine, entry, data);
+    if status != 0 {
+        return status;
+    }
+    match engine.hand_packet() {
+        Ok(()) => 0,
+        Err(_) => Refusal::NoMemory.number(),
+    }
+}
+
+/// Notes up to which place all is stored.
+pub(crate) fn store(engine: &mut RecordedEngine, places: u64) -> u32
+    ensures { IsStoring result places engine.old engine.new }
+{
+    if !engine.records() {
+        return NOT_RECORDED;
+    }
+    if places > engine.engine().places() {
+        return NOT_COMMITTED;
+    }
+    engine.set_durable(places);
+    0
+}
+
+fn number_of_fault(fault: RestoreFault) -> u32
+    ensures { result ≡ fault_number fault }
+{
+    match fault {
+        RestoreFault::InUse => IN_USE,
+        RestoreFault::NotNext => NOT_NEXT,
+        RestoreFault::Refused(refusal) => refusal.number(),
+    }
+}
+
+/// Restores a pulse, which has no data.
+fn restore_pulse(engine: &mut RecordedEngine, entry: &KipEntry) -> Result<(), RestoreFault>
+    ensures ok { OnOk result (RestoresPulse engine.old.engine (placed_pulse entry.now) engine.new.engine) }
+    ensures restorable { OnOk result (if_empty entry.now.size (recorded_pulse_fault engine.old (placed_pulse entry.now)) ≡ None) }
+    ensures engine { ChangesEngine engine.old engine.new }
+    ensures same { OnErr result (engine.new ≡ engine.old) }
+    ensures fault { IfErr result (λ fault. IsFault (if_empty entry.now.size (recorded_pulse_fault engine.old (placed_pulse entry.now))) fault) }
+{
+    if entry.size != 0 {
+        return Err(RestoreFault::Refused(Refusal::InvalidDataSize));
+    }
+    engine.restore_pulse(PlacedPulse {
+        place: entry.place,
+        moment: entry.moment,
+    })
+}
+
+/// Returns a packet of a journal, with a copy of the data.
+fn placed_packet(alloc: Global, entry: &KipEntry, data: &[u8]) -> Result<PlacedPacket, AllocError>
+    ensures { IfOk result (λ placed. placed ≡ placed_packet entry.now data.now) }
+{
+    let operation = u8::try_from(entry.operation).unwrap_or(0);
+    Ok(PlacedPacket {
+        place: entry.place,
+        submitter: entry.submitter,
+        number: entry.number,
+        packet: packet_of(alloc, operation, data, 0)?,
+    })
+}
+
+/// Restores a packet, whose data is copied.
+fn restore_packet(
+    alloc: Global,
+    engine: &mut RecordedEngine,
+    entry: &KipEntry,
+    data: &[u8],
+) -> Result<(), RestoreFault>
+    ensures ok { OnOk result ((reply : ReplyValue) × RestoresPacket engine.old.engine (placed_packet entry.now data.now) reply engine.new.engine) }
+    ensures restorable { OnOk result (recorded_packet_fault engine.old (placed_packet entry.now data.now) ≡ None) }
+    ensures engine { ChangesEngine engine.old engine.new }
+    ensures same { OnErr result (engine.new ≡ engine.old) }
+    ensures fault { IfErr result (λ fault. IsFaultOrMemory (recorded_packet_fault engine.old (placed_packet entry.now data.now)) fault) }
+{
+    let Ok(placed) = placed_packet(alloc, entry, data) else {
+        return Err(RestoreFault::Refused(Refusal::NoMemory));
+    };
+    match engine.restore_packet(alloc, placed) {
+        Ok(reply) => {
+            drop(reply);
+            Ok(())
+        }
+        Err((placed, fault)) => {
+            drop(placed);
+            Err(fault)
+        }
+    }
+}
+
+/// Commits an entry of a journal again, at the next place.
+pub(crate) fn restore(
+    alloc: Global,
+    engine: &mut RecordedEngine,
+    entry: &KipEntry,
+    data: &[u8],
+) -> u32
+    ensures { IsRestoring result entry.now data.now engine.old engine.new }
+{
+    if entry.size != data.len() as u64 {
+        return Refusal::InvalidDataSize.number();
+    }
+    let restored = if entry.operation == PULSE {
+        restore_pulse(engine, entry)
+    } else {
+        restore_packet(alloc, engine, entry, data)
+    };
+    match restored {
+        Ok(()) => 0,
+        Err(fault) => number_of_fault(fault),
+    }
+}

@@ -1,0 +1,87 @@
+-- What a host that keeps the journal is handed, and what it may read.
+use Rattle.std.proofs.Common.{◌≡◌, refl, sym, ap, ◌∙◌, subst, ℕ, Bool, true, false, if◌then◌else◌, List, [], ◌∷◌, ◌++◌, slice_get, drop, length, arith, append-nil, append_assoc, option_to_list, IfSome, Bor, Option, Some, None}
+use Rattle.std.specs.Option.{is_some, option_copied}
+use Rattle.tb_embed.specs.clauses.Engine.{Reads}
+use Rattle.tb_embed.specs.clauses.Recorded.{HandsPacket, ReadsRecorded, RecordedState, first_stored, if_committed, if_uncommitted, is_committed, next_packet, readable}
+use Rattle.tb_embed.proofs.Words.{EngineState, LedgerState, ReplyValue, Serves, Ticket}
+
+injective : {X : Type 0} {x y : X} → Some x ≡ Some y → x ≡ y
+injective {X} {x} {y} same = ap (λ found. value found) same
+  where
+    value : Option X → X
+    value (Some z) = z
+    value None = x
+
+-- of a condition's two sides one is none
+chosen : {X : Type 0} (test : Bool) (x y : X) → (if test then Some x else None) ≡ Some y → x ≡ y
+chosen true x y is = injective is
+chosen false x y is = cc
+
+-- the packet that is next is that of the engine's next reply
+next_is : (host : RecordedState) (first reply : ReplyValue) (rest : List ReplyValue) → host.engine.unread ≡ first ∷ rest
+    → next_packet host ≡ Some reply → first ≡ reply
+next_is host first reply rest unread is =
+    by host.records (subst (λ unread. (if host.records then if_committed (slice_get unread 0) else None) ≡ Some reply) unread is)
+  where
+    by : (records : Bool) → (if records then (if is_committed first.outcome then Some first else None) else None) ≡ Some reply → first ≡ reply
+    by true is = chosen (is_committed first.outcome) first reply is
+    by false is = cc
+
+module _ (old : RecordedState) (engine : EngineState) (handed : List ReplyValue) where
+  -- the engine's next reply is handed out
+  pub hands : (first reply : ReplyValue) → old.engine.unread ≡ first ∷ engine.unread → next_packet old ≡ Some reply → Reads old.engine first engine
+      → handed ≡ old.handed ++ first ∷ [] → HandsPacket old reply (record old { engine = engine; handed = handed })
+  hands first reply unread is reads appended =
+      subst (λ reply. HandsPacket old reply (record old { engine = engine; handed = handed })) (next_is old first reply engine.unread unread is)
+      (record {
+        handed = ap (λ handed. record old { engine = engine; handed = handed }) appended;
+        left = ap (λ handed. handed ++ engine.unread) appended ∙ append_assoc old.handed (first ∷ []) engine.unread
+            ∙ ap (λ unread. old.handed ++ unread) (sym unread);
+        adds = λ start queue read serves. subst (λ all. Serves start queue all engine)
+            (append_assoc read old.handed (first ∷ []) ∙ ap (λ handed. read ++ handed) (sym appended))
+            (reads.adds start queue (read ++ old.handed) serves);
+        ledger = reads.same;
+        front = reads.stays;
+      })
+
+  -- a reply that the engine has is read, while none is handed out
+  reads_engine : (reply : ReplyValue) → old.handed ≡ [] → handed ≡ [] → old.engine.unread ≡ reply ∷ engine.unread → is_some (readable old) ≡ true
+      → Reads old.engine reply engine → ReadsRecorded old reply (record old { engine = engine; handed = handed })
+  reads_engine reply none still unread some reads = record {
+    was = rw (none, unread) (by old.records (subst (λ found. is_some found ≡ true) (rw (none, unread) refl) some));
+    left = rw (none, still) unread;
+    adds = λ start queue read serves. subst (λ all. Serves start queue all engine)
+        (sym (ap (λ handed. (read ++ reply ∷ []) ++ handed) still ∙ append-nil (read ++ reply ∷ [])))
+        (reads.adds start queue read (subst (λ all. Serves start queue all old.engine) (ap (λ handed. read ++ handed) none ∙ append-nil read) serves));
+    same = refl;
+    ledger = reads.same;
+    front = reads.stays;
+  }
+    where
+      by : (records : Bool) → is_some (if records then (if is_committed reply.outcome then None else Some reply) else Some reply) ≡ true
+          → (if records then (if is_committed reply.outcome then None else Some reply) else Some reply) ≡ Some reply
+      by false some = refl
+      by true some = either (is_committed reply.outcome) some
+        where
+          either : (committed : Bool) → is_some (if committed then None else Some reply) ≡ true → (if committed then None else Some reply) ≡ Some reply
+          either false some = refl
+          either true some = cc
+
+  pub reads_found : (result : Option ReplyValue) → old.handed ≡ [] → handed ≡ [] → old.engine.unread ≡ option_to_list result ++ engine.unread → is_some (readable old) ≡ true
+      → IfSome result (λ reply. Reads old.engine reply engine)
+      → IfSome result (λ reply. ReadsRecorded old reply (record old { engine = engine; handed = handed }))
+  reads_found None none still unread some reads = tt
+  reads_found (Some reply) none still unread some reads = reads_engine reply none still unread some reads
+
+pub is_there : (found : Option (Bor ReplyValue)) (copied : Option ReplyValue) → is_some found ≡ true → option_copied found ≡ copied
+    → is_some copied ≡ true
+is_there None copied is same = cc
+is_there (Some reply) copied is same = ap is_some (sym same)
+
+-- a list of which removing the first changes nothing
+pub none_handed : (old new : List ReplyValue) → old ≡ new → new ≡ drop 1 old → (old ≡ []) × (new ≡ [])
+none_handed [] new same rest = (refl, rest)
+none_handed (reply ∷ old) new same rest = absurd (longer (same ∙ rest))
+  where
+    longer : reply ∷ old ≡ old → ⊥
+    longer is = grind (arith, ap length is)

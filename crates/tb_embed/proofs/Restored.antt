@@ -1,0 +1,165 @@
+-- A packet that is committed by itself while nothing is held.
+use Rattle.std.proofs.Common.{◌≡◌, if◌then◌else◌, nat_lt, None, Some, Option, refl, sym, ap, ◌∙◌, subst, arith, ℕ, ◌+◌, ◌<◌, ◌≤◌, Bool, true, false, ◌&&◌, ◌||◌, List, [], ◌∷◌, ◌++◌, length, get_or, append-nil}
+use Rattle.tb_embed.proofs.Words.{◌==◌, not, nat_tests, slice_set, places_max, Numbered, Item, Ticket, Packet, ReplyValue, FrontState, IsFront, group_as_batch, take_result, take_step, with_group, Pulse, Decision, Admitted, BareLedgerState, HasSent, halts, LedgerState, EngineState, Continues, HasTaken, Queues, Serves, packet_ticket, ticket_of, places_in, items_in}
+use Rattle.tb_batch.specs.claim.Grouping.{is_taken}
+use Rattle.tb_core.specs.claim.Front.{step_of_packet}
+use Rattle.tb_work.specs.claim.Job.{numbered_packet}
+use Rattle.tb_work.specs.declared.item.Item.TheVariants as item
+use Rattle.tb_work.specs.declared.refusal.Refusal.{Refusal}
+use Rattle.tb_embed.specs.clauses.Engine.{has_stopped, pulse_refusal, submit_refusal}
+use Rattle.tb_embed.specs.clauses.Restoring.{RestoresTicket, fault_of, is_idle, packet_fault}
+use Rattle.tb_embed.specs.declared.restoring.PlacedPacket.{PlacedPacket}
+use Rattle.tb_embed.specs.declared.restoring.RestoreFault.TheVariants.{InUse}
+use Rattle.tb_work.specs.declared.refusal.Refusal.TheVariants.{MomentTooLarge, Shutdown, Stopped}
+use Rattle.tb_layout.specs.claim.Bounds.{moment_max}
+use Rattle.tb_embed.proofs.Parcels.{halts_at_none, jobs_taken, nothing_held, ticket_taken}
+use Rattle.tb_embed.proofs.EngineRun.{Took, group_serves, packet_serves}
+
+-- what an idle engine is
+record IsIdle (engine : EngineState) : Type 0 where
+  empty : engine.front.held ≡ []
+  unclosed : engine.front.closed ≡ false
+  goes : engine.front.stopped ≡ false
+  unread : engine.unread ≡ []
+
+none_of : {X : Type 0} (xs : List X) → (length xs == 0) ≡ true → xs ≡ []
+none_of [] is = refl
+none_of (x ∷ xs) is = grind (arith, nat_tests, is)
+
+idle_is : (engine : EngineState) → is_idle engine ≡ true → IsIdle engine
+idle_is engine is = record {
+  empty = none_of engine.front.held (grind (arith, is));
+  unclosed = grind (arith, is);
+  goes = grind (arith, is);
+  unread = none_of engine.unread (grind (arith, is));
+}
+
+-- one of two that are the same, unless one of two conditions holds
+module _ {X : Type 0} (a b : X) where
+  either : (first second third : Bool) {x y z : X} → first ≡ false → second ≡ false → x ≡ z → y ≡ z
+      → (if first then a else if second then b else if third then x else y) ≡ z
+  either false false true unclosed goes one other = one
+  either false false false unclosed goes one other = other
+  either false true third unclosed goes one other = cc
+  either true second third unclosed goes one other = cc
+
+-- it begins a group
+begins : (front : FrontState) (job : Numbered) → front.held ≡ [] → front.closed ≡ false → front.stopped ≡ false
+    → take_result (with_group front (job ∷ [])) [] ≡ step_of_packet false front job
+begins front job empty unclosed goes =
+    sym (either _ _ front.closed front.stopped (is_taken front.limit front.held job) unclosed goes
+    (ap (λ held. take_result (with_group front (held ++ job ∷ [])) []) empty)
+    (ap (λ held. take_result (with_group front (job ∷ [])) (group_as_batch held)) empty))
+
+module _ (old : EngineState) (submitter number : ℕ) (packet : Packet) (reply : ReplyValue) (ledger : BareLedgerState)
+    (sound : IsFront old.front) (idle : is_idle old ≡ true) where
+  abbrev job : Numbered
+  job = numbered_packet submitter number packet
+
+  abbrev ticket : Ticket
+  ticket = packet_ticket submitter number packet
+
+  abbrev begun : FrontState
+  begun = with_group old.front (job ∷ [])
+
+  abbrev numbers : List ℕ
+  numbers = slice_set old.numbers submitter (number + 1)
+
+  is : IsIdle old
+  is = idle_is old idle
+
+  step : take_result begun [] ≡ take_step false old.front submitter (item.Packet job)
+  step = begins old.front job is.empty is.unclosed is.goes
+
+  -- it is held
+  took : submitter ≤ old.front.submitters → old.ledger.places ≤ places_max → Took old ticket (record old { front = begun })
+  took among few = record {
+    takes = λ start items read has.
+        let was = λ (limit : ℕ) (sent : List Decision). HasSent start limit sent old.ledger (read ++ old.unread) in
+        ticket_taken was was ticket sound among step (λ sent joined had. subst (was old.front.limit) (sym (append-nil sent)) had) has;
+    steps = ap (λ t. t.front) step;
+    stopped = halts_at_none old.ledger few ∙ ap (λ t. halts old.ledger (places_in t.parcels)) step;
+    sound = sound;
+    same = (refl, refl, refl, refl);
+  }
+
+  -- it is committed, and its reply is read
+  pub alone_restores : submitter < old.front.submitters → old.front.submitters ≤ length old.numbers → old.ledger.places ≤ places_max
+      → get_or old.numbers submitter 0 ≡ number
+      → ((start : LedgerState) (limit : ℕ) (decisions : List Decision) (replies : List ReplyValue)
+      → HasSent start limit decisions old.ledger replies → HasSent start limit (decisions ++ Admitted job ∷ []) ledger (replies ++ reply ∷ []))
+      → ledger.stopped ≡ halts old.ledger 1
+      → RestoresTicket old ticket (reply ∷ []) (record old { ledger = ledger; numbers = numbers })
+  alone_restores among long few next sends stopped =
+      let middle : EngineState = record old { front = begun; numbers = numbers } in
+      let last : EngineState = record old { ledger = ledger; numbers = numbers; unread = reply ∷ [] } in
+      let queued : Queues old ticket middle = packet_serves submitter number packet next (took (omega (arith, among)) few) among long in
+      let committed : Continues middle last = group_serves middle last (λ start items read has.
+      let was = λ (limit : ℕ) (sent : List Decision). HasSent start limit sent old.ledger (read ++ old.unread) in
+      let now = λ (limit : ℕ) (sent : List Decision). HasSent start limit sent ledger (read ++ reply ∷ []) in
+      subst (λ (front : FrontState). HasTaken start items (read ++ reply ∷ []) front ledger) (nothing_held old.front is.empty)
+      (jobs_taken was now refl (λ sent had. subst (λ replies. HasSent start old.front.limit (sent ++ Admitted job ∷ []) ledger (replies ++ reply ∷ []))
+      (ap (λ unread. read ++ unread) is.unread ∙ append-nil read) (sends start old.front.limit sent (read ++ old.unread) had)) has))
+      (sym (nothing_held old.front is.empty)) stopped refl refl in
+      record {
+        adds = λ start queue read serves.
+            let done = committed.adds start (queue ++ ticket ∷ []) read (queued.adds start queue read serves) in
+            record {
+              taken = subst (λ replies. HasTaken start (items_in (queue ++ ticket ∷ [])) replies old.front ledger)
+                  (sym (ap (λ unread. (read ++ reply ∷ []) ++ unread) is.unread ∙ append-nil (read ++ reply ∷ []))) done.taken;
+              queued = done.queued;
+              unstopped = done.unstopped;
+              goes = done.goes;
+            };
+        held = is.empty;
+      }
+
+-- ---- why an entry isn't restored
+
+-- of an idle engine
+pub packet_fault_is : (engine : EngineState) (entry : PlacedPacket) (refused : Option Refusal) (is_next : Bool) → is_idle engine ≡ true
+    → submit_refusal engine entry.submitter entry.packet ≡ refused
+    → ((entry.place == engine.ledger.places) && (entry.number == get_or engine.numbers entry.submitter 0)) ≡ is_next
+    → packet_fault engine entry ≡ fault_of refused is_next
+packet_fault_is engine entry refused is_next idle refusal next = rw (idle, refusal, next) refl
+
+no_fault : (idle : Bool) (refused : Option Refusal) (is_next : Bool)
+    → (if not idle then Some InUse else fault_of refused is_next) ≡ None → is_next ≡ true
+no_fault true None true none = refl
+no_fault true None false none = cc
+no_fault true (Some refusal) is_next none = cc
+no_fault false refused is_next none = cc
+
+-- without a fault it has its submitter's next number
+pub has_next_number : (engine : EngineState) (entry : PlacedPacket) → packet_fault engine entry ≡ None
+    → get_or engine.numbers entry.submitter 0 ≡ entry.number
+has_next_number engine entry none =
+    let is_next = no_fault (is_idle engine) (submit_refusal engine entry.submitter entry.packet) _ none in
+    grind (arith, nat_tests, is_next)
+
+pub open_if_not_refused : (engine : EngineState) (moment : ℕ) → pulse_refusal engine moment ≡ None → engine.shut ≡ false
+open_if_not_refused engine moment none = by (nat_lt moment_max moment) engine.shut (has_stopped engine) none
+  where
+    by : (late shut stopped : Bool) → (if late then Some MomentTooLarge else if shut then Some Shutdown
+        else if stopped then Some Stopped else None) ≡ None → shut ≡ false
+    by true shut stopped none = cc
+    by false true stopped none = cc
+    by false false stopped none = refl
+
+-- ---- a pulse
+
+pub pulse_restores : (old : EngineState) (moment : ℕ) (new : EngineState) → is_idle old ≡ true
+    → Queues old (ticket_of old.front.submitters (item.Pulse moment)) new
+    → RestoresTicket old (ticket_of old.front.submitters (item.Pulse moment)) [] new
+pulse_restores old moment new idle queues =
+    let is = idle_is old idle in
+    record {
+      adds = λ start queue read serves. subst (λ read. Serves start (queue ++ ticket_of old.front.submitters (item.Pulse moment) ∷ []) read new)
+          (sym (append-nil read)) (queues.adds start queue read serves);
+      held = ap (λ (front : FrontState). front.held) queues.steps ∙ sealed (old.front.closed || old.front.stopped) is.empty;
+    }
+  where
+    sealed : (clear : Bool) → old.front.held ≡ [] → (if clear then take_result old.front []
+        else take_result (with_group old.front []) (group_as_batch old.front.held ++ Pulse moment ∷ [])).front.held ≡ []
+    sealed true empty = empty
+    sealed false empty = refl

@@ -1,0 +1,54 @@
+-- What a host restores of the journal that it keeps: packets and pulses, each at its place.
+use Rattle.std.specs.Prelude.{◌≡◌, ◌⊎◌, ◌==◌, ◌&&◌, ◌||◌, ℕ, ◌+◌, Bool, not, List, [], ◌∷◌, ◌++◌, length, get_or, Option, Some, None, if◌then◌else◌}
+use Rattle.tb_work.specs.claim.Packet.{ReplyValue}
+use Rattle.tb_work.specs.declared.item.Item.TheVariants as item
+use Rattle.tb_work.specs.declared.item.Ticket.{Ticket}
+use Rattle.tb_work.specs.declared.refusal.Refusal.{Refusal}
+use Rattle.tb_work.specs.declared.refusal.Refusal.TheVariants.{NoMemory}
+use Rattle.tb_core.specs.claim.Journal.{LedgerState}
+use Rattle.tb_embed.specs.clauses.Engine.{EngineState, Serves, pulse_refusal, submit_refusal}
+use Rattle.tb_embed.specs.clauses.Queued.{packet_ticket, ticket_of}
+use Rattle.tb_embed.specs.declared.restoring.PlacedPacket.{PlacedPacket}
+use Rattle.tb_embed.specs.declared.restoring.PlacedPulse.{PlacedPulse}
+use Rattle.tb_embed.specs.declared.restoring.RestoreFault.{RestoreFault}
+use Rattle.tb_embed.specs.declared.restoring.RestoreFault.TheVariants.{InUse, NotNext, Refused}
+
+-- whether an engine holds nothing and wasn't shut, so that a packet is committed as it comes
+abbrev pub is_idle : EngineState → Bool
+is_idle engine =
+    ((length engine.front.held == 0) && not (engine.front.closed || engine.front.stopped)) && (length engine.unread == 0)
+
+abbrev pub fault_of : Option Refusal → Bool → Option RestoreFault
+fault_of (Some refusal) is_next = Some (Refused refusal)
+fault_of None is_next = if is_next then None else Some NotNext
+
+-- why a packet isn't restored, if memory is there: it must be the next by its place, and by its number among its submitter's
+abbrev pub packet_fault : EngineState → PlacedPacket → Option RestoreFault
+packet_fault engine entry =
+    if not (is_idle engine) then Some InUse
+    else fault_of (submit_refusal engine entry.submitter entry.packet)
+    ((entry.place == engine.ledger.places) && (entry.number == get_or engine.numbers entry.submitter 0))
+
+-- why a pulse isn't
+abbrev pub pulse_fault : EngineState → PlacedPulse → Option RestoreFault
+pulse_fault engine entry =
+    if not (is_idle engine) then Some InUse
+    else fault_of (pulse_refusal engine entry.moment) (entry.place == engine.ledger.places)
+
+-- the first fault that applies, else that memory ran out
+abbrev pub IsFault : Option RestoreFault → RestoreFault → Type 0
+IsFault first fault = (first ≡ Some fault) ⊎ ((first ≡ None) × (fault ≡ Refused NoMemory))
+
+-- The call added this ticket to what was queued, and nothing is held: it is committed, unless no place is left. Its replies count as read.
+pub record RestoresTicket (old : EngineState) (ticket : Ticket) (replies : List ReplyValue) (new : EngineState) : Type 0 where
+  pub adds : (start : LedgerState) (queue : List Ticket) (read : List ReplyValue) → Serves start queue read old
+      → Serves start (queue ++ ticket ∷ []) (read ++ replies) new
+  pub held : new.front.held ≡ []
+
+-- a packet was restored, and this is its reply
+abbrev pub RestoresPacket : EngineState → PlacedPacket → ReplyValue → EngineState → Type 0
+RestoresPacket old entry reply new = RestoresTicket old (packet_ticket entry.submitter entry.number entry.packet) (reply ∷ []) new
+
+-- a pulse was
+abbrev pub RestoresPulse : EngineState → PlacedPulse → EngineState → Type 0
+RestoresPulse old entry new = RestoresTicket old (ticket_of old.front.submitters (item.Pulse entry.moment)) [] new
