@@ -449,14 +449,14 @@ pub extern "C" fn kip_entry_bytes(
     alloc: Global,
     kip: &mut Kip,
     entry: &mut KipEntry,
-    data: &mut [u8],
+    bytes: &mut [u8],
 ) -> u32
-    ensures { IsHandingOutOf result entry.new data.old data.new kip.old.pointer.engine kip.new.pointer.engine }
+    ensures { IsHandingOutOf result entry.new bytes.old bytes.new kip.old.pointer.engine kip.new.pointer.engine }
 {
     let Some(mut engine) = kip.take(alloc) else {
         return CLOSED;
     };
-    let status = hand_out(&mut engine, entry, data);
+    let status = hand_out(&mut engine, entry, bytes);
     kip.put(engine);
     status
 }
@@ -480,14 +480,14 @@ pub extern "C" fn kip_restore_bytes(
     alloc: Global,
     kip: &mut Kip,
     entry: &KipEntry,
-    data: &[u8],
+    bytes: &[u8],
 ) -> u32
-    ensures { IsRestoringOf result entry.now data.now kip.old.pointer.engine kip.new.pointer.engine }
+    ensures { IsRestoringOf result entry.now bytes.now kip.old.pointer.engine kip.new.pointer.engine }
 {
     let Some(mut engine) = kip.take(alloc) else {
         return CLOSED;
     };
-    let status = restore(alloc, &mut engine, entry, data);
+    let status = restore(alloc, &mut engine, entry, bytes);
     kip.put(engine);
     status
 }

@@ -86,24 +86,24 @@ fn entry_of_packet(reply: &Reply) -> KipEntry
 }
 
 /// Writes the next packet's entry and its data. Nothing is handed out by that.
-fn peek_packet(engine: &RecordedEngine, entry: &mut KipEntry, data: &mut [u8]) -> u32
-    ensures { IsPacketStatus result entry.new data.old data.new engine.now }
+fn peek_packet(engine: &RecordedEngine, entry: &mut KipEntry, bytes: &mut [u8]) -> u32
+    ensures { IsPacketStatus result entry.new bytes.old bytes.new engine.now }
 {
     let Some(reply) = engine.next_packet() else {
         return NO_ENTRY;
     };
     *entry = entry_of_packet(reply);
-    let bytes = reply.packet.bytes.as_slice();
-    if bytes.len() > data.len() {
+    let events = reply.packet.bytes.as_slice();
+    if events.len() > bytes.len() {
         return TOO_SMALL;
     }
-    put_bytes(bytes, data);
+    put_bytes(events, bytes);
     0
 }
 
 /// Hands out what is next, with its data.
-pub(crate) fn hand_out(engine: &mut RecordedEngine, entry: &mut KipEntry, data: &mut [u8]) -> u32
-    ensures { IsHandingOut result entry.new data.old data.new engine.old engine.new }
+pub(crate) fn hand_out(engine: &mut RecordedEngine, entry: &mut KipEntry, bytes: &mut [u8]) -> u32
+    ensures { IsHandingOut result entry.new bytes.old bytes.new engine.old engine.new }
 {
     if !engine.records() {
         return NOT_RECORDED;
@@ -113,7 +113,7 @@ pub(crate) fn hand_out(engine: &mut RecordedEngine, entry: &mut KipEntry, data: 
         engine.hand_pulse();
         return 0;
     }
-    let status = peek_packet(engine, entry, data);
+    let status = peek_packet(engine, entry, bytes);
     if status != 0 {
         return status;
     }
@@ -165,15 +165,15 @@ fn restore_pulse(engine: &mut RecordedEngine, entry: &KipEntry) -> Result<(), Re
 }
 
 /// Returns a packet of a journal, with a copy of the data.
-fn placed_packet(alloc: Global, entry: &KipEntry, data: &[u8]) -> Result<PlacedPacket, AllocError>
-    ensures { IfOk result (λ placed. placed ≡ placed_packet entry.now data.now) }
+fn placed_packet(alloc: Global, entry: &KipEntry, bytes: &[u8]) -> Result<PlacedPacket, AllocError>
+    ensures { IfOk result (λ placed. placed ≡ placed_packet entry.now bytes.now) }
 {
     let operation = u8::try_from(entry.operation).unwrap_or(0);
     Ok(PlacedPacket {
         place: entry.place,
         submitter: entry.submitter,
         number: entry.number,
-        packet: packet_of(alloc, operation, data, 0)?,
+        packet: packet_of(alloc, operation, bytes, 0)?,
     })
 }
 
@@ -182,15 +182,15 @@ fn restore_packet(
     alloc: Global,
     engine: &mut RecordedEngine,
     entry: &KipEntry,
-    data: &[u8],
+    bytes: &[u8],
 ) -> Result<(), RestoreFault>
-    ensures ok { OnOk result ((reply : ReplyValue) × RestoresPacket engine.old.engine (placed_packet entry.now data.now) reply engine.new.engine) }
-    ensures restorable { OnOk result (recorded_packet_fault engine.old (placed_packet entry.now data.now) ≡ None) }
+    ensures ok { OnOk result ((reply : ReplyValue) × RestoresPacket engine.old.engine (placed_packet entry.now bytes.now) reply engine.new.engine) }
+    ensures restorable { OnOk result (recorded_packet_fault engine.old (placed_packet entry.now bytes.now) ≡ None) }
     ensures engine { ChangesEngine engine.old engine.new }
     ensures same { OnErr result (engine.new ≡ engine.old) }
-    ensures fault { IfErr result (λ fault. IsFaultOrMemory (recorded_packet_fault engine.old (placed_packet entry.now data.now)) fault) }
+    ensures fault { IfErr result (λ fault. IsFaultOrMemory (recorded_packet_fault engine.old (placed_packet entry.now bytes.now)) fault) }
 {
-    let Ok(placed) = placed_packet(alloc, entry, data) else {
+    let Ok(placed) = placed_packet(alloc, entry, bytes) else {
         return Err(RestoreFault::Refused(Refusal::NoMemory));
     };
     match engine.restore_packet(alloc, placed) {
@@ -210,17 +210,17 @@ pub(crate) fn restore(
     alloc: Global,
     engine: &mut RecordedEngine,
     entry: &KipEntry,
-    data: &[u8],
+    bytes: &[u8],
 ) -> u32
-    ensures { IsRestoring result entry.now data.now engine.old engine.new }
+    ensures { IsRestoring result entry.now bytes.now engine.old engine.new }
 {
-    if entry.size != data.len() as u64 {
+    if entry.size != bytes.len() as u64 {
         return Refusal::InvalidDataSize.number();
     }
     let restored = if entry.operation == PULSE {
         restore_pulse(engine, entry)
     } else {
-        restore_packet(alloc, engine, entry, data)
+        restore_packet(alloc, engine, entry, bytes)
     };
     match restored {
         Ok(()) => 0,
