@@ -333,11 +333,12 @@ def chains_with_transient_faults():
 
 
 # How many items or events the scripts of modest size have: more than a power of two, so that what grows in larger steps has no capacity.
-MODEST = 2100
+# What grows to sixteen times its size, or adds as much to it, grows to more than 65,000 past 4,096 or 4,624.
+MODEST = 4700
 
 
 def lookups_and_pulses():
-    """2,100 look-ups, each followed by a pulse: each of both has an entry of its own."""
+    """4,700 look-ups, each followed by a pulse: each of both has an entry of its own."""
     script, printed = [], []
     for number in range(MODEST):
         script += ["packet 0 131", "id 0", f"pulse {number}"]
@@ -346,7 +347,7 @@ def lookups_and_pulses():
 
 
 def accounts_and_pending_transfers():
-    """2,100 accounts, and as many pending transfers with a timeout between the first two."""
+    """4,700 accounts, and as many pending transfers with a timeout between the first two."""
     ids = range(1, MODEST + 1)
     script = ["packet 0 129", *map(account, ids), "packet 0 130", *(f"{transfer(number, flags=2)} timeout=9" for number in ids)]
     return script, [
@@ -367,5 +368,5 @@ ALIKE = [
 # What is for `list` alone: scripts with pulses or of several submitters.
 BY_LIST = [sixteen_submitters, resolved_late, many_entries, many_timeouts, seventy_thousand_pulses]
 
-# What takes no allocation of more than 256 bytes for each of its 2,100 items of a kind, or events.
+# What takes no allocation of more than 256 bytes for each of its 4,700 items of a kind, or events.
 IN_SMALL_STEPS = [lookups_and_pulses, accounts_and_pending_transfers]

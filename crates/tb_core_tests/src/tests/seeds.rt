@@ -162,7 +162,9 @@ fn colliding_ids_are_spread(rt: HostRuntime) {
 #[test]
 fn colliding_ids_are_spread_in_an_engine(rt: HostRuntime) {
     let rising = shortest_time(&rt, false, Stored::Accounts);
-    for ids in [Ids::OneLower(3), Ids::OneUpper(3)] {
-        must(&rt, is_spread(&rt, false, Stored::Accounts, ids, rising));
+    for known in [0, 3] {
+        for ids in [Ids::OneLower(known), Ids::OneUpper(known)] {
+            check!(&rt; is_spread(&rt, false, Stored::Accounts, ids, rising), known);
+        }
     }
 }

@@ -109,6 +109,22 @@ fn room_shrinks_after_a_large_batch(rt: HostRuntime) {
     drop(batcher);
 }
 
+/// The first batch has as little room as any: no list of a batch of one event has capacity for more than 64 items, or 1,024 bytes.
+#[test]
+fn room_of_a_small_batch(rt: HostRuntime) {
+    let mut batcher = batcher_of(&rt, 8190);
+    drop(batcher.offer(job_of_zeros(&rt, 130, 1)));
+    let parts = batcher.seal().expect(&rt, "a batch").into_parts();
+    must(&rt, parts.body.capacity() <= 1024);
+    must(
+        &rt,
+        parts.stubs.capacity() <= 64 && parts.jobs.capacity() <= 64,
+    );
+    must(&rt, parts.failures.capacity() <= 64);
+    drop(parts);
+    drop(batcher);
+}
+
 /// Offers a packet that seals the group held, and returns the capacity of that group's body in bytes.
 fn room_of_sealed(
     rt: &(impl Abort + Alloc<A = Global>),

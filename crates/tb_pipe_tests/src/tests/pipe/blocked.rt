@@ -3,7 +3,7 @@
 
 use super::clients::{exchange, open_narrow, receive, submit};
 use super::narrow::stop_after;
-use super::stops::ask_later;
+use super::stops::{LateGate, SLEEP_TURNS, ask_later};
 use super::{Lone, opened, packet_of};
 use std::alloc::Global;
 use std::process::Abort;
@@ -270,6 +270,55 @@ fn drive_and_stop<R: Threads + Wait + Clock + Sync + Abort>(
     });
     drop(pipeline);
     fault
+}
+
+/// Serves drivers that send until another thread gives the run up, with a gate that says no some times after that, so that their ends
+/// find the queue full. Returns whether they were served, and why the drivers' run gives nothing.
+fn serve_and_stop<R: Threads + Wait + Clock + Sync + Abort>(
+    rt: &R,
+    alloc: Global,
+) -> (bool, Option<DriveFault>) {
+    let opened = opened(alloc, 4, 1, 200, 1).expect(rt, "it is opened");
+    let stop = Stop::of(alloc, &opened.submitters).expect(rt, "memory");
+    let gate = LateGate::new(&stop, 1_000);
+    let Opened {
+        pipeline,
+        submitters,
+        control,
+    } = opened;
+    let busy = Busy {
+        then: Then::Submit,
+        has_begun: false,
+    };
+    let mut drivers = Vec::new(alloc);
+    drivers.push(busy).expect(rt, "memory");
+    let tasks = Tasks::of(alloc, submitters, drivers, control, busy)
+        .ok()
+        .expect(rt, "memory");
+    let stop = &stop;
+    thread::scope(
+        thread::scope_env(),
+        rt,
+        |scope| -> (bool, Option<DriveFault>) {
+            let running = tasks
+                .start(scope, rt, alloc, stop)
+                .ok()
+                .expect(rt, "threads can be started");
+            let stopper = scope.spawn(move || ask_later(stop, SLEEP_TURNS)).ok();
+            let is_served = pipeline.serve(rt, &gate).is_ok();
+            stopper.expect(rt, "a thread can be started").join(rt);
+            (is_served, running.join(rt).err())
+        },
+    )
+}
+
+/// The ends of the submitter and of the control wait for a slot, since `serve` waits for both. If no packet was queued by then, the gate
+/// holds nothing up, and the queue isn't full.
+#[test]
+fn drivers_end_while_serve_runs(rt: HostRuntime) {
+    for _ in 0..5 {
+        check!(&rt; serve_and_stop(&rt, rt.alloc()) == (true, Some(DriveFault::NoThread)));
+    }
 }
 
 /// Slots of the queue, each with what the drivers do; one of them at least can't end.

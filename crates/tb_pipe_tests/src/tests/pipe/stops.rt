@@ -15,7 +15,7 @@ use tb_pipe::{Gate, Opened};
 use tb_test_makers::check;
 
 /// How often a thread yields before it gives a run up, while others go to sleep.
-const SLEEP_TURNS: u32 = 10_000;
+pub(super) const SLEEP_TURNS: u32 = 10_000;
 
 /// The most packets that a client queues if nobody gives the run up.
 const MOST_PACKETS: u64 = 100_000;
@@ -57,12 +57,22 @@ fn each_of_one_three_and_sixteen_is_woken(rt: HostRuntime) {
 
 /// Lets no batch through until the run is given up, and then says no some times more. With nothing left it lets all through.
 #[derive(Drop)]
-struct Late<'s> {
+pub(super) struct LateGate<'s> {
     stop: &'s Stop,
     left: AtomicU64,
 }
 
-impl<'s> Gate for Late<'s> {
+impl<'s> LateGate<'s> {
+    /// Returns a gate that says no this often once the run is given up.
+    pub(super) fn new(stop: &'s Stop, refusals: u64) -> LateGate<'s> {
+        LateGate {
+            stop,
+            left: AtomicU64::new(refusals),
+        }
+    }
+}
+
+impl<'s> Gate for LateGate<'s> {
     fn sealed(&self, _batch: u64) {}
 
     fn may_commit(&self, _batch: u64) -> bool {
@@ -105,10 +115,7 @@ fn serve_and_stop<R: Threads + Wait + Clock + Sync + Abort>(
         pulses: None,
         stops_after: Some(turns),
     };
-    let gate = Late {
-        stop: &stop,
-        left: AtomicU64::new(refusals),
-    };
+    let gate = LateGate::new(&stop, refusals);
     serve_clients(rt, alloc, opened, &stop, trading, &gate)
 }
 
