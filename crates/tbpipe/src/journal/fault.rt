@@ -63,7 +63,7 @@ impl fmt::Display for JournalFault {
                 "the file has no ledger; if its log, whose name ends in -wal, was moved away, put it back",
             ),
             JournalFault::Open(CANNOT_OPEN) => f.write_str(
-                "the file isn't opened: it must be a plain file with one name, in a folder that is there, and you must be allowed to write both",
+                "the file isn't opened: it must be a plain file with one name, in a folder that is there, and you must be allowed to write both; if a file with its name and -journal is there too, a program was ended as it wrote: let sqlite3 read the file once",
             ),
             JournalFault::Open(fault) => write!(f, "the file isn't opened: {fault}"),
             JournalFault::OtherSettings(kept) => {
