@@ -325,6 +325,7 @@ impl BareLedger {
     /// Commits a packet as `try_apply` does a batch of it alone, and returns its reply. It reads the packet's own data, which isn't copied,
     /// and takes memory for the facts, and for the packet's failures if it has more events than any before. If an allocation fails, the
     /// packet comes back, and nothing has changed; what must be stopped anyway never comes back.
+    #[inline(always)]
     pub fn try_alone(&mut self, job: Job) -> Result<Reply, Job>
         ensures ok { IfOk result (λ reply. (reply ≡ reply_alone self.old job) × (self.new ≡ after_alone self.old job)) }
         ensures sent { IfOk result (λ reply.

@@ -1,6 +1,6 @@
 -- What follows of what an engine over any ledger was handed.
 use Rattle.std.proofs.Common.{◌≡◌, ◌≤◌, ◌<◌, ◌+◌, refl, sym, ap, ◌∙◌, subst, arith, ℕ, Bool, false, if◌then◌else◌, List, [], ◌∷◌, ◌++◌, length, map, append-nil, get_or, replicate}
-use Rattle.tb_embed.proofs.Words.{senders_max, submitters_max, slice_set, map-append, items_in, ReplyValue, is_end, IsSubmitted, Item, Ticket, Packet, Applying, IsApplied, Parcel, FrontState, IsFront, all_decisions_in, decisions_in, held_by, take_step, with_group, AreJoined, AreJoinedParcels, Decision, Admitted, AreDecisions, LedgerState, groups_since, Commits, EachPartIsLawful, RunIsLawful, replies_in, has_taken, Steps, ended_run, AnyEngineState, AnyServingIsLawful, ContinuesBy, HasSentBy, HasTakenBy, IsOpenedBy, QueuesBy, AreQueued, packets_in, packet_ticket, ticket_of}
+use Rattle.tb_embed.proofs.Words.{senders_max, submitters_max, slice_set, map-append, items_in, ReplyValue, is_end, IsSubmitted, Item, Ticket, Packet, Applying, IsApplied, Parcel, FrontState, IsFront, all_decisions_in, decisions_in, held_by, take_step, AreJoined, AreJoinedParcels, Decision, Admitted, AreDecisions, LedgerState, groups_since, Commits, EachPartIsLawful, RunIsLawful, replies_in, has_taken, Steps, ended_run, AnyEngineState, AnyServingIsLawful, HasSentBy, HasTakenBy, IsOpenedBy, QueuesBy, AreQueued, packets_in, packet_ticket, ticket_of}
 use Rattle.tb_core.specs.declared.outcomes.Outcomes.{Outcomes}
 use Rattle.tb_embed.proofs.Queued.{IsNext, control_queued, packet_queued_as, passes_ended, queue_ended}
 use Rattle.tb_embed.proofs.Opened.{none_queued}

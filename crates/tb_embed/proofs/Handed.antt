@@ -1,9 +1,9 @@
 -- What a host that keeps the journal is handed, and what it may read.
-use Rattle.std.proofs.Common.{◌≡◌, refl, sym, ap, ◌∙◌, subst, ℕ, Bool, true, false, if◌then◌else◌, List, [], ◌∷◌, ◌++◌, slice_get, drop, length, arith, append-nil, append_assoc, option_to_list, IfSome, Bor, Option, Some, None}
+use Rattle.std.proofs.Common.{◌≡◌, refl, sym, ap, ◌∙◌, subst, Bool, true, false, if◌then◌else◌, List, [], ◌∷◌, ◌++◌, slice_get, drop, length, arith, append-nil, append_assoc, option_to_list, IfSome, Bor, Option, Some, None}
 use Rattle.std.specs.Option.{is_some, option_copied}
 use Rattle.tb_embed.specs.clauses.Engine.{Reads}
-use Rattle.tb_embed.specs.clauses.Recorded.{HandsPacket, ReadsRecorded, RecordedState, first_stored, if_committed, if_uncommitted, is_committed, next_packet, readable}
-use Rattle.tb_embed.proofs.Words.{EngineState, LedgerState, ReplyValue, Serves, Ticket}
+use Rattle.tb_embed.specs.clauses.Recorded.{HandsPacket, ReadsRecorded, RecordedState, if_committed, is_committed, next_packet, readable}
+use Rattle.tb_embed.proofs.Words.{EngineState, ReplyValue, Serves}
 
 injective : {X : Type 0} {x y : X} → Some x ≡ Some y → x ≡ y
 injective {X} {x} {y} same = ap (λ found. value found) same
@@ -72,6 +72,15 @@ module _ (old : RecordedState) (engine : EngineState) (handed : List ReplyValue)
       → IfSome result (λ reply. ReadsRecorded old reply (record old { engine = engine; handed = handed }))
   reads_found None none still unread some reads = tt
   reads_found (Some reply) none still unread some reads = reads_engine reply none still unread some reads
+
+module _ (old : RecordedState) (engine : EngineState) (handed : List ReplyValue) where
+  -- of a host that keeps no journal the engine's next reply is read
+  pub reads_unrecorded : (result : Option ReplyValue) → old.records ≡ false → old.handed ≡ [] → handed ≡ []
+      → old.engine.unread ≡ option_to_list result ++ engine.unread → IfSome result (λ reply. Reads old.engine reply engine)
+      → IfSome result (λ reply. ReadsRecorded old reply (record old { engine = engine; handed = handed }))
+  reads_unrecorded None plain none still unread reads = tt
+  reads_unrecorded (Some reply) plain none still unread reads =
+      reads_engine old engine handed reply none still unread (rw (plain, unread) refl) reads
 
 pub is_there : (found : Option (Bor ReplyValue)) (copied : Option ReplyValue) → is_some found ≡ true → option_copied found ≡ copied
     → is_some copied ≡ true

@@ -1,6 +1,6 @@
 -- A packet that is committed by itself while nothing is held.
 use Rattle.std.proofs.Common.{◌≡◌, if◌then◌else◌, nat_lt, None, Some, Option, refl, sym, ap, ◌∙◌, subst, arith, ℕ, ◌+◌, ◌<◌, ◌≤◌, Bool, true, false, ◌&&◌, ◌||◌, List, [], ◌∷◌, ◌++◌, length, get_or, append-nil}
-use Rattle.tb_embed.proofs.Words.{◌==◌, not, nat_tests, slice_set, places_max, Numbered, Item, Ticket, Packet, ReplyValue, FrontState, IsFront, group_as_batch, take_result, take_step, with_group, Pulse, Decision, Admitted, BareLedgerState, HasSent, halts, LedgerState, EngineState, Continues, HasTaken, Queues, Serves, packet_ticket, ticket_of, places_in, items_in}
+use Rattle.tb_embed.proofs.Words.{◌==◌, not, nat_tests, slice_set, places_max, Numbered, Ticket, Packet, ReplyValue, FrontState, IsFront, group_as_batch, take_result, take_step, with_group, Pulse, Decision, Admitted, BareLedgerState, HasSent, halts, LedgerState, EngineState, Continues, HasTaken, Queues, Serves, packet_ticket, ticket_of, places_in, items_in}
 use Rattle.tb_batch.specs.claim.Grouping.{is_taken}
 use Rattle.tb_core.specs.claim.Front.{step_of_packet}
 use Rattle.tb_work.specs.claim.Job.{numbered_packet}

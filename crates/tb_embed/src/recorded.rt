@@ -290,6 +290,9 @@ impl RecordedEngine {
         ensures some { IfSome result (λ reply. ReadsRecorded self.old reply self.new) }
         ensures none { IfNone result ((readable self.old ≡ None) × (self.new ≡ self.old)) }
     {
+        if !self.records {
+            return self.engine.reply();
+        }
         if self.next_reply().is_none() {
             return None;
         }

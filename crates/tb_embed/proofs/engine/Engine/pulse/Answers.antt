@@ -1,6 +1,6 @@
 use Rattle.std.proofs.Common.{refl, sym, subst, ◌∙◌}
 use Rattle.tb_work.specs.declared.item.Item.TheVariants as item
-use Rattle.tb_embed.proofs.Words.{EngineState, Queues, ticket_of}
+use Rattle.tb_embed.proofs.Words.{Queues, ticket_of}
 use Rattle.tb_embed.proofs.EngineRun.{Took, control_serves}
 use Rattle.tb_embed.proofs.Restored.{open_if_not_refused}
 use Rattle.tb_embed.proofs.engine.Engine.pulse.Goals as goal
