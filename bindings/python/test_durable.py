@@ -1,5 +1,6 @@
 """Tests of kip.durable: python3 -m unittest test_durable. KIP_SO may name the library."""
 import contextlib
+import ctypes
 import os
 import pathlib
 import resource
@@ -108,6 +109,36 @@ class Recording(unittest.TestCase):
             self.assertEqual((other.accounts(), other.clock(), other.places()), (ledger.accounts(), ledger.clock(), 5))
             self.assertEqual((other._entry(), other.reply(), other.submit(CREATE_ACCOUNTS, b"", 1)), (None, None, 2))
             self.refused("in_use", other._restore_entry, entry._replace(place=5))
+
+    def test_seventy_thousand_packets_and_pulses_wait_and_are_restored(self):
+        """None is given up, however many weren't handed out, stored or read before it."""
+        count, latest = 70_000, 2**62
+        with Recorded() as ledger, Recorded() as other:
+            for number in range(count):
+                ledger.submit(CREATE_ACCOUNTS, b"")
+                ledger.pulse(number if number < count - 1 else latest)
+            entries = self.entries(ledger)
+            self.assertEqual([it.place for it in entries], list(range(2 * count)))
+            self.assertEqual((ledger.submit(CREATE_ACCOUNTS, b""), ledger.pulse(0), ledger.shut(), ledger.reply()), (count, None, None, None))
+            entries += self.entries(ledger)
+            ledger._durable(2 * count + 2)
+            for number in range(count + 1):
+                self.assertEqual(ledger.reply().number, number)
+            for entry in entries:
+                other._restore_entry(entry)
+            self.assertEqual((other.places(), other.clock(), ledger.clock()), (2 * count + 2, latest, latest))
+
+    def test_what_is_refused_writes_nothing(self):
+        with Recorded() as ledger, Ledger() as plain, Recorded() as closed:
+            closed.close()
+            for it, status in (ledger, 107), (plain, 110), (closed, 100):
+                head, buffer = ctypes.create_string_buffer(bytes([7]) * 40, 40), ctypes.create_string_buffer(bytes([7]) * 128, 128)
+                self.assertEqual(it._library.kip_entry_bytes(it._at, head, buffer, 128), status)
+                self.assertEqual((head.raw, buffer.raw), (bytes([7]) * 40, bytes([7]) * 128))
+            ledger.submit(CREATE_ACCOUNTS, EVENT)
+            ledger.flush()
+            head, buffer = ctypes.create_string_buffer(40), ctypes.create_string_buffer(1 << 24)
+            self.assertEqual((ledger._library.kip_entry_bytes(ledger._at, head, buffer, 1 << 24), buffer.raw[:128]), (0, EVENT))
 
     def test_what_is_not_committed_waits_for_nothing(self):
         with Recorded() as ledger:
