@@ -12,6 +12,7 @@ import subprocess
 import sys
 import tempfile
 import threading
+import time
 import unittest
 import unittest.mock
 
@@ -127,6 +128,18 @@ class Recording(unittest.TestCase):
             for entry in entries:
                 other._restore_entry(entry)
             self.assertEqual((other.places(), other.clock(), ledger.clock()), (2 * count + 2, latest, latest))
+
+    def test_a_seed_is_used(self):
+        """Ids with one upper half have one hash without a seed: a ledger with another takes a small part of the time."""
+        crafted = b"".join(struct.pack("<QQ96sIHHQ", it, 0x9e3779b97f4a7c15, bytes(96), 1, 1, 0, 0) for it in range(4000))
+
+        def seconds(ledger):
+            with ledger:
+                begun = time.process_time()
+                ledger.submit(CREATE_ACCOUNTS, crafted)
+                ledger.flush()
+                return time.process_time() - begun
+        self.assertLess(4 * min(seconds(Recorded(seed=(3, 5))) for _ in range(3)), seconds(Ledger()))
 
     def test_what_is_refused_writes_nothing(self):
         with Recorded() as ledger, Ledger() as plain, Recorded() as closed:
