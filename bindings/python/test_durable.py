@@ -343,6 +343,56 @@ class Failing(InFolder):
             self.assertIn(client.counts().accounts, (made, made + 1))
             self.assertEqual(len(client.create_accounts([Account(id=2000, ledger=1, code=1)])), 0)
 
+    def is_lost(self, client, error):
+        """Has a flush fail after it took a packet, and asserts that no later call is told that the packet is stored."""
+        number = client.submit(CREATE_ACCOUNTS, event(2))
+        with self.assertRaises(error):
+            client.flush()
+        for call in client.flush, lambda: client.reply(number), client.close:
+            with self.assertRaises(Exception):
+                call()
+
+    def test_a_look_that_fails_closes_the_client(self):
+        client = DurableClient(self.path)
+        client.create_accounts([Account(id=1, ledger=1, code=1)])
+        client._look = unittest.mock.Mock(side_effect=[OSError("no disk"), OSError("no disk"), *[client._look()] * 9])
+        self.is_lost(client, OSError)
+
+    def test_memory_that_stays_out_closes_the_client(self):
+        client = DurableClient(self.path)
+        client._entry = unittest.mock.Mock(side_effect=[client._refusal(NO_MEMORY), None, None])
+        client._look = unittest.mock.Mock(side_effect=[MemoryError, *[client._look()] * 9])
+        self.is_lost(client, MemoryError)
+
+    def raise_in_store(self, client, *handlers):
+        """Has these handlers called at once, as rows are inserted."""
+        signals = signal.SIGUSR1, signal.SIGUSR2
+        for number, handler in zip(signals, handlers):
+            self.addCleanup(signal.signal, number, signal.signal(number, handler))
+
+        class Signalled(FailingStore):
+            def executemany(self, text, rows):
+                self.database.executemany(text, rows)
+                signal.pthread_sigmask(signal.SIG_BLOCK, signals)
+                for number in signals[:len(handlers)]:
+                    os.kill(os.getpid(), number)
+                signal.pthread_sigmask(signal.SIG_UNBLOCK, signals)
+
+        client._database = Signalled(client._database, "no statement")
+
+    def test_two_handlers_that_raise_close_the_client(self):
+        def interrupt(*_):
+            raise KeyboardInterrupt
+
+        client = DurableClient(self.path)
+        self.raise_in_store(client, interrupt, interrupt)
+        self.is_lost(client, KeyboardInterrupt)
+
+    def test_a_handler_that_raises_a_refusal_closes_the_client(self):
+        client = DurableClient(self.path)
+        self.raise_in_store(client, lambda *_: client.reserve(2**60))
+        self.is_lost(client, KipError)
+
     def test_wrong_settings_make_no_file(self):
         for settings, error in ({"limit": 0}, KipError), ({"submitters": 17}, KipError), ({"clock": 2**63}, KipError), ({"clock": -1}, OverflowError):
             with self.assertRaises(error):
