@@ -1,5 +1,6 @@
 """Tests of kip.durable: python3 -m unittest test_durable. KIP_SO may name the library."""
 import contextlib
+import ctypes
 import os
 import pathlib
 import resource
@@ -11,6 +12,7 @@ import subprocess
 import sys
 import tempfile
 import threading
+import time
 import unittest
 import unittest.mock
 
@@ -108,6 +110,48 @@ class Recording(unittest.TestCase):
             self.assertEqual((other.accounts(), other.clock(), other.places()), (ledger.accounts(), ledger.clock(), 5))
             self.assertEqual((other._entry(), other.reply(), other.submit(CREATE_ACCOUNTS, b"", 1)), (None, None, 2))
             self.refused("in_use", other._restore_entry, entry._replace(place=5))
+
+    def test_seventy_thousand_packets_and_pulses_wait_and_are_restored(self):
+        """None is given up, however many weren't handed out, stored or read before it."""
+        count, latest = 70_000, 2**62
+        with Recorded() as ledger, Recorded() as other:
+            for number in range(count):
+                ledger.submit(CREATE_ACCOUNTS, b"")
+                ledger.pulse(number if number < count - 1 else latest)
+            entries = self.entries(ledger)
+            self.assertEqual([it.place for it in entries], list(range(2 * count)))
+            self.assertEqual((ledger.submit(CREATE_ACCOUNTS, b""), ledger.pulse(0), ledger.shut(), ledger.reply()), (count, None, None, None))
+            entries += self.entries(ledger)
+            ledger._durable(2 * count + 2)
+            for number in range(count + 1):
+                self.assertEqual(ledger.reply().number, number)
+            for entry in entries:
+                other._restore_entry(entry)
+            self.assertEqual((other.places(), other.clock(), ledger.clock()), (2 * count + 2, latest, latest))
+
+    def test_a_seed_is_used(self):
+        """Ids with one upper half have one hash without a seed: a ledger with another takes a small part of the time."""
+        crafted = b"".join(struct.pack("<QQ96sIHHQ", it, 0x9e3779b97f4a7c15, bytes(96), 1, 1, 0, 0) for it in range(4000))
+
+        def seconds(ledger):
+            with ledger:
+                begun = time.process_time()
+                ledger.submit(CREATE_ACCOUNTS, crafted)
+                ledger.flush()
+                return time.process_time() - begun
+        self.assertLess(4 * min(seconds(Recorded(seed=(3, 5))) for _ in range(3)), seconds(Ledger()))
+
+    def test_what_is_refused_writes_nothing(self):
+        with Recorded() as ledger, Ledger() as plain, Recorded() as closed:
+            closed.close()
+            for it, status in (ledger, 107), (plain, 110), (closed, 100):
+                head, buffer = ctypes.create_string_buffer(bytes([7]) * 40, 40), ctypes.create_string_buffer(bytes([7]) * 128, 128)
+                self.assertEqual(it._library.kip_entry_bytes(it._at, head, buffer, 128), status)
+                self.assertEqual((head.raw, buffer.raw), (bytes([7]) * 40, bytes([7]) * 128))
+            ledger.submit(CREATE_ACCOUNTS, EVENT)
+            ledger.flush()
+            head, buffer = ctypes.create_string_buffer(40), ctypes.create_string_buffer(1 << 24)
+            self.assertEqual((ledger._library.kip_entry_bytes(ledger._at, head, buffer, 1 << 24), buffer.raw[:128]), (0, EVENT))
 
     def test_what_is_not_committed_waits_for_nothing(self):
         with Recorded() as ledger:
@@ -298,6 +342,56 @@ class Failing(InFolder):
         with DurableClient(self.path) as client:
             self.assertIn(client.counts().accounts, (made, made + 1))
             self.assertEqual(len(client.create_accounts([Account(id=2000, ledger=1, code=1)])), 0)
+
+    def is_lost(self, client, error):
+        """Has a flush fail after it took a packet, and asserts that no later call is told that the packet is stored."""
+        number = client.submit(CREATE_ACCOUNTS, event(2))
+        with self.assertRaises(error):
+            client.flush()
+        for call in client.flush, lambda: client.reply(number), client.close:
+            with self.assertRaises(Exception):
+                call()
+
+    def test_a_look_that_fails_closes_the_client(self):
+        client = DurableClient(self.path)
+        client.create_accounts([Account(id=1, ledger=1, code=1)])
+        client._look = unittest.mock.Mock(side_effect=[OSError("no disk"), OSError("no disk"), *[client._look()] * 9])
+        self.is_lost(client, OSError)
+
+    def test_memory_that_stays_out_closes_the_client(self):
+        client = DurableClient(self.path)
+        client._entry = unittest.mock.Mock(side_effect=[client._refusal(NO_MEMORY), None, None])
+        client._look = unittest.mock.Mock(side_effect=[MemoryError, *[client._look()] * 9])
+        self.is_lost(client, MemoryError)
+
+    def raise_in_store(self, client, *handlers):
+        """Has these handlers called at once, as rows are inserted."""
+        signals = signal.SIGUSR1, signal.SIGUSR2
+        for number, handler in zip(signals, handlers):
+            self.addCleanup(signal.signal, number, signal.signal(number, handler))
+
+        class Signalled(FailingStore):
+            def executemany(self, text, rows):
+                self.database.executemany(text, rows)
+                signal.pthread_sigmask(signal.SIG_BLOCK, signals)
+                for number in signals[:len(handlers)]:
+                    os.kill(os.getpid(), number)
+                signal.pthread_sigmask(signal.SIG_UNBLOCK, signals)
+
+        client._database = Signalled(client._database, "no statement")
+
+    def test_two_handlers_that_raise_close_the_client(self):
+        def interrupt(*_):
+            raise KeyboardInterrupt
+
+        client = DurableClient(self.path)
+        self.raise_in_store(client, interrupt, interrupt)
+        self.is_lost(client, KeyboardInterrupt)
+
+    def test_a_handler_that_raises_a_refusal_closes_the_client(self):
+        client = DurableClient(self.path)
+        self.raise_in_store(client, lambda *_: client.reserve(2**60))
+        self.is_lost(client, KipError)
 
     def test_wrong_settings_make_no_file(self):
         for settings, error in ({"limit": 0}, KipError), ({"submitters": 17}, KipError), ({"clock": 2**63}, KipError), ({"clock": -1}, OverflowError):

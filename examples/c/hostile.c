@@ -124,13 +124,16 @@ static void entries(void) {
     /* While a packet waits, or its reply does, nothing is restored. */
     assert(kip_submit(&kip, 0, 129, bytes, 128, 5, &number) == KIP_OK && number == 1);
     const kip_entry_t next = {.operation = KIP_ENTRY_PULSE, .moment = 60, .place = 2};
+    const kip_entry_t later = {.operation = 129, .size = 128, .place = 2, .number = 2};
     assert(kip_restore(&kip, &next, NULL, 0) == KIP_IN_USE && kip_entry(&kip, &entry, data, 128) == KIP_NO_ENTRY);
+    assert(restored(&kip, later) == KIP_IN_USE);
     assert(kip_durable(&kip, 3) == KIP_NOT_COMMITTED && kip_flush(&kip) == KIP_OK && kip_restore(&kip, &next, NULL, 0) == KIP_IN_USE);
     assert(kip_entry(&kip, &entry, data, 127) == KIP_TOO_SMALL && entry.size == 128 && data[0] == 0);
     assert(kip_entry(&kip, &entry, NULL, 0) == KIP_TOO_SMALL && entry.size == 128);
     assert(kip_entry(&kip, &entry, data, 128) == KIP_OK && entry.place == 2 && entry.number == 1 && entry.operation == 129);
     assert(entry.submitter == 0 && entry.moment == 0 && memcmp(data, bytes, 128) == 0);
     assert(kip_entry(&kip, &entry, data, 128) == KIP_NO_ENTRY && kip_restore(&kip, &next, NULL, 0) == KIP_IN_USE);
+    assert(restored(&kip, later) == KIP_IN_USE);
     /* Its reply isn't given before its place is durable, which a lower number doesn't undo. */
     assert(kip_durable(&kip, 2) == KIP_OK && kip_reply(&kip, &reply, data, 128) == KIP_NO_REPLY && reply.outcome == KIP_OUTCOME_UNREAD);
     assert(kip_durable(&kip, 4) == KIP_NOT_COMMITTED && kip_reply(&kip, &reply, data, 128) == KIP_NO_REPLY);
