@@ -112,7 +112,7 @@ typedef enum KIP_STATUS {
     KIP_NOT_NEXT = 108,     /* an entry isn't at the next place, or its number isn't its submitter's next */
     KIP_IN_USE = 109,       /* packets wait, replies are unread, entries aren't handed out, or kip_shut was called */
     KIP_NOT_RECORDED = 110, /* the handle wasn't opened by kip_open_recorded */
-    KIP_NOT_COMMITTED = 111, /* there aren't as many places */
+    KIP_NOT_HANDED_OUT = 111, /* an entry below the place is still to be handed out */
 } KIP_STATUS;
 
 typedef enum KIP_OUTCOME {
@@ -299,7 +299,7 @@ uint32_t kip_entry_bytes(kip_t *kip, kip_entry_t *entry, void *data, size_t data
 
 /* Notes that all entries at places below a number are stored, so that a crash can't lose them: then their replies can be read. The number
  * is kip_places once all entries were handed out and stored. A lower number than before changes nothing. Nothing checks that the host
- * has stored them. Statuses: KIP_CLOSED, KIP_NOT_RECORDED, KIP_NOT_COMMITTED. */
+ * has stored them. Statuses: KIP_CLOSED, KIP_NOT_RECORDED, KIP_NOT_HANDED_OUT. */
 KIP_CHECKED
 uint32_t kip_durable(kip_t *kip, uint64_t places);
 
@@ -595,7 +595,7 @@ static inline const char *kip_status_name(uint32_t status) {
         case KIP_NOT_NEXT: return "not_next";
         case KIP_IN_USE: return "in_use";
         case KIP_NOT_RECORDED: return "not_recorded";
-        case KIP_NOT_COMMITTED: return "not_committed";
+        case KIP_NOT_HANDED_OUT: return "not_handed_out";
         default: return "unknown";
     }
 }

@@ -81,7 +81,7 @@ class Recording(unittest.TestCase):
                 ledger.flush()
                 self.assertEqual((ledger.places(), ledger.reply()), (2, None))
                 self.assertEqual((self.entries(ledger)[1][:5], ledger.reply(1)), ((1, 129, 0, 0, 1), None))
-                self.refused("not_committed", ledger._durable, 3)
+                self.refused("not_handed_out", ledger._durable, 3)
                 self.assertIsNone(ledger.reply())
                 ledger._durable(1)
                 self.assertEqual((ledger.reply(1), ledger.reply(0).place), (None, 0))

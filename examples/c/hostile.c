@@ -113,8 +113,8 @@ static void entries(void) {
     assert(kip_durable(&kip, 0) == KIP_NOT_RECORDED && kip_durable(&kip, 1) == KIP_NOT_RECORDED && kip_close(&kip) == KIP_OK);
     assert(kip_open_recorded(&kip, 0, 1, 2, 3, 5) == KIP_OK && kip_entry(&kip, &entry, NULL, 0) == KIP_NO_ENTRY);
     assert(kip_entry(&kip, &entry, NULL, 8) == KIP_NULL_POINTER && entry.place == KIP_PLACES_NONE);
-    assert(kip_durable(&kip, 0) == KIP_OK && kip_durable(&kip, 1) == KIP_NOT_COMMITTED);
-    assert(kip_durable(&kip, UINT64_MAX) == KIP_NOT_COMMITTED);
+    assert(kip_durable(&kip, 0) == KIP_OK && kip_durable(&kip, 1) == KIP_NOT_HANDED_OUT);
+    assert(kip_durable(&kip, UINT64_MAX) == KIP_NOT_HANDED_OUT);
     wrong_entries(&kip);
     assert(kip_places(&kip, &places) == KIP_OK && places == 0 && kip_clock(&kip, &number) == KIP_OK && number == 0);
     /* None of these used a place or a number. What is restored isn't handed out, and has no reply. */
@@ -127,7 +127,7 @@ static void entries(void) {
     const kip_entry_t later = {.operation = 129, .size = 128, .place = 2, .number = 2};
     assert(kip_restore(&kip, &next, NULL, 0) == KIP_IN_USE && kip_entry(&kip, &entry, data, 128) == KIP_NO_ENTRY);
     assert(restored(&kip, later) == KIP_IN_USE);
-    assert(kip_durable(&kip, 3) == KIP_NOT_COMMITTED && kip_flush(&kip) == KIP_OK && kip_restore(&kip, &next, NULL, 0) == KIP_IN_USE);
+    assert(kip_durable(&kip, 3) == KIP_NOT_HANDED_OUT && kip_flush(&kip) == KIP_OK && kip_restore(&kip, &next, NULL, 0) == KIP_IN_USE);
     assert(kip_entry(&kip, &entry, data, 127) == KIP_TOO_SMALL && entry.size == 128 && data[0] == 0);
     assert(kip_entry(&kip, &entry, NULL, 0) == KIP_TOO_SMALL && entry.size == 128);
     assert(kip_entry(&kip, &entry, data, 128) == KIP_OK && entry.place == 2 && entry.number == 1 && entry.operation == 129);
@@ -136,7 +136,7 @@ static void entries(void) {
     assert(restored(&kip, later) == KIP_IN_USE);
     /* Its reply isn't given before its place is durable, which a lower number doesn't undo. */
     assert(kip_durable(&kip, 2) == KIP_OK && kip_reply(&kip, &reply, data, 128) == KIP_NO_REPLY && reply.outcome == KIP_OUTCOME_UNREAD);
-    assert(kip_durable(&kip, 4) == KIP_NOT_COMMITTED && kip_reply(&kip, &reply, data, 128) == KIP_NO_REPLY);
+    assert(kip_durable(&kip, 4) == KIP_NOT_HANDED_OUT && kip_reply(&kip, &reply, data, 128) == KIP_NO_REPLY);
     assert(kip_durable(&kip, 3) == KIP_OK && kip_durable(&kip, 0) == KIP_OK && kip_reply(&kip, &reply, data, 128) == KIP_OK);
     assert(reply.place == 2 && reply.user_data == 5 && kip_committed(&reply) && kip_reply(&kip, &reply, data, 128) == KIP_NO_REPLY);
     /* A pulse is in order. What isn't committed waits for nothing. */
@@ -228,7 +228,7 @@ static void after_the_close(kip_t *kip) {
 int main(void) {
     kip_t kip = {0};
     assert(kip_version() == KIP_VERSION);
-    assert(strcmp(kip_status_name(KIP_NO_ENTRY), "no_entry") == 0 && strcmp(kip_status_name(KIP_NOT_COMMITTED), "not_committed") == 0);
+    assert(strcmp(kip_status_name(KIP_NO_ENTRY), "no_entry") == 0 && strcmp(kip_status_name(KIP_NOT_HANDED_OUT), "not_handed_out") == 0);
     assert(strcmp(kip_status_name(KIP_SHUTDOWN), "shutdown") == 0 && strcmp(kip_status_name(4), "unknown") == 0);
     assert(strcmp(kip_transfer_result_name(22), "credit_account_not_found") == 0);
     assert(strcmp(kip_transfer_result_name(18), "unknown") == 0 && strcmp(kip_account_result_name(201), "clock_exhausted") == 0);

@@ -29,6 +29,7 @@ static kip_t kip;
 static sqlite3 *file;
 static sqlite3_stmt *insert;
 static uint64_t first_numbers[KIP_SUBMITTERS_MAX]; /* of each submitter's packets in this run: as many are in the file */
+static uint64_t following[KIP_SUBMITTERS_MAX];     /* of each submitter the number in a row that would be the next of its run */
 
 static void must(int holds, const char *what) {
     if (!holds) {
@@ -96,13 +97,21 @@ static void open_file(const char *path) {
 
 static int event_size(uint32_t operation) { return operation == KIP_OPERATION_LOOKUP_ACCOUNTS ? 16 : 128; }
 
+/* Returns whether a packet can be ahead of another in a batch: look-ups never are, nor is an open chain. */
+static int may_share(uint32_t operation, const char *data, uint64_t size) {
+    kip_transfer last = {0}; /* (an account has its flags at the same bytes, and its first is `linked` too) */
+    if (size > 0 && operation != KIP_OPERATION_LOOKUP_ACCOUNTS) memcpy(&last, data + size - sizeof last, sizeof last);
+    return operation != KIP_OPERATION_LOOKUP_ACCOUNTS && !(last.flags & KIP_TRANSFER_LINKED);
+}
+
 /* Commits a row again: a pulse, or the packets of a batch. */
 static void restore(sqlite3_stmt *row) {
-    kip_entry_t entry = {
-        .place = sqlite3_column_int64(row, 0), .operation = sqlite3_column_int(row, 1), .moment = sqlite3_column_int64(row, 2)};
+    sqlite3_int64 operation = sqlite3_column_int64(row, 1), moment = sqlite3_column_int64(row, 2);
+    kip_entry_t entry = {.place = sqlite3_column_int64(row, 0), .operation = operation & UINT8_MAX, .moment = moment};
     const stub_t *stubs = sqlite3_column_blob(row, 3);
     const char *body = sqlite3_column_blob(row, 4); /* (null if it is empty) */
     uint64_t count = sqlite3_column_bytes(row, 3) / sizeof *stubs, size = sqlite3_column_bytes(row, 4), at = 0;
+    must(operation == entry.operation && moment >= 0 && sqlite3_column_bytes(row, 3) % sizeof *stubs == 0, "a row is no entry of a journal");
     if (entry.operation == KIP_ENTRY_PULSE) {
         must(kip_restore(&kip, &entry, NULL, 0) == KIP_OK, "a row's pulse isn't next, or is refused");
         return;
@@ -112,6 +121,10 @@ static void restore(sqlite3_stmt *row) {
         must(entry.size <= size - at && stubs[i].submitter < KIP_SUBMITTERS_MAX, "a row's stub doesn't fit");
         entry.submitter = stubs[i].submitter;
         entry.number = first_numbers[entry.submitter]++;
+        must(stubs[i].number == 0 || stubs[i].number == following[entry.submitter], "a row's packet isn't its submitter's next");
+        must(i + 1 == count || (size <= sizeof(kip_transfer) * KIP_BATCH_MAX && may_share(entry.operation, body + at, entry.size)),
+             "a row's packets can't share a batch");
+        following[entry.submitter] = stubs[i].number + 1;
         must(kip_restore(&kip, &entry, entry.size ? body + at : NULL, entry.size) == KIP_OK, "a row's packet isn't next, or is refused");
         at += entry.size;
     }
@@ -122,7 +135,7 @@ static void restore(sqlite3_stmt *row) {
 static void recover(void) {
     sqlite3_stmt *rows;
     must(sqlite3_prepare_v2(file, "select * from entry order by place", -1, &rows, NULL) == SQLITE_OK, "select");
-    must(sqlite3_step(rows) == SQLITE_ROW && sqlite3_column_int64(rows, 0) == SETTINGS_PLACE && sqlite3_column_int(rows, 1) == FORMAT_VERSION &&
+    must(sqlite3_step(rows) == SQLITE_ROW && sqlite3_column_int64(rows, 0) == SETTINGS_PLACE && sqlite3_column_int64(rows, 1) == FORMAT_VERSION &&
              sqlite3_column_bytes(rows, 3) == sizeof(stub_t),
          "the first row has no settings");
     const stub_t *settings = sqlite3_column_blob(rows, 3); /* (its events are the limit) */

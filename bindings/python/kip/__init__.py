@@ -37,7 +37,7 @@ CREATE_ACCOUNTS, CREATE_TRANSFERS, LOOKUP_ACCOUNTS = 129, 130, 131
 COMMITTED, SHUTDOWN, STOPPED = 0, 7, 8
 STATUSES = {1: "invalid_operation", 2: "invalid_data_size", 3: "too_much_data", 5: "full", 6: "no_memory", 7: "shutdown",
             8: "stopped", 9: "bad_limit", 11: "bad_submitters", 12: "moment_too_large", 100: "closed", 101: "already_open", 106: "busy",
-            107: "no_entry", 108: "not_next", 109: "in_use", 110: "not_recorded", 111: "not_committed"}
+            107: "no_entry", 108: "not_next", 109: "in_use", 110: "not_recorded", 111: "not_handed_out"}
 OUTCOMES = {COMMITTED: "committed", SHUTDOWN: "shutdown", STOPPED: "stopped"}
 NO_MEMORY, CLOSED, NO_REPLY, TOO_SMALL, NOT_FOUND, BUSY, NO_ENTRY = 6, 100, 102, 103, 104, 106, 107
 VERSION = 0x000100  # of kip.h: major, minor, patch

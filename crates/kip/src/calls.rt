@@ -451,7 +451,7 @@ pub extern "C" fn kip_entry_bytes(
     entry: &mut KipEntry,
     bytes: &mut [u8],
 ) -> u32
-    ensures { IsHandingOutOf result entry.new bytes.old bytes.new kip.old.pointer.engine kip.new.pointer.engine }
+    ensures { IsHandingOutOf result (entry.old, entry.new) (bytes.old, bytes.new) kip.old.pointer.engine kip.new.pointer.engine }
 {
     let Some(mut engine) = kip.take(alloc) else {
         return CLOSED;

@@ -31,8 +31,8 @@ const IN_USE: u32 = 109;
 /// The host doesn't keep the journal.
 const NOT_RECORDED: u32 = 110;
 
-/// There aren't as many places.
-const NOT_COMMITTED: u32 = 111;
+/// Something at a lower place wasn't handed out.
+const NOT_HANDED_OUT: u32 = 111;
 
 /// The head of an entry of the journal, whose data are a packet's events.
 #[repr(C)]
@@ -87,7 +87,7 @@ fn entry_of_packet(reply: &Reply) -> KipEntry
 
 /// Writes the next packet's entry and its data. Nothing is handed out by that.
 fn peek_packet(engine: &RecordedEngine, entry: &mut KipEntry, bytes: &mut [u8]) -> u32
-    ensures { IsPacketStatus result entry.new bytes.old bytes.new engine.now }
+    ensures { IsPacketStatus result entry.old entry.new bytes.old bytes.new engine.now }
 {
     let Some(reply) = engine.next_packet() else {
         return NO_ENTRY;
@@ -103,7 +103,7 @@ fn peek_packet(engine: &RecordedEngine, entry: &mut KipEntry, bytes: &mut [u8]) 
 
 /// Hands out what is next, with its data.
 pub(crate) fn hand_out(engine: &mut RecordedEngine, entry: &mut KipEntry, bytes: &mut [u8]) -> u32
-    ensures { IsHandingOut result entry.new bytes.old bytes.new engine.old engine.new }
+    ensures { IsHandingOut result entry.old entry.new bytes.old bytes.new engine.old engine.new }
 {
     if !engine.records() {
         return NOT_RECORDED;
@@ -130,8 +130,8 @@ pub(crate) fn store(engine: &mut RecordedEngine, places: u64) -> u32
     if !engine.records() {
         return NOT_RECORDED;
     }
-    if places > engine.engine().places() {
-        return NOT_COMMITTED;
+    if places > engine.handed_places() {
+        return NOT_HANDED_OUT;
     }
     engine.set_durable(places);
     0

@@ -79,7 +79,6 @@ fn take_batch(machine: &mut Machine, parts: &mut Parts) -> Result<(), NoMemory>
 
 /// Lets the machine take the data of a packet that is no lookup, and puts its failures into a list in place of what was there. If memory
 /// runs out, the machine is as before.
-#[inline(always)]
 fn take_alone(machine: &mut Machine, failures: &mut Vec<Failure>, job: &Job) -> Result<(), NoMemory>
     requires { is_lookup job.now.packet ≡ false }
     ensures answer { OnOk result (answer_of machine.old (events_in job.now.packet) ≡ FailuresOf (map (from_offset 0) failures.new.items)) }
@@ -297,7 +296,6 @@ impl BareLedger {
     }
 
     /// Returns the answer to a packet, which the machine takes. If an allocation fails, the packet comes back, and nothing has changed.
-    #[inline(always)]
     fn answer_alone(&mut self, job: Job) -> Result<Reply, Job>
         ensures reply { IfOk result (λ reply. reply
             ≡ reply_with (CommittedOutcome self.old.places (answer_of self.old.state (events_in job.packet))) job) }
@@ -327,7 +325,6 @@ impl BareLedger {
     /// Commits a packet as `try_apply` does a batch of it alone, and returns its reply. It reads the packet's own data, which isn't copied,
     /// and takes memory for the facts, and for the packet's failures if it has more events than any before. If an allocation fails, the
     /// packet comes back, and nothing has changed; what must be stopped anyway never comes back.
-    #[inline(always)]
     pub fn try_alone(&mut self, job: Job) -> Result<Reply, Job>
         ensures ok { IfOk result (λ reply. (reply ≡ reply_alone self.old job) × (self.new ≡ after_alone self.old job)) }
         ensures sent { IfOk result (λ reply.

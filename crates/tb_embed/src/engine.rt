@@ -628,7 +628,6 @@ impl Engine {
     }
 
     /// Removes the next reply and returns it, in the order in which packets were queued; None if there is none.
-    #[inline(always)]
     pub fn reply(&mut self) -> Option<Reply>
         ensures some { IfSome result (λ reply. Reads self.old reply self.new) }
         ensures unread { self.old.unread ≡ option_to_list result ++ self.new.unread }

@@ -7,7 +7,7 @@ ghost use Rattle.tb_work.specs.declared.item.Item.TheVariants as item;
 ghost use Rattle.tb_work.specs.declared.refusal.Refusal.TheVariants.{NoMemory as NoMemoryRefusal};
 ghost use Rattle.tb_embed.specs.clauses.Engine.{Continues, IsRefusal, Queues, has_stopped, pulse_refusal, shut_refusal, submit_refusal};
 ghost use Rattle.tb_embed.specs.clauses.Queued.{packet_ticket, ticket_of};
-ghost use Rattle.tb_embed.specs.clauses.Recorded.{ChangesEngine, HandsPacket, PulsesRecorded, ReadsRecorded, first_stored, if_committed, if_uncommitted, is_below, is_committed, is_stored, next_packet, next_pulse, pulse_ahead, readable, recorded, recorded_packet_fault, recorded_pulse_fault, is_waiting, with_durable};
+ghost use Rattle.tb_embed.specs.clauses.Recorded.{ChangesEngine, HandsPacket, PulsesRecorded, ReadsRecorded, first_stored, handed_places, if_committed, if_uncommitted, is_below, is_committed, is_stored, next_packet, place_in, next_pulse, pulse_ahead, readable, recorded, recorded_packet_fault, recorded_pulse_fault, is_waiting, with_durable};
 ghost use Rattle.tb_embed.specs.clauses.Restoring.{IsFault, RestoresPacket, RestoresPulse};
 
 use crate::engine::Engine;
@@ -19,10 +19,11 @@ use tb_layout::NoMemory;
 use tb_work::{Outcome, Packet, Refusal, Reply};
 
 /// An engine for a host that may keep its journal in a store of its own. A host that does takes out what is committed, packet by packet and
-/// pulse by pulse, stores it, and says up to which place all is stored. The reply to a packet can't be read before. So nobody hears
-/// that a packet is committed which a crash could still lose.
+/// pulse by pulse, stores it, and says up to which place all is stored. The reply to a packet can't be read before. So no reply says
+/// that a packet is committed which a crash could still lose. Look-ups show what is committed, stored or not.
 ///
-/// The replies to what isn't committed wait for nothing. If the host keeps no journal, it is the engine.
+/// Replies come in the order in which packets were queued. One to a packet that isn't committed waits only for those before it. If the host
+/// keeps no journal, it is the engine.
 pub struct RecordedEngine {
     engine: Engine,
     records: bool,
@@ -80,6 +81,16 @@ fn is_below(place: u64, outcome: &Outcome) -> bool
     match outcome {
         Outcome::Committed { place: other, .. } => place < *other,
         Outcome::Shutdown | Outcome::Stopped => true,
+    }
+}
+
+/// Returns the place of a packet; 0 if it isn't committed.
+fn place_in(outcome: &Outcome) -> u64
+    ensures { result ≡ place_in outcome.now }
+{
+    match outcome {
+        Outcome::Committed { place, .. } => *place,
+        Outcome::Shutdown | Outcome::Stopped => 0,
     }
 }
 
@@ -267,7 +278,21 @@ impl RecordedEngine {
         Ok(())
     }
 
-    /// Notes that all packets and pulses at places below a number are stored. A lower number than before changes nothing.
+    /// Returns the place up to which all was handed out: that of the next pulse or packet, or if there is none the next place.
+    pub fn handed_places(&self) -> u64
+        ensures { result ≡ handed_places self.now }
+    {
+        if let Some(pulse) = self.next_pulse() {
+            return pulse.place;
+        }
+        match self.next_packet() {
+            Some(reply) => place_in(&reply.outcome),
+            None => self.engine.places(),
+        }
+    }
+
+    /// Notes that all packets and pulses at places below a number are stored. A lower number than before changes nothing. What is above
+    /// `handed_places` can't be stored yet: a host that gives such a number reads replies ahead of it.
     pub fn set_durable(&mut self, places: u64)
         ensures { self.new ≡ with_durable self.old places }
     {

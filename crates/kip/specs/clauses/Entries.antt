@@ -3,7 +3,7 @@ use Rattle.std.specs.Prelude.{◌≡◌, ◌<◌, ◌⊎◌, ◌==◌, ℕ, Bool
 use Rattle.tb_work.specs.claim.Packet.{ReplyValue}
 use Rattle.tb_work.specs.clauses.Refusal.{number_of}
 use Rattle.tb_work.specs.declared.refusal.Refusal.TheVariants.{InvalidDataSize, NoMemory}
-use Rattle.tb_embed.specs.clauses.Recorded.{ChangesEngine, HandsPacket, RecordedState, next_packet, next_pulse, recorded_packet_fault as packet_fault, recorded_pulse_fault as pulse_fault, with_durable}
+use Rattle.tb_embed.specs.clauses.Recorded.{ChangesEngine, HandsPacket, RecordedState, handed_places, next_packet, next_pulse, recorded_packet_fault as packet_fault, recorded_pulse_fault as pulse_fault, with_durable}
 use Rattle.tb_embed.specs.clauses.Engine.{EngineState}
 use Rattle.tb_embed.specs.clauses.Restoring.{RestoresPacket, RestoresPulse}
 use Rattle.tb_embed.specs.declared.restoring.PlacedPacket.{PlacedPacket}
@@ -11,7 +11,7 @@ use Rattle.tb_embed.specs.declared.restoring.PlacedPulse.{PlacedPulse}
 use Rattle.tb_embed.specs.declared.restoring.RestoreFault.{RestoreFault}
 use Rattle.tb_embed.specs.declared.restoring.RestoreFault.TheVariants.{InUse, NotNext, Refused}
 use Rattle.kip.specs.declared.entries.KipEntry.{KipEntry}
-use Rattle.kip.specs.clauses.Handle.{closed, in_use, no_entry, not_committed, not_next, not_recorded, too_small}
+use Rattle.kip.specs.clauses.Handle.{closed, in_use, no_entry, not_handed_out, not_next, not_recorded, too_small}
 use Rattle.kip.specs.clauses.Results.{AreWritten, place_of}
 
 -- ---- what is handed out
@@ -66,35 +66,36 @@ pub record IsPeeked (entry : KipEntry) (before after : List ℕ) (packet : Optio
   pub written : AreWritten reply.packet.packet.bytes (length reply.packet.packet.bytes) before after
 
 -- 0 with the next packet, `no_entry` without one, `too_small` with a buffer that is
-pub record IsPacketStatus (status : ℕ) (entry : KipEntry) (before after : List ℕ) (host : RecordedState) : Type 0 where
+pub record IsPacketStatus (status : ℕ) (was entry : KipEntry) (before after : List ℕ) (host : RecordedState) : Type 0 where
   pub peeked : status ≡ 0 → IsPeeked entry before after (next_packet host)
-  pub none : status ≡ no_entry → (next_packet host ≡ None) × (after ≡ before)
+  pub none : status ≡ no_entry → (next_packet host ≡ None) × ((entry ≡ was) × (after ≡ before))
   pub small : status ≡ too_small → IsTooLarge entry before after (next_packet host)
   pub one_of : (status ≡ 0) ⊎ ((status ≡ no_entry) ⊎ (status ≡ too_small))
 
 -- 0 with the next entry, `no_entry` without one, `too_small` with a buffer that is, or memory ran out. It is `not_recorded` exactly if the
 -- host keeps no journal.
-pub record IsHandingOut (status : ℕ) (entry : KipEntry) (before after : List ℕ) (old new : RecordedState) : Type 0 where
+pub record IsHandingOut (status : ℕ) (was entry : KipEntry) (before after : List ℕ) (old new : RecordedState) : Type 0 where
   pub hands : status ≡ 0 → HandsOut entry before after old (next_pulse old) (next_packet old) new
-  pub none : status ≡ no_entry → (next_pulse old ≡ None) × ((next_packet old ≡ None) × (after ≡ before))
+  pub none : status ≡ no_entry → (next_pulse old ≡ None) × ((next_packet old ≡ None) × ((entry ≡ was) × (after ≡ before)))
+  pub unrecorded : status ≡ not_recorded → (entry ≡ was) × (after ≡ before)
   pub small : status ≡ too_small → (next_pulse old ≡ None) × IsTooLarge entry before after (next_packet old)
   pub same : (status ≡ 0 → ⊥) → new ≡ old
   pub recorded : old.records ≡ not (status == not_recorded)
   pub one_of : (status ≡ 0) ⊎ ((status ≡ no_entry) ⊎ ((status ≡ too_small) ⊎ ((status ≡ number_of NoMemory) ⊎ (status ≡ not_recorded))))
 
 -- a closed handle hands out nothing
-abbrev pub IsHandingOutOf : ℕ → KipEntry → List ℕ → List ℕ → Option RecordedState → Option RecordedState → Type 0
-IsHandingOutOf status entry before after (Some old) (Some new) = IsHandingOut status entry before after old new
-IsHandingOutOf status entry before after (Some old) None = ⊥
-IsHandingOutOf status entry before after None new = (status ≡ closed) × (new ≡ None)
+abbrev pub IsHandingOutOf : ℕ → KipEntry × KipEntry → List ℕ × List ℕ → Option RecordedState → Option RecordedState → Type 0
+IsHandingOutOf status (was, entry) (before, after) (Some old) (Some new) = IsHandingOut status was entry before after old new
+IsHandingOutOf status entries buffers (Some old) None = ⊥
+IsHandingOutOf status (was, entry) (before, after) None new = (status ≡ closed) × ((new ≡ None) × ((entry ≡ was) × (after ≡ before)))
 
 -- ---- what is stored
 
--- 0 if there are as many places, which are noted
+-- 0 if all below these places was handed out, which is noted
 pub record IsStoring (status places : ℕ) (old new : RecordedState) : Type 0 where
   pub unrecorded : old.records ≡ false → (status ≡ not_recorded) × (new ≡ old)
-  pub early : old.records ≡ true → nat_lt old.engine.ledger.places places ≡ true → (status ≡ not_committed) × (new ≡ old)
-  pub stored : old.records ≡ true → nat_lt old.engine.ledger.places places ≡ false → (status ≡ 0) × (new ≡ with_durable old places)
+  pub early : old.records ≡ true → nat_lt (handed_places old) places ≡ true → (status ≡ not_handed_out) × (new ≡ old)
+  pub stored : old.records ≡ true → nat_lt (handed_places old) places ≡ false → (status ≡ 0) × (new ≡ with_durable old places)
 
 abbrev pub IsStoringOf : ℕ → ℕ → Option RecordedState → Option RecordedState → Type 0
 IsStoringOf status places (Some old) (Some new) = IsStoring status places old new

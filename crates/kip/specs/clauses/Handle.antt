@@ -77,9 +77,9 @@ in_use = 109
 abbrev pub not_recorded : ℕ
 not_recorded = 110
 
--- there aren't as many places
-abbrev pub not_committed : ℕ
-not_committed = 111
+-- something at a lower place wasn't handed out
+abbrev pub not_handed_out : ℕ
+not_handed_out = 111
 
 -- 0 if nothing is refused, else the number of the first refusal that applies or of NoMemory
 abbrev pub IsStatus : Option Refusal → ℕ → Type 0

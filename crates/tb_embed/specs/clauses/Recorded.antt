@@ -88,6 +88,19 @@ pulse_ahead (Some pulse) (Some reply) = if is_below pulse.place reply.outcome th
 abbrev pub next_pulse : RecordedState → Option PlacedPulse
 next_pulse host = pulse_ahead (slice_get host.pulses 0) (next_packet host)
 
+abbrev pub place_in : Outcome → ℕ
+place_in (Committed place answer) = place
+place_in other = 0
+
+abbrev pub first_place : Option PlacedPulse → Option ReplyValue → ℕ → ℕ
+first_place (Some pulse) packet places = pulse.place
+first_place None (Some reply) places = place_in reply.outcome
+first_place None None places = places
+
+-- the place up to which all was handed out: that of the next pulse or packet, or if there is none the next place
+abbrev pub handed_places : RecordedState → ℕ
+handed_places host = first_place (next_pulse host) (next_packet host) host.engine.ledger.places
+
 -- a packet was handed out: its reply waits until its place is stored
 pub record HandsPacket (old : RecordedState) (reply : ReplyValue) (new : RecordedState) : Type 0 where
   pub handed : new ≡ record old { engine = new.engine; handed = old.handed ++ reply ∷ [] }
