@@ -1,9 +1,8 @@
 //! The entries of a journal, as C reads and writes them.
 
 ghost use Rattle.std.specs.Prelude.{◌≡◌, ◌<◌, Some, None, true, IfOk, IfErr, OnOk, OnErr};
-ghost use Rattle.tb_work.specs.claim.Packet.{ReplyValue};
 ghost use Rattle.tb_embed.specs.clauses.Recorded.{ChangesEngine, recorded_packet_fault, recorded_pulse_fault};
-ghost use Rattle.tb_embed.specs.clauses.Restoring.{IsFault, RestoresPacket, RestoresPulse};
+ghost use Rattle.tb_embed.specs.clauses.Restoring.{IsFault, RestoresPulse, RestoresUnseen};
 ghost use Rattle.kip.specs.clauses.Entries.{IsFaultOrMemory, IsHandingOut, IsPacketStatus, IsRestoring, IsStoring, fault_number, if_empty, packet_entry, placed_packet, placed_pulse, pulse_entry};
 ghost use Rattle.kip.specs.clauses.Results.{AreWritten, place_of};
 
@@ -184,7 +183,7 @@ fn restore_packet(
     entry: &KipEntry,
     bytes: &[u8],
 ) -> Result<(), RestoreFault>
-    ensures ok { OnOk result ((reply : ReplyValue) × RestoresPacket engine.old.engine (placed_packet entry.now bytes.now) reply engine.new.engine) }
+    ensures ok { OnOk result (RestoresUnseen engine.old.engine (placed_packet entry.now bytes.now) engine.new.engine) }
     ensures restorable { OnOk result (recorded_packet_fault engine.old (placed_packet entry.now bytes.now) ≡ None) }
     ensures engine { ChangesEngine engine.old engine.new }
     ensures same { OnErr result (engine.new ≡ engine.old) }
@@ -194,10 +193,7 @@ fn restore_packet(
         return Err(RestoreFault::Refused(Refusal::NoMemory));
     };
     match engine.restore_packet(alloc, placed) {
-        Ok(reply) => {
-            drop(reply);
-            Ok(())
-        }
+        Ok(()) => Ok(()),
         Err((placed, fault)) => {
             drop(placed);
             Err(fault)

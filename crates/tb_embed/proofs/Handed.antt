@@ -1,8 +1,8 @@
 -- What a host that keeps the journal is handed, and what it may read.
-use Rattle.std.proofs.Common.{◌≡◌, refl, sym, ap, ◌∙◌, subst, Bool, true, false, if◌then◌else◌, List, [], ◌∷◌, ◌++◌, slice_get, drop, length, arith, append-nil, append_assoc, option_to_list, IfSome, Bor, Option, Some, None}
+use Rattle.std.proofs.Common.{◌≡◌, refl, sym, ap, ◌∙◌, subst, Bool, true, false, if◌then◌else◌, List, [], ◌∷◌, ◌++◌, slice_get, arith, length, append-nil, append_assoc, option_to_list, IfSome, Bor, Option, Some, None}
 use Rattle.std.specs.Option.{is_some, option_copied}
 use Rattle.tb_embed.specs.clauses.Engine.{Reads}
-use Rattle.tb_embed.specs.clauses.Recorded.{HandsPacket, ReadsRecorded, RecordedState, if_committed, is_committed, next_packet, readable}
+use Rattle.tb_embed.specs.clauses.Recorded.{IsRecorded, is_stored, HandsPacket, ReadsRecorded, RecordedState, if_committed, is_committed, next_packet, readable}
 use Rattle.tb_embed.proofs.Words.{EngineState, ReplyValue, Serves}
 
 injective : {X : Type 0} {x y : X} → Some x ≡ Some y → x ≡ y
@@ -45,10 +45,11 @@ module _ (old : RecordedState) (engine : EngineState) (handed : List ReplyValue)
       })
 
   -- a reply that the engine has is read, while none is handed out
-  reads_engine : (reply : ReplyValue) → old.handed ≡ [] → handed ≡ [] → old.engine.unread ≡ reply ∷ engine.unread → is_some (readable old) ≡ true
+  reads_engine : (reply : ReplyValue) → old.handed ≡ [] → handed ≡ [] → old.engine.unread ≡ reply ∷ engine.unread
+      → readable old ≡ slice_get old.engine.unread 0
       → Reads old.engine reply engine → ReadsRecorded old reply (record old { engine = engine; handed = handed })
-  reads_engine reply none still unread some reads = record {
-    was = rw (none, unread) (by old.records (subst (λ found. is_some found ≡ true) (rw (none, unread) refl) some));
+  reads_engine reply none still unread is_next reads = record {
+    was = is_next ∙ ap (λ unread. slice_get unread 0) unread;
     left = rw (none, still) unread;
     adds = λ start queue read serves. subst (λ all. Serves start queue all engine)
         (sym (ap (λ handed. (read ++ reply ∷ []) ++ handed) still ∙ append-nil (read ++ reply ∷ [])))
@@ -57,40 +58,40 @@ module _ (old : RecordedState) (engine : EngineState) (handed : List ReplyValue)
     ledger = reads.same;
     front = reads.stays;
   }
-    where
-      by : (records : Bool) → is_some (if records then (if is_committed reply.outcome then None else Some reply) else Some reply) ≡ true
-          → (if records then (if is_committed reply.outcome then None else Some reply) else Some reply) ≡ Some reply
-      by false some = refl
-      by true some = either (is_committed reply.outcome) some
-        where
-          either : (committed : Bool) → is_some (if committed then None else Some reply) ≡ true → (if committed then None else Some reply) ≡ Some reply
-          either false some = refl
-          either true some = cc
 
-  pub reads_found : (result : Option ReplyValue) → old.handed ≡ [] → handed ≡ [] → old.engine.unread ≡ option_to_list result ++ engine.unread → is_some (readable old) ≡ true
+  pub reads_found : (result : Option ReplyValue) → old.handed ≡ [] → handed ≡ [] → old.engine.unread ≡ option_to_list result ++ engine.unread → readable old ≡ slice_get old.engine.unread 0
       → IfSome result (λ reply. Reads old.engine reply engine)
       → IfSome result (λ reply. ReadsRecorded old reply (record old { engine = engine; handed = handed }))
-  reads_found None none still unread some reads = tt
-  reads_found (Some reply) none still unread some reads = reads_engine reply none still unread some reads
+  reads_found None none still unread is_next reads = tt
+  reads_found (Some reply) none still unread is_next reads = reads_engine reply none still unread is_next reads
 
-module _ (old : RecordedState) (engine : EngineState) (handed : List ReplyValue) where
-  -- of a host that keeps no journal the engine's next reply is read
-  pub reads_unrecorded : (result : Option ReplyValue) → old.records ≡ false → old.handed ≡ [] → handed ≡ []
-      → old.engine.unread ≡ option_to_list result ++ engine.unread → IfSome result (λ reply. Reads old.engine reply engine)
-      → IfSome result (λ reply. ReadsRecorded old reply (record old { engine = engine; handed = handed }))
-  reads_unrecorded None plain none still unread reads = tt
-  reads_unrecorded (Some reply) plain none still unread reads =
-      reads_engine old engine handed reply none still unread (rw (plain, unread) refl) reads
+-- a reply that was handed out is read
+pub reads_handed : (old : RecordedState) (handed : List ReplyValue) (result : Option ReplyValue) → IsRecorded old.records old.handed
+    → old.handed ≡ option_to_list result ++ handed → is_some (readable old) ≡ true
+    → IfSome result (λ reply. ReadsRecorded old reply (record old { handed = handed }))
+reads_handed old handed None recorded popped some = tt
+reads_handed old handed (Some reply) recorded popped some = by old.records refl
+  where
+    stored : (is : Bool) → is_some (if is then Some reply else None) ≡ true → (if is then Some reply else None) ≡ Some reply
+    stored true some = refl
+    stored false some = cc
+
+    nothing : reply ∷ handed ≡ [] → ⊥
+    nothing is = grind (arith, ap length is)
+
+    by : (records : Bool) → old.records ≡ records → ReadsRecorded old reply (record old { handed = handed })
+    by false plain = absurd (nothing (sym popped ∙ recorded plain))
+    by true keeps = record {
+      was = rw (keeps, popped) (stored (is_stored old.durable reply.outcome) (subst (λ found. is_some found ≡ true) (rw (keeps, popped) refl) some));
+      left = ap (λ replies. replies ++ old.engine.unread) popped;
+      adds = λ start queue read serves. subst (λ all. Serves start queue all old.engine)
+          (ap (λ replies. read ++ replies) popped ∙ sym (append_assoc read (reply ∷ []) handed)) serves;
+      same = refl;
+      ledger = refl;
+      front = refl;
+    }
 
 pub is_there : (found : Option (Bor ReplyValue)) (copied : Option ReplyValue) → is_some found ≡ true → option_copied found ≡ copied
     → is_some copied ≡ true
 is_there None copied is same = cc
 is_there (Some reply) copied is same = ap is_some (sym same)
-
--- a list of which removing the first changes nothing
-pub none_handed : (old new : List ReplyValue) → old ≡ new → new ≡ drop 1 old → (old ≡ []) × (new ≡ [])
-none_handed [] new same rest = (refl, rest)
-none_handed (reply ∷ old) new same rest = absurd (longer (same ∙ rest))
-  where
-    longer : reply ∷ old ≡ old → ⊥
-    longer is = grind (arith, ap length is)

@@ -1,13 +1,13 @@
 -- A packet that is committed by itself while nothing is held.
-use Rattle.std.proofs.Common.{◌≡◌, if◌then◌else◌, nat_lt, None, Some, Option, refl, sym, ap, ◌∙◌, subst, arith, ℕ, ◌+◌, ◌<◌, ◌≤◌, Bool, true, false, ◌&&◌, ◌||◌, List, [], ◌∷◌, ◌++◌, length, get_or, append-nil}
-use Rattle.tb_embed.proofs.Words.{◌==◌, not, nat_tests, slice_set, places_max, Numbered, Ticket, Packet, ReplyValue, FrontState, IsFront, group_as_batch, take_result, take_step, with_group, Pulse, Decision, Admitted, BareLedgerState, HasSent, halts, LedgerState, EngineState, Continues, HasTaken, Queues, Serves, packet_ticket, ticket_of, places_in, items_in}
+use Rattle.std.proofs.Common.{◌≡◌, if◌then◌else◌, nat_lt, None, Some, Option, IfSome, IfNone, refl, sym, ap, ◌∙◌, subst, arith, ℕ, ◌+◌, ◌<◌, ◌≤◌, Bool, true, false, ◌&&◌, ◌||◌, List, [], ◌∷◌, ◌++◌, length, get_or, append-nil}
+use Rattle.tb_embed.proofs.Words.{◌==◌, not, nat_tests, slice_set, places_max, Numbered, Ticket, Packet, ReplyValue, Parcel, FrontState, IsFront, group_as_batch, take_result, take_step, with_group, Pulse, Decision, Admitted, BareLedgerState, HasSent, halts, LedgerState, EngineState, Continues, HasTaken, Queues, Serves, packet_ticket, ticket_of, places_in, items_in}
 use Rattle.tb_batch.specs.claim.Grouping.{is_taken}
 use Rattle.tb_core.specs.claim.Front.{step_of_packet}
 use Rattle.tb_work.specs.claim.Job.{numbered_packet}
 use Rattle.tb_work.specs.declared.item.Item.TheVariants as item
 use Rattle.tb_work.specs.declared.refusal.Refusal.{Refusal}
-use Rattle.tb_embed.specs.clauses.Engine.{has_stopped, pulse_refusal, submit_refusal}
-use Rattle.tb_embed.specs.clauses.Restoring.{RestoresTicket, fault_of, is_idle, packet_fault}
+use Rattle.tb_embed.specs.clauses.Engine.{Reads, has_stopped, pulse_refusal, submit_refusal}
+use Rattle.tb_embed.specs.clauses.Restoring.{RestoresPacket, RestoresTicket, RestoresUnseen, fault_of, is_idle, packet_fault}
 use Rattle.tb_embed.specs.declared.restoring.PlacedPacket.{PlacedPacket}
 use Rattle.tb_embed.specs.declared.restoring.RestoreFault.TheVariants.{InUse}
 use Rattle.tb_work.specs.declared.refusal.Refusal.TheVariants.{MomentTooLarge, Shutdown, Stopped}
@@ -51,8 +51,7 @@ begins front job empty unclosed goes =
     (ap (λ held. take_result (with_group front (held ++ job ∷ [])) []) empty)
     (ap (λ held. take_result (with_group front (job ∷ [])) (group_as_batch held)) empty))
 
-module _ (old : EngineState) (submitter number : ℕ) (packet : Packet) (reply : ReplyValue) (ledger : BareLedgerState)
-    (sound : IsFront old.front) (idle : is_idle old ≡ true) where
+module _ (old : EngineState) (submitter number : ℕ) (packet : Packet) (sound : IsFront old.front) (idle : is_idle old ≡ true) where
   abbrev job : Numbered
   job = numbered_packet submitter number packet
 
@@ -68,8 +67,16 @@ module _ (old : EngineState) (submitter number : ℕ) (packet : Packet) (reply :
   is : IsIdle old
   is = idle_is old idle
 
-  step : take_result begun [] ≡ take_step false old.front submitter (item.Packet job)
+  -- the front begins a group with it
+  pub step : take_result begun [] ≡ take_step false old.front submitter (item.Packet job)
   step = begins old.front job is.empty is.unclosed is.goes
+
+  pub begun_is : (front : FrontState) (parcels : List Parcel) (other : Numbered) → other ≡ job
+      → take_result front parcels ≡ step_of_packet false old.front other → front ≡ begun
+  begun_is front parcels other same is = ap (λ t. t.front) (is ∙ ap (step_of_packet false old.front) same ∙ sym step)
+
+  pub released : with_group begun [] ≡ old.front
+  released = nothing_held old.front is.empty
 
   -- it is held
   took : submitter ≤ old.front.submitters → old.ledger.places ≤ places_max → Took old ticket (record old { front = begun })
@@ -83,36 +90,45 @@ module _ (old : EngineState) (submitter number : ℕ) (packet : Packet) (reply :
     same = (refl, refl, refl, refl);
   }
 
-  -- it is committed, and its reply is read
-  pub alone_restores : submitter < old.front.submitters → old.front.submitters ≤ length old.numbers → old.ledger.places ≤ places_max
-      → get_or old.numbers submitter 0 ≡ number
-      → ((start : LedgerState) (limit : ℕ) (decisions : List Decision) (replies : List ReplyValue)
-      → HasSent start limit decisions old.ledger replies → HasSent start limit (decisions ++ Admitted job ∷ []) ledger (replies ++ reply ∷ []))
-      → ledger.stopped ≡ halts old.ledger 1
-      → RestoresTicket old ticket (reply ∷ []) (record old { ledger = ledger; numbers = numbers })
-  alone_restores among long few next sends stopped =
-      let middle : EngineState = record old { front = begun; numbers = numbers } in
-      let last : EngineState = record old { ledger = ledger; numbers = numbers; unread = reply ∷ [] } in
-      let queued : Queues old ticket middle = packet_serves submitter number packet next (took (omega (arith, among)) few) among long in
-      let committed : Continues middle last = group_serves middle last (λ start items read has.
-      let was = λ (limit : ℕ) (sent : List Decision). HasSent start limit sent old.ledger (read ++ old.unread) in
-      let now = λ (limit : ℕ) (sent : List Decision). HasSent start limit sent ledger (read ++ reply ∷ []) in
-      subst (λ (front : FrontState). HasTaken start items (read ++ reply ∷ []) front ledger) (nothing_held old.front is.empty)
-      (jobs_taken was now refl (λ sent had. subst (λ replies. HasSent start old.front.limit (sent ++ Admitted job ∷ []) ledger (replies ++ reply ∷ []))
-      (ap (λ unread. read ++ unread) is.unread ∙ append-nil read) (sends start old.front.limit sent (read ++ old.unread) had)) has))
-      (sym (nothing_held old.front is.empty)) stopped refl refl in
+  -- it is committed
+  pub alone_restores : (new : EngineState) → submitter < old.front.submitters → old.front.submitters ≤ length old.numbers
+      → old.ledger.places ≤ places_max → get_or old.numbers submitter 0 ≡ number
+      → Continues (record old { front = begun; numbers = numbers }) new → RestoresTicket old ticket new
+  alone_restores new among long few next committed =
+      let queued : Queues old ticket (record old { front = begun; numbers = numbers }) =
+      packet_serves submitter number packet next (took (omega (arith, among)) few) among long in
       record {
-        adds = λ start queue read serves.
-            let done = committed.adds start (queue ++ ticket ∷ []) read (queued.adds start queue read serves) in
-            record {
-              taken = subst (λ replies. HasTaken start (items_in (queue ++ ticket ∷ [])) replies old.front ledger)
-                  (sym (ap (λ unread. (read ++ reply ∷ []) ++ unread) is.unread ∙ append-nil (read ++ reply ∷ []))) done.taken;
-              queued = done.queued;
-              unstopped = done.unstopped;
-              goes = done.goes;
-            };
-        held = is.empty;
+        adds = λ start queue read serves. committed.adds start (queue ++ ticket ∷ []) read (queued.adds start queue read serves);
+        held = ap (λ (front : FrontState). front.held) committed.seals;
       }
+
+-- it is taken out again
+pub first_is : (x y : Numbered) → x ∷ [] ≡ y ∷ [] → x ≡ y
+first_is x y same = ap (λ jobs. first jobs) same
+  where
+    first : List Numbered → Numbered
+    first [] = x
+    first (job ∷ jobs) = job
+
+pub same_engine : (engine : EngineState) (front : FrontState) (ledger : BareLedgerState) (unread : List ReplyValue) → front ≡ engine.front
+    → ledger ≡ engine.ledger → unread ≡ engine.unread → record engine { front = front; ledger = ledger; unread = unread } ≡ engine
+same_engine engine front ledger unread fronts ledgers unreads = rw (fronts, ledgers, unreads) refl
+
+-- its reply counts as read
+pub unseen : (old middle new : EngineState) (entry : PlacedPacket) (result : Option ReplyValue) → RestoresPacket old entry middle
+    → IfSome result (λ reply. Reads middle reply new) → IfNone result ((middle.unread ≡ []) × (new ≡ middle)) → RestoresUnseen old entry new
+unseen old middle new entry None restores some none = subst (RestoresUnseen old entry) (sym none.1) (record {
+  replies = [];
+  adds = λ start queue read serves. subst (λ read. Serves start (queue ++ packet_ticket entry.submitter entry.number entry.packet ∷ []) read middle)
+      (sym (append-nil read)) (restores.adds start queue read serves);
+  held = restores.held;
+})
+unseen old middle new entry (Some reply) restores some none = record {
+  replies = reply ∷ [];
+  adds = λ start queue read serves. some.adds start (queue ++ packet_ticket entry.submitter entry.number entry.packet ∷ []) read
+      (restores.adds start queue read serves);
+  held = ap (λ (front : FrontState). front.held) some.stays ∙ restores.held;
+}
 
 -- ---- why an entry isn't restored
 
@@ -150,12 +166,11 @@ open_if_not_refused engine moment none = by (nat_lt moment_max moment) engine.sh
 
 pub pulse_restores : (old : EngineState) (moment : ℕ) (new : EngineState) → is_idle old ≡ true
     → Queues old (ticket_of old.front.submitters (item.Pulse moment)) new
-    → RestoresTicket old (ticket_of old.front.submitters (item.Pulse moment)) [] new
+    → RestoresTicket old (ticket_of old.front.submitters (item.Pulse moment)) new
 pulse_restores old moment new idle queues =
     let is = idle_is old idle in
     record {
-      adds = λ start queue read serves. subst (λ read. Serves start (queue ++ ticket_of old.front.submitters (item.Pulse moment) ∷ []) read new)
-          (sym (append-nil read)) (queues.adds start queue read serves);
+      adds = queues.adds;
       held = ap (λ (front : FrontState). front.held) queues.steps ∙ sealed (old.front.closed || old.front.stopped) is.empty;
     }
   where

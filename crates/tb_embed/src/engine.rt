@@ -587,36 +587,41 @@ impl Engine {
         self.front.begins_group() && self.unread.next().is_none()
     }
 
-    /// Queues a submitter's packet while nothing is held or unread, commits it by itself, and returns its reply. If memory runs out, the
-    /// packet comes back and nothing has changed.
+    /// Queues a submitter's packet while nothing is held or unread, and commits it by itself. Its reply is unread then. If memory runs out,
+    /// the packet comes back and nothing has changed.
     pub(crate) fn commit_alone(
         &mut self,
         alloc: Global,
         submitter: u32,
         packet: Packet,
-    ) -> Result<Reply, Packet>
+    ) -> Result<(), Packet>
         requires idle { is_idle self.old ≡ true }
         requires among { submitter < self.old.front.submitters }
         requires more { get_or self.old.numbers submitter 0 < 2 ^ 64 - 1 }
-        ensures ok { IfOk result (λ reply. RestoresTicket self.old
-            (packet_ticket submitter (get_or self.old.numbers submitter 0) packet) (reply ∷ []) self.new) }
+        ensures ok { OnOk result (RestoresTicket self.old
+            (packet_ticket submitter (get_or self.old.numbers submitter 0) packet) self.new) }
         ensures back { IfErr result (λ back. (back ≡ packet) × (self.new ≡ self.old)) }
     {
         self.ledger.has_few_places();
-        // The law that what a front holds is one group.
-        let _ = self.front.begins_group();
+        if self.unread.reserve(1).is_err() {
+            return Err(packet);
+        }
         let at = submitter as usize;
         let number = self.numbers[at];
         let job = match Job::new(alloc, submitter, number, self.limit, packet) {
             Ok(job) => job,
             Err((packet, _)) => return Err(packet),
         };
-        match self.ledger.try_alone(job) {
-            Ok(reply) => {
+        match self.front.try_packet(job) {
+            Ok(parcel) => drop(parcel),
+            Err(job) => return Err(job.into_packet()),
+        }
+        match commit_held(&mut self.front, &mut self.ledger, &mut self.unread) {
+            Ok(()) => {
                 self.numbers[at] = number + 1;
-                Ok(reply)
+                Ok(())
             }
-            Err(job) => Err(job.into_packet()),
+            Err(_) => Err(self.front.release().into_packet()),
         }
     }
 

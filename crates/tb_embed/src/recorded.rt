@@ -8,7 +8,7 @@ ghost use Rattle.tb_work.specs.declared.refusal.Refusal.TheVariants.{NoMemory as
 ghost use Rattle.tb_embed.specs.clauses.Engine.{Continues, IsRefusal, Queues, has_stopped, pulse_refusal, shut_refusal, submit_refusal};
 ghost use Rattle.tb_embed.specs.clauses.Queued.{packet_ticket, ticket_of};
 ghost use Rattle.tb_embed.specs.clauses.Recorded.{ChangesEngine, HandsPacket, PulsesRecorded, ReadsRecorded, first_stored, handed_places, if_committed, if_uncommitted, is_below, is_committed, is_stored, next_packet, place_in, next_pulse, pulse_ahead, readable, recorded, recorded_packet_fault, recorded_pulse_fault, is_waiting, with_durable};
-ghost use Rattle.tb_embed.specs.clauses.Restoring.{IsFault, RestoresPacket, RestoresPulse};
+ghost use Rattle.tb_embed.specs.clauses.Restoring.{IsFault, RestoresPulse, RestoresUnseen};
 
 use crate::engine::Engine;
 use crate::restoring::{PlacedPacket, PlacedPulse, RestoreFault};
@@ -315,15 +315,29 @@ impl RecordedEngine {
         ensures some { IfSome result (λ reply. ReadsRecorded self.old reply self.new) }
         ensures none { IfNone result ((readable self.old ≡ None) × (self.new ≡ self.old)) }
     {
-        if !self.records {
+        if self.reads_engine() {
             return self.engine.reply();
         }
         if self.next_reply().is_none() {
             return None;
         }
-        match self.handed.pop_front() {
-            Some(reply) => Some(reply),
-            None => self.engine.reply(),
+        self.handed.pop_front()
+    }
+
+    /// Returns whether the engine's next reply, if there is one, can be read.
+    fn reads_engine(&self) -> bool
+        ensures yes { result ≡ true → (self.now.handed ≡ []) × (readable self.now ≡ slice_get self.now.engine.unread 0) }
+        ensures no { result ≡ false → self.now.handed ≡ [] → readable self.now ≡ None }
+    {
+        if !self.records {
+            return true;
+        }
+        if !self.handed.is_empty() {
+            return false;
+        }
+        match self.engine.next_reply() {
+            Some(next) => !is_committed(&next.outcome),
+            None => true,
         }
     }
 
@@ -334,7 +348,7 @@ impl RecordedEngine {
         !self.pulses.is_empty() || !self.handed.is_empty()
     }
 
-    /// Commits a packet of a journal by itself, as `Engine::restore_packet` does, and returns its reply. The host has it already.
+    /// Commits a packet of a journal by itself, as `Engine::restore_packet` does, without a reply. The host has it already.
     ///
     /// # Errors
     ///
@@ -343,8 +357,8 @@ impl RecordedEngine {
         &mut self,
         alloc: Global,
         entry: PlacedPacket,
-    ) -> Result<Reply, (PlacedPacket, RestoreFault)>
-        ensures ok { IfOk result (λ reply. RestoresPacket self.old.engine entry reply self.new.engine) }
+    ) -> Result<(), (PlacedPacket, RestoreFault)>
+        ensures ok { OnOk result (RestoresUnseen self.old.engine entry self.new.engine) }
         ensures engine { ChangesEngine self.old self.new }
         ensures restorable { OnOk result (recorded_packet_fault self.old entry ≡ None) }
         ensures back { IfErr result (λ refused. (refused.0 ≡ entry) × (self.new ≡ self.old)) }
@@ -353,7 +367,9 @@ impl RecordedEngine {
         if self.is_waiting() {
             return Err((entry, RestoreFault::InUse));
         }
-        self.engine.restore_packet(alloc, entry)
+        self.engine.restore_packet(alloc, entry)?;
+        drop(self.engine.reply());
+        Ok(())
     }
 
     /// Raises the clock by a pulse of a journal, as `Engine::restore_pulse` does. The host has it already.

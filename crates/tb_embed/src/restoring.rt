@@ -5,7 +5,7 @@ ghost use Rattle.tb_embed.specs.clauses.Restoring.{IsFault, RestoresPacket, Rest
 
 use crate::engine::Engine;
 use std::alloc::Global;
-use tb_work::{Packet, Refusal, Reply};
+use tb_work::{Packet, Refusal};
 
 /// A packet of a journal: its place, and its number among its submitter's packets.
 #[derive(Drop)]
@@ -56,8 +56,8 @@ impl Engine {
         Some(RestoreFault::NotNext)
     }
 
-    /// Commits a packet of a journal by itself, at the next place, and returns its reply, as it was when the packet was first
-    /// committed. So a host that keeps the journal has the ledger again: it restores all in the order of places, and then queues.
+    /// Commits a packet of a journal by itself, at the next place. Its reply, as it was when the packet was first committed, is the next one.
+    /// So a host that keeps the journal has the ledger again: it restores all in the order of places, reads the replies, and then queues.
     ///
     /// # Errors
     ///
@@ -67,8 +67,8 @@ impl Engine {
         &mut self,
         alloc: Global,
         entry: PlacedPacket,
-    ) -> Result<Reply, (PlacedPacket, RestoreFault)>
-        ensures ok { IfOk result (λ reply. RestoresPacket self.old entry reply self.new) }
+    ) -> Result<(), (PlacedPacket, RestoreFault)>
+        ensures ok { OnOk result (RestoresPacket self.old entry self.new) }
         ensures restorable { OnOk result (packet_fault self.old entry ≡ None) }
         ensures back { IfErr result (λ refused. (refused.0 ≡ entry) × (self.new ≡ self.old)) }
         ensures fault { IfErr result (λ refused. IsFault (packet_fault self.old entry) refused.1) }
@@ -83,7 +83,7 @@ impl Engine {
             packet,
         } = entry;
         match self.commit_alone(alloc, submitter, packet) {
-            Ok(reply) => Ok(reply),
+            Ok(()) => Ok(()),
             Err(packet) => {
                 let entry = PlacedPacket {
                     place,

@@ -174,12 +174,21 @@ impl Waiting {
         ensures job { result ∷ [] ≡ self.old.held }
         ensures held { self.new ≡ with_group self.old batch }
     {
-        let job = match self.alone.take() {
-            Some(job) => job,
-            None => take_begun(&mut self.front),
-        };
+        let job = self.release();
         self.front.hold(batch);
         job
+    }
+
+    /// Takes out the one packet that is held.
+    pub(crate) fn release(&mut self) -> Job
+        requires { length self.old.held ≡ 1 }
+        ensures job { result ∷ [] ≡ self.old.held }
+        ensures left { self.new ≡ with_group self.old [] }
+    {
+        match self.alone.take() {
+            Some(job) => job,
+            None => take_begun(&mut self.front),
+        }
     }
 }
 

@@ -5,7 +5,7 @@ use Rattle.tb_work.specs.clauses.Refusal.{number_of}
 use Rattle.tb_work.specs.declared.refusal.Refusal.TheVariants.{InvalidDataSize, NoMemory}
 use Rattle.tb_embed.specs.clauses.Recorded.{ChangesEngine, HandsPacket, RecordedState, handed_places, next_packet, next_pulse, recorded_packet_fault as packet_fault, recorded_pulse_fault as pulse_fault, with_durable}
 use Rattle.tb_embed.specs.clauses.Engine.{EngineState}
-use Rattle.tb_embed.specs.clauses.Restoring.{RestoresPacket, RestoresPulse}
+use Rattle.tb_embed.specs.clauses.Restoring.{RestoresPulse, RestoresUnseen}
 use Rattle.tb_embed.specs.declared.restoring.PlacedPacket.{PlacedPacket}
 use Rattle.tb_embed.specs.declared.restoring.PlacedPulse.{PlacedPulse}
 use Rattle.tb_embed.specs.declared.restoring.RestoreFault.{RestoreFault}
@@ -146,7 +146,7 @@ IsFaultStatus first status =
 -- a pulse, or else a packet, was committed again
 abbrev pub RestoresEither : Bool → KipEntry → List ℕ → EngineState → EngineState → Type 0
 RestoresEither true entry bytes old new = RestoresPulse old (placed_pulse entry) new
-RestoresEither false entry bytes old new = (reply : ReplyValue) × RestoresPacket old (placed_packet entry bytes) reply new
+RestoresEither false entry bytes old new = RestoresUnseen old (placed_packet entry bytes) new
 
 -- 0 with the entry restored
 pub record IsRestoring (status : ℕ) (entry : KipEntry) (bytes : List ℕ) (old new : RecordedState) : Type 0 where

@@ -295,10 +295,7 @@ fn fault(
         packet,
     };
     match host.restore_packet(alloc, entry) {
-        Ok(reply) => {
-            drop(reply);
-            None
-        }
+        Ok(()) => None,
         Err((entry, fault)) => {
             drop(entry);
             Some(fault)

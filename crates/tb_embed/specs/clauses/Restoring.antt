@@ -39,16 +39,21 @@ pulse_fault engine entry =
 abbrev pub IsFault : Option RestoreFault → RestoreFault → Type 0
 IsFault first fault = (first ≡ Some fault) ⊎ ((first ≡ None) × (fault ≡ Refused NoMemory))
 
--- The call added this ticket to what was queued, and nothing is held: it is committed, unless no place is left. Its replies count as read.
-pub record RestoresTicket (old : EngineState) (ticket : Ticket) (replies : List ReplyValue) (new : EngineState) : Type 0 where
+-- The call added this ticket to what was queued, and nothing is held: it is committed, unless no place is left. Its reply is unread.
+pub record RestoresTicket (old : EngineState) (ticket : Ticket) (new : EngineState) : Type 0 where
   pub adds : (start : LedgerState) (queue : List Ticket) (read : List ReplyValue) → Serves start queue read old
-      → Serves start (queue ++ ticket ∷ []) (read ++ replies) new
+      → Serves start (queue ++ ticket ∷ []) read new
   pub held : new.front.held ≡ []
 
--- a packet was restored, and this is its reply
-abbrev pub RestoresPacket : EngineState → PlacedPacket → ReplyValue → EngineState → Type 0
-RestoresPacket old entry reply new = RestoresTicket old (packet_ticket entry.submitter entry.number entry.packet) (reply ∷ []) new
+abbrev pub RestoresPacket : EngineState → PlacedPacket → EngineState → Type 0
+RestoresPacket old entry new = RestoresTicket old (packet_ticket entry.submitter entry.number entry.packet) new
 
--- a pulse was
 abbrev pub RestoresPulse : EngineState → PlacedPulse → EngineState → Type 0
-RestoresPulse old entry new = RestoresTicket old (ticket_of old.front.submitters (item.Pulse entry.moment)) [] new
+RestoresPulse old entry new = RestoresTicket old (ticket_of old.front.submitters (item.Pulse entry.moment)) new
+
+-- the same of a packet, whose reply counts as read
+pub record RestoresUnseen (old : EngineState) (entry : PlacedPacket) (new : EngineState) : Type 0 where
+  pub replies : List ReplyValue
+  pub adds : (start : LedgerState) (queue : List Ticket) (read : List ReplyValue) → Serves start queue read old
+      → Serves start (queue ++ packet_ticket entry.submitter entry.number entry.packet ∷ []) (read ++ replies) new
+  pub held : new.front.held ≡ []

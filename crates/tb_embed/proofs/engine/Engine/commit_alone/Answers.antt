@@ -1,21 +1,64 @@
-use Rattle.std.proofs.Common.{refl, sym, subst, arith, ◌≡◌, ◌<◌, ◌++◌, ◌∷◌, [], ℕ, List, get_or, true}
+use Rattle.std.proofs.Common.{rules, ◌≡◌, ◌∙◌, refl, sym, ap, subst, arith, ◌<◌, ◌+◌, ◌++◌, [], length, get_or, true, option_to_list}
 use Rattle.tb_embed.specs.contracts.engine.Engine.{the_view}
+use Rattle.tb_embed.specs.clauses.Engine.{IsEngine}
 use Rattle.tb_embed.specs.clauses.Restoring.{is_idle}
-use Rattle.tb_embed.proofs.Words.{Admitted, Decision, EngineState, HasSent, LedgerState, Numbered, ReplyValue}
-use Rattle.tb_embed.proofs.Restored.{alone_restores}
+use Rattle.tb_embed.proofs.Words.{EngineState, FrontState, HasTaken, halts, slice_set, with_group}
+use Rattle.tb_embed.proofs.EngineRun.{group_serves}
+use Rattle.tb_embed.proofs.Restored.{alone_restores, begun_is, first_is, released, same_engine}
 use Rattle.tb_embed.proofs.engine.Engine.commit_alone.Goals as goal
 
-pub returns-in-Ok-try_alone-clause-ok : goal.returns-in-Ok-try_alone-clause-ok
-returns-in-Ok-try_alone-clause-ok c = rw (← c.self.view_is) (
+pub invariant_of-self-in-Ok-commit_held : goal.invariant_of-self-in-Ok-commit_held
+invariant_of-self-in-Ok-commit_held c =
     let known = c.self.invariant in
-    let new = c.try_alone.new.self in
-    let reply = c.in-Ok-try_alone.reply in
-    alone_restores (the_view c.self.inside) c.args.submitter (get_or c.self.inside.numbers c.args.submitter 0) c.args.packet reply new
-    c.begins_group.ensures.front
-    (subst (λ e. is_idle e ≡ true) (sym c.self.view_is) c.requires.idle)
+    let idle = subst (λ e. is_idle e ≡ true) (sym c.self.view_is) c.requires.idle in
+    let old = the_view c.self.inside in
+    let number = get_or c.self.inside.numbers c.args.submitter 0 in
+    let sound = c.try_packet.ensures.front in
+    let front : c.commit_held.new.front ≡ c.self.inside.front = c.in-Ok-commit_held.ensures.sealed
+    ∙ ap (λ f. with_group f []) (begun_is old c.args.submitter number c.args.packet sound idle c.try_packet.new.self
+    (option_to_list c.in-Ok-try_packet.parcel) c.in-Ok.job c.in-Ok.ensures.job c.in-Ok-try_packet.ensures.ok)
+    ∙ released old c.args.submitter number c.args.packet sound idle in
+    subst (λ f. IsEngine c.self.inside.limit c.self.inside.submitters f (slice_set c.self.inside.numbers c.args.submitter (number + 1)))
+    (sym front) (record {
+      limited = known.limited;
+      counted = known.counted;
+      few = known.few;
+      among = known.among;
+      each = search rules;
+      goes = known.goes;
+    })
+
+pub returns-in-Ok-commit_held-clause-ok : goal.returns-in-Ok-commit_held-clause-ok
+returns-in-Ok-commit_held-clause-ok c = rw (← c.self.view_is) (
+    let known = c.self.invariant in
+    let idle = subst (λ e. is_idle e ≡ true) (sym c.self.view_is) c.requires.idle in
+    let old = the_view c.self.inside in
+    let number = get_or c.self.inside.numbers c.args.submitter 0 in
+    let sound = c.try_packet.ensures.front in
+    let done = c.in-Ok-commit_held.ensures in
+    let begun = begun_is old c.args.submitter number c.args.packet sound idle c.try_packet.new.self
+    (option_to_list c.in-Ok-try_packet.parcel) c.in-Ok.job c.in-Ok.ensures.job c.in-Ok-try_packet.ensures.ok in
+    alone_restores old c.args.submitter number c.args.packet sound idle _
     (subst (λ (e : EngineState). c.args.submitter < e.front.submitters) (sym c.self.view_is) c.requires.among)
     (omega (arith, known.counted, known.among, known.each)) c.has_few_places.ensures refl
-    (subst (λ (job : Numbered). (start : LedgerState) (limit : ℕ) (decisions : List Decision) (replies : List ReplyValue)
-    → HasSent start limit decisions c.self.inside.ledger replies
-    → HasSent start limit (decisions ++ Admitted job ∷ []) new (replies ++ reply ∷ [])) c.in-Ok.ensures.job c.in-Ok-try_alone.ensures.sent)
-    c.in-Ok-try_alone.ensures.stopped)
+    (group_serves _ _ (λ start items read has. done.taken start items read
+    (subst (λ replies. HasTaken start items (read ++ replies) c.try_packet.new.self c.self.inside.ledger) (sym c.reserve.ensures.same)
+    (subst (λ f. HasTaken start items (read ++ c.self.inside.unread.replies) f c.self.inside.ledger) (sym begun) has)))
+    (done.sealed ∙ ap (λ f. with_group f []) begun)
+    (done.stopped ∙ ap (λ (f : FrontState). halts c.self.inside.ledger (length f.held)) begun) refl refl))
+
+pub returns-in-Err-commit_held-clause-back : goal.returns-in-Err-commit_held-clause-back
+returns-in-Err-commit_held-clause-back c = rw (← c.self.view_is) (
+    let idle = subst (λ e. is_idle e ≡ true) (sym c.self.view_is) c.requires.idle in
+    let old = the_view c.self.inside in
+    let number = get_or c.self.inside.numbers c.args.submitter 0 in
+    let sound = c.try_packet.ensures.front in
+    let same = c.in-Err-commit_held.ensures.same in
+    let begun = same.0 ∙ begun_is old c.args.submitter number c.args.packet sound idle c.try_packet.new.self
+    (option_to_list c.in-Ok-try_packet.parcel) c.in-Ok.job c.in-Ok.ensures.job c.in-Ok-try_packet.ensures.ok in (
+      c.into_packet-in-Err-commit_held.ensures ∙ ap (λ j. j.packet) (first_is c.release.result _
+          (c.release.ensures.job ∙ ap (λ (f : FrontState). f.held) begun)),
+      same_engine old c.release.new.self c.commit_held.new.ledger c.commit_held.new.unread.replies
+          (c.release.ensures.left ∙ ap (λ f. with_group f []) begun ∙ released old c.args.submitter number c.args.packet sound idle)
+          same.1 (ap (λ u. u.replies) same.2 ∙ c.reserve.ensures.same),
+    ))
