@@ -1,6 +1,6 @@
 -- A packet that is committed by itself while nothing is held.
 use Rattle.std.proofs.Common.{◌≡◌, if◌then◌else◌, nat_lt, None, Some, Option, IfSome, IfNone, refl, sym, ap, ◌∙◌, subst, arith, ℕ, ◌+◌, ◌<◌, ◌≤◌, Bool, true, false, ◌&&◌, ◌||◌, List, [], ◌∷◌, ◌++◌, length, get_or, append-nil}
-use Rattle.tb_embed.proofs.Words.{◌==◌, not, nat_tests, slice_set, places_max, Numbered, Ticket, Packet, ReplyValue, Parcel, FrontState, IsFront, group_as_batch, take_result, take_step, with_group, Pulse, Decision, Admitted, BareLedgerState, HasSent, halts, LedgerState, EngineState, Continues, HasTaken, Queues, Serves, packet_ticket, ticket_of, places_in, items_in}
+use Rattle.tb_embed.proofs.Words.{◌==◌, not, nat_tests, slice_set, places_max, Numbered, Ticket, Packet, ReplyValue, FrontState, IsFront, group_as_batch, take_result, take_step, with_group, Pulse, Decision, BareLedgerState, HasSent, halts, EngineState, Continues, Queues, Serves, packet_ticket, ticket_of, places_in}
 use Rattle.tb_batch.specs.claim.Grouping.{is_taken}
 use Rattle.tb_core.specs.claim.Front.{step_of_packet}
 use Rattle.tb_work.specs.claim.Job.{numbered_packet}
@@ -12,8 +12,8 @@ use Rattle.tb_embed.specs.declared.restoring.PlacedPacket.{PlacedPacket}
 use Rattle.tb_embed.specs.declared.restoring.RestoreFault.TheVariants.{InUse}
 use Rattle.tb_work.specs.declared.refusal.Refusal.TheVariants.{MomentTooLarge, Shutdown, Stopped}
 use Rattle.tb_layout.specs.claim.Bounds.{moment_max}
-use Rattle.tb_embed.proofs.Parcels.{halts_at_none, jobs_taken, nothing_held, ticket_taken}
-use Rattle.tb_embed.proofs.EngineRun.{Took, group_serves, packet_serves}
+use Rattle.tb_embed.proofs.Parcels.{halts_at_none, nothing_held, ticket_taken}
+use Rattle.tb_embed.proofs.EngineRun.{Took, packet_serves}
 
 -- what an idle engine is
 record IsIdle (engine : EngineState) : Type 0 where
@@ -68,12 +68,8 @@ module _ (old : EngineState) (submitter number : ℕ) (packet : Packet) (sound :
   is = idle_is old idle
 
   -- the front begins a group with it
-  pub step : take_result begun [] ≡ take_step false old.front submitter (item.Packet job)
+  step : take_result begun [] ≡ take_step false old.front submitter (item.Packet job)
   step = begins old.front job is.empty is.unclosed is.goes
-
-  pub begun_is : (front : FrontState) (parcels : List Parcel) (other : Numbered) → other ≡ job
-      → take_result front parcels ≡ step_of_packet false old.front other → front ≡ begun
-  begun_is front parcels other same is = ap (λ t. t.front) (is ∙ ap (step_of_packet false old.front) same ∙ sym step)
 
   pub released : with_group begun [] ≡ old.front
   released = nothing_held old.front is.empty

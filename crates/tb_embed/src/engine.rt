@@ -603,6 +603,8 @@ impl Engine {
         ensures back { IfErr result (λ back. (back ≡ packet) × (self.new ≡ self.old)) }
     {
         self.ledger.has_few_places();
+        // The law that what a front holds is one group.
+        let _ = self.front.begins_group();
         if self.unread.reserve(1).is_err() {
             return Err(packet);
         }
@@ -612,10 +614,7 @@ impl Engine {
             Ok(job) => job,
             Err((packet, _)) => return Err(packet),
         };
-        match self.front.try_packet(job) {
-            Ok(parcel) => drop(parcel),
-            Err(job) => return Err(job.into_packet()),
-        }
+        self.front.begin(job);
         match commit_held(&mut self.front, &mut self.ledger, &mut self.unread) {
             Ok(()) => {
                 self.numbers[at] = number + 1;
@@ -633,6 +632,7 @@ impl Engine {
     }
 
     /// Removes the next reply and returns it, in the order in which packets were queued; None if there is none.
+    #[inline(always)]
     pub fn reply(&mut self) -> Option<Reply>
         ensures some { IfSome result (λ reply. Reads self.old reply self.new) }
         ensures unread { self.old.unread ≡ option_to_list result ++ self.new.unread }

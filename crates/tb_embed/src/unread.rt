@@ -54,6 +54,7 @@ fn cut(cutter: &mut Option<Cutter>) -> Option<Reply>
 }
 
 /// Returns an outcome's first reply. If the outcome is that of a batch, its cutter replaces one that has no reply left.
+#[inline(always)]
 fn begin(cutter: &mut Option<Cutter>, outcomes: Outcomes) -> Option<Reply>
     requires { replies_of cutter.old ≡ [] }
     ensures replies { replies_in outcomes ≡ option_to_list result ++ replies_of cutter.new }
@@ -70,6 +71,7 @@ fn begin(cutter: &mut Option<Cutter>, outcomes: Outcomes) -> Option<Reply>
 }
 
 /// Returns the first reply of a cutter and of the outcomes after it; None if they have none.
+#[inline(always)]
 fn next_reply(cutter: &mut Option<Cutter>, outcomes: &mut VecDeque<Outcomes>) -> Option<Reply>
     ensures replies { replies_of cutter.old ++ flat_map replies_in outcomes.old.items
         ≡ option_to_list result ++ (replies_of cutter.new ++ flat_map replies_in outcomes.new.items) }
@@ -143,6 +145,7 @@ impl Unread {
     }
 
     /// Removes the next reply and returns it.
+    #[inline(always)]
     pub(crate) fn take(&mut self) -> Option<Reply>
         ensures replies { self.old.replies ≡ option_to_list result ++ self.new.replies }
         ensures none { IfNone result (self.new.replies ≡ []) }

@@ -105,6 +105,17 @@ impl Waiting {
         self.alone.is_none() && self.front.begins_group()
     }
 
+    /// Begins a group with a packet. Takes no memory.
+    #[inline(always)]
+    pub(crate) fn begin(&mut self, job: Job)
+        requires { ((length self.old.held == 0) && not (self.old.closed || self.old.stopped)) ≡ true }
+        ensures { self.new ≡ with_group self.old (job ∷ []) }
+    {
+        // The law that what a front holds is one group.
+        let _ = self.begins_group();
+        self.alone = Some(job);
+    }
+
     /// Takes a packet, and returns the parcel that it yields, as `Front::try_packet` does.
     pub(crate) fn try_packet(&mut self, job: Job) -> Result<Option<Parcel>, Job>
         ensures ok { IfOk result (λ parcel. take_result self.new (option_to_list parcel) ≡ step_of_packet false self.old job) }
@@ -113,7 +124,7 @@ impl Waiting {
         ensures front { IsFront self.old }
     {
         if self.begins_group() {
-            self.alone = Some(job);
+            self.begin(job);
             return Ok(None);
         }
         if begin_group(&mut self.front, &mut self.alone).is_err() {

@@ -1,10 +1,10 @@
-use Rattle.std.proofs.Common.{rules, ◌≡◌, ◌∙◌, refl, sym, ap, subst, arith, ◌<◌, ◌+◌, ◌++◌, [], length, get_or, true, option_to_list}
+use Rattle.std.proofs.Common.{rules, ◌≡◌, ◌∙◌, refl, sym, ap, subst, arith, ◌<◌, ◌+◌, ◌++◌, ◌∷◌, [], length, get_or, true}
 use Rattle.tb_embed.specs.contracts.engine.Engine.{the_view}
 use Rattle.tb_embed.specs.clauses.Engine.{IsEngine}
 use Rattle.tb_embed.specs.clauses.Restoring.{is_idle}
-use Rattle.tb_embed.proofs.Words.{EngineState, FrontState, HasTaken, halts, slice_set, with_group}
+use Rattle.tb_embed.proofs.Words.{EngineState, FrontState, HasTaken, Numbered, halts, slice_set, with_group}
 use Rattle.tb_embed.proofs.EngineRun.{group_serves}
-use Rattle.tb_embed.proofs.Restored.{alone_restores, begun_is, first_is, released, same_engine}
+use Rattle.tb_embed.proofs.Restored.{alone_restores, first_is, released, same_engine}
 use Rattle.tb_embed.proofs.engine.Engine.commit_alone.Goals as goal
 
 pub invariant_of-self-in-Ok-commit_held : goal.invariant_of-self-in-Ok-commit_held
@@ -13,10 +13,9 @@ invariant_of-self-in-Ok-commit_held c =
     let idle = subst (λ e. is_idle e ≡ true) (sym c.self.view_is) c.requires.idle in
     let old = the_view c.self.inside in
     let number = get_or c.self.inside.numbers c.args.submitter 0 in
-    let sound = c.try_packet.ensures.front in
+    let sound = c.begins_group.ensures.front in
     let front : c.commit_held.new.front ≡ c.self.inside.front = c.in-Ok-commit_held.ensures.sealed
-    ∙ ap (λ f. with_group f []) (begun_is old c.args.submitter number c.args.packet sound idle c.try_packet.new.self
-    (option_to_list c.in-Ok-try_packet.parcel) c.in-Ok.job c.in-Ok.ensures.job c.in-Ok-try_packet.ensures.ok)
+    ∙ ap (λ f. with_group f []) (c.begin.ensures ∙ ap (λ (j : Numbered). with_group c.self.inside.front (j ∷ [])) c.in-Ok.ensures.job)
     ∙ released old c.args.submitter number c.args.packet sound idle in
     subst (λ f. IsEngine c.self.inside.limit c.self.inside.submitters f (slice_set c.self.inside.numbers c.args.submitter (number + 1)))
     (sym front) (record {
@@ -34,15 +33,14 @@ returns-in-Ok-commit_held-clause-ok c = rw (← c.self.view_is) (
     let idle = subst (λ e. is_idle e ≡ true) (sym c.self.view_is) c.requires.idle in
     let old = the_view c.self.inside in
     let number = get_or c.self.inside.numbers c.args.submitter 0 in
-    let sound = c.try_packet.ensures.front in
+    let sound = c.begins_group.ensures.front in
     let done = c.in-Ok-commit_held.ensures in
-    let begun = begun_is old c.args.submitter number c.args.packet sound idle c.try_packet.new.self
-    (option_to_list c.in-Ok-try_packet.parcel) c.in-Ok.job c.in-Ok.ensures.job c.in-Ok-try_packet.ensures.ok in
+    let begun = c.begin.ensures ∙ ap (λ (j : Numbered). with_group c.self.inside.front (j ∷ [])) c.in-Ok.ensures.job in
     alone_restores old c.args.submitter number c.args.packet sound idle _
     (subst (λ (e : EngineState). c.args.submitter < e.front.submitters) (sym c.self.view_is) c.requires.among)
     (omega (arith, known.counted, known.among, known.each)) c.has_few_places.ensures refl
     (group_serves _ _ (λ start items read has. done.taken start items read
-    (subst (λ replies. HasTaken start items (read ++ replies) c.try_packet.new.self c.self.inside.ledger) (sym c.reserve.ensures.same)
+    (subst (λ replies. HasTaken start items (read ++ replies) c.begin.new.self c.self.inside.ledger) (sym c.reserve.ensures.same)
     (subst (λ f. HasTaken start items (read ++ c.self.inside.unread.replies) f c.self.inside.ledger) (sym begun) has)))
     (done.sealed ∙ ap (λ f. with_group f []) begun)
     (done.stopped ∙ ap (λ (f : FrontState). halts c.self.inside.ledger (length f.held)) begun) refl refl))
@@ -52,11 +50,10 @@ returns-in-Err-commit_held-clause-back c = rw (← c.self.view_is) (
     let idle = subst (λ e. is_idle e ≡ true) (sym c.self.view_is) c.requires.idle in
     let old = the_view c.self.inside in
     let number = get_or c.self.inside.numbers c.args.submitter 0 in
-    let sound = c.try_packet.ensures.front in
+    let sound = c.begins_group.ensures.front in
     let same = c.in-Err-commit_held.ensures.same in
-    let begun = same.0 ∙ begun_is old c.args.submitter number c.args.packet sound idle c.try_packet.new.self
-    (option_to_list c.in-Ok-try_packet.parcel) c.in-Ok.job c.in-Ok.ensures.job c.in-Ok-try_packet.ensures.ok in (
-      c.into_packet-in-Err-commit_held.ensures ∙ ap (λ j. j.packet) (first_is c.release.result _
+    let begun = same.0 ∙ c.begin.ensures ∙ ap (λ (j : Numbered). with_group c.self.inside.front (j ∷ [])) c.in-Ok.ensures.job in (
+      c.into_packet.ensures ∙ ap (λ j. j.packet) (first_is c.release.result _
           (c.release.ensures.job ∙ ap (λ (f : FrontState). f.held) begun)),
       same_engine old c.release.new.self c.commit_held.new.ledger c.commit_held.new.unread.replies
           (c.release.ensures.left ∙ ap (λ f. with_group f []) begun ∙ released old c.args.submitter number c.args.packet sound idle)
