@@ -10,7 +10,7 @@
  * Proved, of the engine behind a handle, for every sequence of calls: what it committed is a prefix of what was queued
  * ahead of kip_shut, in order; the replies read are a prefix of those due, and each is what the state machine gives that
  * packet alone at its place, however packets were joined. Once kip_flush returned KIP_OK and kip_reply KIP_NO_REPLY they
- * are all of them, and unless the engine stopped, all that was queued ahead of kip_shut is committed. It stops only if 2^63
+ * are all of them (after kip_open_recorded: once all is stored too), and unless the engine stopped, all that was queued ahead of kip_shut is committed. It stops only if 2^63
  * packets and pulses aren't enough. A call that returns another status than KIP_OK leaves the engine as it was: after
  * KIP_NO_MEMORY it can be made again. A handle may move from one thread to another. Only tested: KIP_NO_MEMORY comes only if
  * an allocation failed, and KIP_BUSY.
@@ -103,7 +103,7 @@ typedef enum KIP_STATUS {
     KIP_MOMENT_TOO_LARGE = 12,
     KIP_CLOSED = 100,
     KIP_ALREADY_OPEN = 101,
-    KIP_NO_REPLY = 102, /* all are read, or none is there: packets that wait have none before kip_flush */
+    KIP_NO_REPLY = 102, /* all are read, or none is there: packets that wait have none before kip_flush, and see kip_durable */
     KIP_TOO_SMALL = 103,
     KIP_NOT_FOUND = 104,
     KIP_NULL_POINTER = 105, /* null data or results of a size above 0 */
@@ -298,14 +298,14 @@ KIP_CHECKED
 uint32_t kip_entry_bytes(kip_t *kip, kip_entry_t *entry, void *data, size_t data_size);
 
 /* Notes that all entries at places below a number are stored, so that a crash can't lose them: then their replies can be read. The number
- * is kip_places once all entries were handed out and stored. A lower number than before changes nothing. Nothing checks that the host
- * has stored them. Statuses: KIP_CLOSED, KIP_NOT_RECORDED, KIP_NOT_HANDED_OUT. */
+ * is at most the place of the next entry, or kip_places if all were handed out. A lower number than before changes nothing. Nothing checks
+ * that the host has stored them. Statuses: KIP_CLOSED, KIP_NOT_RECORDED, KIP_NOT_HANDED_OUT. */
 KIP_CHECKED
 uint32_t kip_durable(kip_t *kip, uint64_t places);
 
 /* Commits an entry again, by itself and at the next place. Its reply isn't given, its packet gets its old number, and it isn't handed out.
  * Entries are restored in the order of places, while no packet waits and no reply is unread: so a handle's own packets come after them.
- * The handle may be one of kip_open too. Statuses: KIP_CLOSED, KIP_INVALID_DATA_SIZE if the entry has another size
+ * A pulse's submitter and number aren't read, nor a packet's moment. The handle may be one of kip_open too. Statuses: KIP_CLOSED, KIP_INVALID_DATA_SIZE if the entry has another size
  * than the data, KIP_IN_USE, those of kip_submit_bytes or kip_pulse, KIP_NOT_NEXT, KIP_NO_MEMORY; KIP_NO_MEMORY may also come ahead of those
  * after KIP_INVALID_DATA_SIZE. kip_restore, below, also takes null data of size 0, and returns KIP_NULL_POINTER for null data of another
  * size. */
