@@ -212,9 +212,18 @@ fn restored(from: &mut RecordedEngine, to: &mut RecordedEngine, alloc: Global) -
     from.hand_packet().is_ok() && to.restore_packet(alloc, entry).is_ok()
 }
 
-/// Restores all that was committed.
-fn restore_all(from: &mut RecordedEngine, to: &mut RecordedEngine, alloc: Global) -> bool {
-    while restored(from, to, alloc) {}
+/// Restores this number of entries, after which none is left.
+fn restore_all(
+    from: &mut RecordedEngine,
+    to: &mut RecordedEngine,
+    alloc: Global,
+    count: usize,
+) -> bool {
+    for _ in 0..count {
+        if !restored(from, to, alloc) {
+            return false;
+        }
+    }
     from.next_packet().is_none() && from.next_pulse().is_none()
 }
 
@@ -255,7 +264,10 @@ fn assert_posted(rt: &impl Abort, engine: &Engine, count: u32) {
         .lookup_account(7)
         .map(|account| account.debits_posted);
     must(rt, debits == Some(u128::from(count)));
-    must(rt, engine.places() == u64::from(1 + count + count / 1000));
+    must(
+        rt,
+        engine.places() == u64::from(count) + 1 + u64::from(count / 1000),
+    );
     must(rt, engine.counts().transfers == count as usize);
     must(rt, engine.clock() == u64::from(count) * 1_000_000);
 }
@@ -266,7 +278,10 @@ fn twenty_thousand_packets_restored(rt: HostRuntime) {
     let mut first = opened(&rt, 16, true);
     must(&rt, post_all(&mut first, rt.alloc(), 20_000));
     let mut second = opened(&rt, 16, true);
-    must(&rt, restore_all(&mut first, &mut second, rt.alloc()));
+    must(
+        &rt,
+        restore_all(&mut first, &mut second, rt.alloc(), 20_021),
+    );
     assert_posted(&rt, first.engine(), 20_000);
     assert_posted(&rt, second.engine(), 20_000);
     must(&rt, second.engine().next_number(15) == 1250);
