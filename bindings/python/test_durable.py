@@ -261,6 +261,46 @@ class Committing(InFolder):
         with DurableClient(self.path) as client:
             self.assertEqual(sorted(it.id for it in client.accounts()), list(range(1, 201)))
 
+    def test_a_close_among_calls_of_other_threads_loses_none_that_returned(self):
+        # (16 threads make accounts until the client is closed, by two of them at once)
+        for pause in 0, 0.001, 0.01, 0.05:
+            with self.subTest(pause=pause):
+                self.close_among_calls(pathlib.Path(f"{self.path}.{pause}"), pause)
+
+    def close_among_calls(self, path, pause):
+        client, made, ends, closed = DurableClient(path), [], [], []
+
+        def until_closed(call, done):
+            try:
+                call()
+            except KipError as why:
+                done.append(why.name)
+            except BaseException as why:
+                done.append(why)
+            else:
+                done.append("returned")
+
+        def make(first):
+            for id in range(first, first + 10_000):
+                client.create_accounts([Account(id=id, ledger=1, code=1)])
+                made.append(id)
+
+        def close():
+            time.sleep(pause)
+            client.close()
+
+        threads = [threading.Thread(target=until_closed, args=(lambda first=1 + 10_000 * it: make(first), ends)) for it in range(16)]
+        threads += [threading.Thread(target=until_closed, args=(close, closed)) for _ in range(2)]
+        for thread in threads:
+            thread.start()
+        for thread in threads:
+            thread.join()
+        self.assertEqual((sorted(closed), ends), (["closed", "returned"], 16 * ["closed"]))
+        with DurableClient(path) as client:
+            found = {it.id for it in client.accounts()}
+            self.assertLessEqual(set(made), found)
+            self.assertLessEqual(len(found - set(made)), 16)  # (each thread had one call that didn't return)
+
     def test_a_client_that_refused_a_call_is_freed_with_its_last_name(self):
         client = DurableClient(self.path)
         with contextlib.suppress(KipError):  # (assertRaises would clear the frames of the error)

@@ -1,6 +1,7 @@
-//! Four applications on the pipeline, each in a file that can be read by itself.
+//! Applications on the pipeline, each in a file that can be read by itself.
 //!
 //!     examples [NAME]
+//!     examples service FILE [PAYMENTS]
 //!
 //! - `two_tellers` runs two drivers, each in a thread of its own: `Options::open`, `drive_all`.
 //! - `own_threads` does without drivers, in threads of the application's own: `open`, `Client`, `serve`, `settle`.
@@ -10,13 +11,17 @@
 //! `examples two_tellers` runs one of them, and `examples` all four in this order, each after a line with its name. The status
 //! is 0 if nothing failed. It is 1 for other arguments, and then nothing is run. It is 2 as soon as an example fails, and then
 //! no later one is run. An example fails if memory runs out or a thread can't be started.
+//!
+//! `examples service` is a service over a ledger in a file, which can be killed at any time and run again (`service.rt`).
 #![tactic(auto)]
 
 mod days;
 mod own_threads;
 mod payments;
+mod service;
 mod two_tellers;
 
+use crate::service::{Service, run_service};
 use std::alloc::Global;
 use std::env;
 use std::env::Args;
@@ -64,10 +69,11 @@ impl Example {
 }
 
 /// What the arguments ask for.
-#[derive(Clone, Copy)]
+#[derive(Drop)]
 enum Asked {
     One(Example),
     All,
+    Service(Service),
 }
 
 /// Returns what the arguments ask for; the first of them is the program's name.
@@ -77,6 +83,9 @@ fn asked_by(words: Args) -> Option<Asked> {
     let Some(name) = words.next() else {
         return Some(Asked::All);
     };
+    if name.as_str() == "service" {
+        return Service::asked_by(words).map(Asked::Service);
+    }
     if words.next().is_some() {
         return None;
     }
@@ -98,8 +107,11 @@ fn main(rt: HostRuntime) -> ExitCode {
     let shown = match env::args(&rt).ok().and_then(asked_by) {
         Some(Asked::One(example)) => example.show(&rt, rt.alloc()),
         Some(Asked::All) => show_all(&rt, rt.alloc()),
+        Some(Asked::Service(service)) => return run_service(&rt, &rt, &service),
         None => {
-            let _ = eprintln!(rt; "usage: examples [two_tellers | own_threads | days | payments]");
+            let _ = eprintln!(rt;
+                "usage: examples [two_tellers | own_threads | days | payments | service FILE [PAYMENTS]]"
+            );
             return ExitCode::from(1);
         }
     };

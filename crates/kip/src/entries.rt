@@ -4,13 +4,13 @@ ghost use Rattle.std.specs.Prelude.{◌≡◌, ◌<◌, Some, None, true, IfOk, 
 ghost use Rattle.tb_embed.specs.clauses.Recorded.{ChangesEngine, recorded_packet_fault, recorded_pulse_fault};
 ghost use Rattle.tb_embed.specs.clauses.Restoring.{IsFault, RestoresPulse, RestoresUnseen};
 ghost use Rattle.kip.specs.clauses.Entries.{IsFaultOrMemory, IsHandingOut, IsPacketStatus, IsRestoring, IsStoring, fault_number, if_empty, packet_entry, placed_packet, placed_pulse, pulse_entry};
-ghost use Rattle.kip.specs.clauses.Results.{AreWritten, place_of};
+ghost use Rattle.kip.specs.clauses.Results.{AreWritten};
 
 use crate::calls::packet_of;
-use crate::reading::put_bytes;
+use crate::reading::{head_of, put_bytes};
 use std::alloc::{AllocError, Global};
 use tb_embed::{PlacedPacket, PlacedPulse, RecordedEngine, RestoreFault};
-use tb_work::{Outcome, Refusal, Reply};
+use tb_work::{Refusal, Reply};
 
 /// What a pulse has for an operation.
 const PULSE: u32 = 0;
@@ -24,7 +24,7 @@ const NO_ENTRY: u32 = 107;
 /// An entry isn't the next by its place, or by its number among its submitter's.
 const NOT_NEXT: u32 = 108;
 
-/// The engine holds a packet, has an unread reply, or is shut.
+/// The engine holds a packet, has an unread reply or is shut, or something is still to be stored.
 const IN_USE: u32 = 109;
 
 /// The host doesn't keep the journal.
@@ -62,25 +62,17 @@ fn entry_of_pulse(pulse: PlacedPulse) -> KipEntry
     }
 }
 
-fn place_of(outcome: &Outcome) -> u64
-    ensures { result ≡ place_of outcome.now }
-{
-    match outcome {
-        Outcome::Committed { place, .. } => *place,
-        Outcome::Shutdown | Outcome::Stopped => 0,
-    }
-}
-
 fn entry_of_packet(reply: &Reply) -> KipEntry
     ensures { result ≡ packet_entry reply.now }
 {
+    let head = head_of(reply);
     KipEntry {
-        place: place_of(&reply.outcome),
+        place: head.place,
         moment: 0,
-        number: reply.number,
+        number: head.number,
         size: reply.packet.bytes.as_slice().len() as u64,
-        submitter: reply.submitter,
-        operation: u32::from(reply.packet.operation),
+        submitter: head.submitter,
+        operation: head.operation,
     }
 }
 

@@ -1,5 +1,5 @@
 -- A packet that is committed by itself while nothing is held.
-use Rattle.std.proofs.Common.{◌≡◌, if◌then◌else◌, nat_lt, None, Some, Option, IfSome, IfNone, refl, sym, ap, ◌∙◌, subst, arith, ℕ, ◌+◌, ◌<◌, ◌≤◌, Bool, true, false, ◌&&◌, ◌||◌, List, [], ◌∷◌, ◌++◌, length, get_or, append-nil}
+use Rattle.std.proofs.Common.{◌≡◌, if◌then◌else◌, nat_lt, None, Some, Option, IfSome, IfNone, refl, sym, ap, ◌∙◌, subst, arith, ℕ, ◌+◌, ◌<◌, ◌≤◌, Bool, true, false, ◌&&◌, ◌||◌, List, [], ◌∷◌, ◌++◌, length, get_or, append-nil, ◌-◌, ◌^◌}
 use Rattle.tb_embed.proofs.Words.{◌==◌, not, nat_tests, slice_set, places_max, Numbered, Ticket, Packet, ReplyValue, FrontState, IsFront, group_as_batch, take_result, take_step, with_group, Pulse, Decision, BareLedgerState, HasSent, halts, EngineState, Continues, Queues, Serves, packet_ticket, ticket_of, places_in}
 use Rattle.tb_batch.specs.claim.Grouping.{is_taken}
 use Rattle.tb_core.specs.claim.Front.{step_of_packet}
@@ -7,7 +7,7 @@ use Rattle.tb_work.specs.claim.Job.{numbered_packet}
 use Rattle.tb_work.specs.declared.item.Item.TheVariants as item
 use Rattle.tb_work.specs.declared.refusal.Refusal.{Refusal}
 use Rattle.tb_embed.specs.clauses.Engine.{Reads, has_stopped, pulse_refusal, submit_refusal}
-use Rattle.tb_embed.specs.clauses.Restoring.{RestoresPacket, RestoresTicket, RestoresUnseen, fault_of, is_idle, packet_fault}
+use Rattle.tb_embed.specs.clauses.Restoring.{RestoresPacket, RestoresTicket, RestoresUnseen, fault_of, is_idle, is_next_place, packet_fault}
 use Rattle.tb_embed.specs.declared.restoring.PlacedPacket.{PlacedPacket}
 use Rattle.tb_embed.specs.declared.restoring.RestoreFault.TheVariants.{InUse}
 use Rattle.tb_work.specs.declared.refusal.Refusal.TheVariants.{MomentTooLarge, Shutdown, Stopped}
@@ -33,6 +33,10 @@ idle_is engine is = record {
   goes = grind (arith, is);
   unread = none_of engine.unread (grind (arith, is));
 }
+
+-- one packet or pulse more doesn't stop a ledger that has a place left
+goes_on : (ledger : BareLedgerState) → ledger.places < places_max → ledger.stopped ≡ false → halts ledger 1 ≡ false
+goes_on ledger room on = grind (arith, nat_tests, room, on)
 
 -- one of two that are the same, unless one of two conditions holds
 module _ {X : Type 0} (a b : X) where
@@ -88,14 +92,15 @@ module _ (old : EngineState) (submitter number : ℕ) (packet : Packet) (sound :
 
   -- it is committed
   pub alone_restores : (new : EngineState) → submitter < old.front.submitters → old.front.submitters ≤ length old.numbers
-      → old.ledger.places ≤ places_max → get_or old.numbers submitter 0 ≡ number
+      → old.ledger.places < places_max → has_stopped old ≡ false → get_or old.numbers submitter 0 ≡ number
       → Continues (record old { front = begun; numbers = numbers }) new → RestoresTicket old ticket new
-  alone_restores new among long few next committed =
+  alone_restores new among long room on next committed =
       let queued : Queues old ticket (record old { front = begun; numbers = numbers }) =
-      packet_serves submitter number packet next (took (omega (arith, among)) few) among long in
+      packet_serves submitter number packet next (took (omega (arith, among)) (omega (arith, room))) among long in
       record {
         adds = λ start queue read serves. committed.adds start (queue ++ ticket ∷ []) read (queued.adds start queue read serves);
         held = ap (λ (front : FrontState). front.held) committed.seals;
+        goes = committed.stopped ∙ goes_on old.ledger room on;
       }
 
 -- it is taken out again
@@ -118,12 +123,14 @@ unseen old middle new entry None restores some none = subst (RestoresUnseen old 
   adds = λ start queue read serves. subst (λ read. Serves start (queue ++ packet_ticket entry.submitter entry.number entry.packet ∷ []) read middle)
       (sym (append-nil read)) (restores.adds start queue read serves);
   held = restores.held;
+  goes = restores.goes;
 })
 unseen old middle new entry (Some reply) restores some none = record {
   replies = reply ∷ [];
   adds = λ start queue read serves. some.adds start (queue ++ packet_ticket entry.submitter entry.number entry.packet ∷ []) read
       (restores.adds start queue read serves);
   held = ap (λ (front : FrontState). front.held) some.stays ∙ restores.held;
+  goes = ap (λ (ledger : BareLedgerState). ledger.stopped) some.same ∙ restores.goes;
 }
 
 -- ---- why an entry isn't restored
@@ -131,7 +138,7 @@ unseen old middle new entry (Some reply) restores some none = record {
 -- of an idle engine
 pub packet_fault_is : (engine : EngineState) (entry : PlacedPacket) (refused : Option Refusal) (is_next : Bool) → is_idle engine ≡ true
     → submit_refusal engine entry.submitter entry.packet ≡ refused
-    → ((entry.place == engine.ledger.places) && (entry.number == get_or engine.numbers entry.submitter 0)) ≡ is_next
+    → (is_next_place engine entry.place && (entry.number == get_or engine.numbers entry.submitter 0)) ≡ is_next
     → packet_fault engine entry ≡ fault_of refused is_next
 packet_fault_is engine entry refused is_next idle refusal next = rw (idle, refusal, next) refl
 
@@ -142,12 +149,37 @@ no_fault true None false none = cc
 no_fault true (Some refusal) is_next none = cc
 no_fault false refused is_next none = cc
 
--- without a fault it has its submitter's next number
+no_refusal : (idle : Bool) (refused : Option Refusal) (is_next : Bool)
+    → (if not idle then Some InUse else fault_of refused is_next) ≡ None → refused ≡ None
+no_refusal true None is_next none = refl
+no_refusal true (Some refusal) is_next none = cc
+no_refusal false refused is_next none = cc
+
+-- there is a next place
+pub has_place : (engine : EngineState) (place : ℕ) → is_next_place engine place ≡ true → engine.ledger.places < places_max
+has_place engine place is = grind (arith, nat_tests, is)
+
+-- without a fault there is one, and nothing has stopped
+pub can_go_on : (engine : EngineState) (entry : PlacedPacket) → packet_fault engine entry ≡ None
+    → (engine.ledger.places < places_max) × (has_stopped engine ≡ false)
+can_go_on engine entry none =
+    let is_next = no_fault (is_idle engine) (submit_refusal engine entry.submitter entry.packet) _ none in
+    let refused = no_refusal (is_idle engine) (submit_refusal engine entry.submitter entry.packet) _ none in
+    (has_place engine entry.place (grind (arith, is_next)), grind (arith, refused))
+
+-- and the packet has its submitter's next number
 pub has_next_number : (engine : EngineState) (entry : PlacedPacket) → packet_fault engine entry ≡ None
     → get_or engine.numbers entry.submitter 0 ≡ entry.number
 has_next_number engine entry none =
     let is_next = no_fault (is_idle engine) (submit_refusal engine entry.submitter entry.packet) _ none in
     grind (arith, nat_tests, is_next)
+
+-- and its submitter has a number left
+pub has_number : (engine : EngineState) (entry : PlacedPacket) → packet_fault engine entry ≡ None
+    → (get_or engine.numbers entry.submitter 0 == 2 ^ 64 - 1) ≡ false
+has_number engine entry none =
+    let refused = no_refusal (is_idle engine) (submit_refusal engine entry.submitter entry.packet) _ none in
+    grind (arith, refused)
 
 pub open_if_not_refused : (engine : EngineState) (moment : ℕ) → pulse_refusal engine moment ≡ None → engine.shut ≡ false
 open_if_not_refused engine moment none = by (nat_lt moment_max moment) engine.shut (has_stopped engine) none
@@ -161,16 +193,23 @@ open_if_not_refused engine moment none = by (nat_lt moment_max moment) engine.sh
 -- ---- a pulse
 
 pub pulse_restores : (old : EngineState) (moment : ℕ) (new : EngineState) → is_idle old ≡ true
+    → old.ledger.places < places_max → has_stopped old ≡ false
     → Queues old (ticket_of old.front.submitters (item.Pulse moment)) new
     → RestoresTicket old (ticket_of old.front.submitters (item.Pulse moment)) new
-pulse_restores old moment new idle queues =
+pulse_restores old moment new idle room on queues =
     let is = idle_is old idle in
     record {
       adds = queues.adds;
       held = ap (λ (front : FrontState). front.held) queues.steps ∙ sealed (old.front.closed || old.front.stopped) is.empty;
+      goes = queues.stopped ∙ ap (halts old.ledger) (once (old.front.closed || old.front.stopped) (rw (is.unclosed, is.goes) refl) is.empty)
+          ∙ goes_on old.ledger room on;
     }
   where
     sealed : (clear : Bool) → old.front.held ≡ [] → (if clear then take_result old.front []
         else take_result (with_group old.front []) (group_as_batch old.front.held ++ Pulse moment ∷ [])).front.held ≡ []
     sealed true empty = empty
     sealed false empty = refl
+    once : (clear : Bool) → clear ≡ false → old.front.held ≡ [] → places_in (if clear then take_result old.front []
+        else take_result (with_group old.front []) (group_as_batch old.front.held ++ Pulse moment ∷ [])).parcels ≡ 1
+    once true open_yet empty = cc
+    once false open_yet empty = ap (λ held. places_in (group_as_batch held ++ Pulse moment ∷ [])) empty

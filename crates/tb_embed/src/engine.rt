@@ -3,6 +3,7 @@
 ghost use Rattle.std.specs.Prelude.{◌≡◌, ◌<◌, ◌≤◌, ◌+◌, ◌-◌, ◌^◌, ◌++◌, ◌∷◌, [], ℕ, List, Some, None, true, false, ◌||◌, length, map, IfOk, IfErr, OnOk, OnErr, IfSome, IfNone, option_to_list, get_or, slice_get, slice_set};
 ghost use Rattle.std.specs.Option.{option_copied};
 ghost use Rattle.std.specs.List.{flat_map};
+ghost use Rattle.tb_layout.specs.claim.Bounds.{places_max};
 ghost use Rattle.tb_layout.specs.claim.Limits.{clock_max};
 ghost use Rattle.tb_tables.specs.clauses.Counts.{counts_of};
 ghost use Rattle.tb_tables.specs.claim.Facts.{transfer_with};
@@ -598,6 +599,8 @@ impl Engine {
         requires idle { is_idle self.old ≡ true }
         requires among { submitter < self.old.front.submitters }
         requires more { get_or self.old.numbers submitter 0 < 2 ^ 64 - 1 }
+        requires place { self.old.ledger.places < places_max }
+        requires goes { has_stopped self.old ≡ false }
         ensures ok { OnOk result (RestoresTicket self.old
             (packet_ticket submitter (get_or self.old.numbers submitter 0) packet) self.new) }
         ensures back { IfErr result (λ back. (back ≡ packet) × (self.new ≡ self.old)) }

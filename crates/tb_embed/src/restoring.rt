@@ -1,10 +1,11 @@
 //! What a host restores of the journal that it keeps.
 
 ghost use Rattle.std.specs.Prelude.{◌≡◌, IfOk, IfErr, OnOk, OnErr, None};
-ghost use Rattle.tb_embed.specs.clauses.Restoring.{IsFault, RestoresPacket, RestoresPulse, packet_fault, pulse_fault};
+ghost use Rattle.tb_embed.specs.clauses.Restoring.{IsFault, RestoresPacket, RestoresPulse, is_next_place, packet_fault, pulse_fault};
 
 use crate::engine::Engine;
 use std::alloc::Global;
+use tb_layout::PLACES_MAX;
 use tb_work::{Packet, Refusal};
 
 /// A packet of a journal: its place, and its number among its submitter's packets.
@@ -28,13 +29,20 @@ pub struct PlacedPulse {
 pub enum RestoreFault {
     /// The engine holds a packet, has an unread reply, or is shut.
     InUse,
-    /// Its place isn't the next one, or its number isn't its submitter's next.
+    /// Its place isn't the next one, or its number isn't its submitter's next. No place is next once `PLACES_MAX` are used.
     NotNext,
     /// The engine refuses it, as it refuses a packet or pulse that is queued.
     Refused(Refusal),
 }
 
 impl Engine {
+    /// Returns whether a place is the next one, and not past the last.
+    fn is_next_place(&self, place: u64) -> bool
+        ensures { result ≡ is_next_place self.now place }
+    {
+        place == self.places() && place < PLACES_MAX
+    }
+
     /// Returns why a packet isn't restored if memory is there; None if it is.
     fn packet_fault(&self, entry: &PlacedPacket) -> Option<RestoreFault>
         ensures { result ≡ packet_fault self.now entry.now }
@@ -50,7 +58,7 @@ impl Engine {
         ) {
             return Some(RestoreFault::Refused(refusal));
         }
-        if entry.place == self.places() && entry.number == self.next_number(entry.submitter) {
+        if self.is_next_place(entry.place) && entry.number == self.next_number(entry.submitter) {
             return None;
         }
         Some(RestoreFault::NotNext)
@@ -113,7 +121,7 @@ impl Engine {
         if let Some(refusal) = self.refusal_of_pulse(entry.moment) {
             return Err(RestoreFault::Refused(refusal));
         }
-        if entry.place != self.places() {
+        if !self.is_next_place(entry.place) {
             return Err(RestoreFault::NotNext);
         }
         match self.pulse(entry.moment) {

@@ -3,7 +3,7 @@ use Rattle.std.specs.Prelude.{◌≡◌, ◌<◌, ◌⊎◌, ◌==◌, ℕ, Bool
 use Rattle.tb_work.specs.claim.Packet.{ReplyValue}
 use Rattle.tb_work.specs.clauses.Refusal.{number_of}
 use Rattle.tb_work.specs.declared.refusal.Refusal.TheVariants.{InvalidDataSize, NoMemory}
-use Rattle.tb_embed.specs.clauses.Recorded.{ChangesEngine, HandsPacket, RecordedState, handed_places, next_packet, next_pulse, recorded_packet_fault as packet_fault, recorded_pulse_fault as pulse_fault, with_durable}
+use Rattle.tb_embed.specs.clauses.Recorded.{ChangesEngine, HandsPacket, RecordedState, handed_places, next_packet, next_pulse, place_in, recorded_packet_fault as packet_fault, recorded_pulse_fault as pulse_fault, with_durable}
 use Rattle.tb_embed.specs.clauses.Engine.{EngineState}
 use Rattle.tb_embed.specs.clauses.Restoring.{RestoresPulse, RestoresUnseen}
 use Rattle.tb_embed.specs.declared.restoring.PlacedPacket.{PlacedPacket}
@@ -12,7 +12,7 @@ use Rattle.tb_embed.specs.declared.restoring.RestoreFault.{RestoreFault}
 use Rattle.tb_embed.specs.declared.restoring.RestoreFault.TheVariants.{InUse, NotNext, Refused}
 use Rattle.kip.specs.declared.entries.KipEntry.{KipEntry}
 use Rattle.kip.specs.clauses.Handle.{closed, in_use, no_entry, not_handed_out, not_next, not_recorded, too_small}
-use Rattle.kip.specs.clauses.Results.{AreWritten, place_of}
+use Rattle.kip.specs.clauses.Results.{AreWritten}
 
 -- ---- what is handed out
 
@@ -24,7 +24,7 @@ pulse_entry pulse =
 -- the entry of a packet, whose data are its events
 abbrev pub packet_entry : ReplyValue → KipEntry
 packet_entry reply = record {
-  place = place_of reply.outcome;
+  place = place_in reply.outcome;
   moment = 0;
   number = reply.packet.number;
   size = length reply.packet.packet.bytes;

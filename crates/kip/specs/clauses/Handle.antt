@@ -69,7 +69,7 @@ no_entry = 107
 abbrev pub not_next : ℕ
 not_next = 108
 
--- the engine holds a packet, has an unread reply, or is shut
+-- the engine holds a packet, has an unread reply or is shut, or something is still to be stored
 abbrev pub in_use : ℕ
 in_use = 109
 

@@ -8,6 +8,7 @@ use Rattle.tb_layout.specs.declared.answer.Answer.TheVariants.{Failures, Account
 use Rattle.tb_work.specs.claim.Packet.{ReplyValue}
 use Rattle.tb_work.specs.declared.outcome.Outcome.{Outcome}
 use Rattle.tb_work.specs.declared.outcome.Outcome.TheVariants.{Committed, Shutdown, Stopped}
+use Rattle.tb_embed.specs.clauses.Recorded.{place_in}
 use Rattle.kip.specs.declared.reading.KipReply.{KipReply}
 
 -- the bytes of an answer: 8 for each failure, or 128 for each account
@@ -37,10 +38,6 @@ number_of_outcome (Committed place answer) = 0
 number_of_outcome Shutdown = 7
 number_of_outcome Stopped = 8
 
-abbrev pub place_of : Outcome → ℕ
-place_of (Committed place answer) = place
-place_of other = 0
-
 -- the head describes this reply
 pub record IsHeadOf (head : KipReply) (reply : ReplyValue) : Type 0 where
   pub submitter : head.submitter ≡ reply.packet.submitter
@@ -48,5 +45,5 @@ pub record IsHeadOf (head : KipReply) (reply : ReplyValue) : Type 0 where
   pub operation : head.operation ≡ reply.packet.packet.operation
   pub user : head.user_data ≡ reply.packet.packet.user
   pub outcome : head.outcome ≡ number_of_outcome reply.outcome
-  pub place : head.place ≡ place_of reply.outcome
+  pub place : head.place ≡ place_in reply.outcome
   pub size : head.size ≡ result_size reply.outcome

@@ -1,12 +1,13 @@
 -- What a host restores of the journal that it keeps: packets and pulses, each at its place.
-use Rattle.std.specs.Prelude.{◌≡◌, ◌⊎◌, ◌==◌, ◌&&◌, ◌||◌, Bool, not, List, [], ◌∷◌, ◌++◌, length, get_or, Option, Some, None, if◌then◌else◌}
+use Rattle.std.specs.Prelude.{◌≡◌, ◌⊎◌, ◌==◌, ◌&&◌, ◌||◌, ℕ, Bool, false, not, nat_lt, List, [], ◌∷◌, ◌++◌, length, get_or, Option, Some, None, if◌then◌else◌}
+use Rattle.tb_layout.specs.claim.Bounds.{places_max}
 use Rattle.tb_work.specs.claim.Packet.{ReplyValue}
 use Rattle.tb_work.specs.declared.item.Item.TheVariants as item
 use Rattle.tb_work.specs.declared.item.Ticket.{Ticket}
 use Rattle.tb_work.specs.declared.refusal.Refusal.{Refusal}
 use Rattle.tb_work.specs.declared.refusal.Refusal.TheVariants.{NoMemory}
 use Rattle.tb_core.specs.claim.Journal.{LedgerState}
-use Rattle.tb_embed.specs.clauses.Engine.{EngineState, Serves, pulse_refusal, submit_refusal}
+use Rattle.tb_embed.specs.clauses.Engine.{EngineState, Serves, has_stopped, pulse_refusal, submit_refusal}
 use Rattle.tb_embed.specs.clauses.Queued.{packet_ticket, ticket_of}
 use Rattle.tb_embed.specs.declared.restoring.PlacedPacket.{PlacedPacket}
 use Rattle.tb_embed.specs.declared.restoring.PlacedPulse.{PlacedPulse}
@@ -22,28 +23,33 @@ abbrev pub fault_of : Option Refusal → Bool → Option RestoreFault
 fault_of (Some refusal) is_next = Some (Refused refusal)
 fault_of None is_next = if is_next then None else Some NotNext
 
+-- whether a place is the next one, and not past the last
+abbrev pub is_next_place : EngineState → ℕ → Bool
+is_next_place engine place = (place == engine.ledger.places) && nat_lt place places_max
+
 -- why a packet isn't restored, if memory is there: it must be the next by its place, and by its number among its submitter's
 abbrev pub packet_fault : EngineState → PlacedPacket → Option RestoreFault
 packet_fault engine entry =
     if not (is_idle engine) then Some InUse
     else fault_of (submit_refusal engine entry.submitter entry.packet)
-    ((entry.place == engine.ledger.places) && (entry.number == get_or engine.numbers entry.submitter 0))
+    (is_next_place engine entry.place && (entry.number == get_or engine.numbers entry.submitter 0))
 
 -- why a pulse isn't
 abbrev pub pulse_fault : EngineState → PlacedPulse → Option RestoreFault
 pulse_fault engine entry =
     if not (is_idle engine) then Some InUse
-    else fault_of (pulse_refusal engine entry.moment) (entry.place == engine.ledger.places)
+    else fault_of (pulse_refusal engine entry.moment) (is_next_place engine entry.place)
 
 -- the first fault that applies, else that memory ran out
 abbrev pub IsFault : Option RestoreFault → RestoreFault → Type 0
 IsFault first fault = (first ≡ Some fault) ⊎ ((first ≡ None) × (fault ≡ Refused NoMemory))
 
--- The call added this ticket to what was queued, and nothing is held: it is committed, unless no place is left. Its reply is unread.
+-- The call added this ticket to what was queued. Nothing is held and nothing has stopped, so it is committed. Its reply is unread.
 pub record RestoresTicket (old : EngineState) (ticket : Ticket) (new : EngineState) : Type 0 where
   pub adds : (start : LedgerState) (queue : List Ticket) (read : List ReplyValue) → Serves start queue read old
       → Serves start (queue ++ ticket ∷ []) read new
   pub held : new.front.held ≡ []
+  pub goes : has_stopped new ≡ false
 
 abbrev pub RestoresPacket : EngineState → PlacedPacket → EngineState → Type 0
 RestoresPacket old entry new = RestoresTicket old (packet_ticket entry.submitter entry.number entry.packet) new
@@ -57,3 +63,4 @@ pub record RestoresUnseen (old : EngineState) (entry : PlacedPacket) (new : Engi
   pub adds : (start : LedgerState) (queue : List Ticket) (read : List ReplyValue) → Serves start queue read old
       → Serves start (queue ++ packet_ticket entry.submitter entry.number entry.packet ∷ []) (read ++ replies) new
   pub held : new.front.held ≡ []
+  pub goes : has_stopped new ≡ false

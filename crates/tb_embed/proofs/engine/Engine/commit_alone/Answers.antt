@@ -1,8 +1,8 @@
-use Rattle.std.proofs.Common.{rules, ◌≡◌, ◌∙◌, refl, sym, ap, subst, arith, ◌<◌, ◌+◌, ◌++◌, ◌∷◌, [], length, get_or, true}
+use Rattle.std.proofs.Common.{rules, ◌≡◌, ◌∙◌, refl, sym, ap, subst, arith, ◌<◌, ◌+◌, ◌++◌, ◌∷◌, [], length, get_or, true, false}
 use Rattle.tb_embed.specs.contracts.engine.Engine.{the_view}
 use Rattle.tb_embed.specs.clauses.Engine.{IsEngine}
 use Rattle.tb_embed.specs.clauses.Restoring.{is_idle}
-use Rattle.tb_embed.proofs.Words.{EngineState, FrontState, HasTaken, Numbered, halts, slice_set, with_group}
+use Rattle.tb_embed.proofs.Words.{EngineState, FrontState, HasTaken, Numbered, halts, places_max, slice_set, with_group}
 use Rattle.tb_embed.proofs.EngineRun.{group_serves}
 use Rattle.tb_embed.proofs.Restored.{alone_restores, first_is, released, same_engine}
 use Rattle.tb_embed.proofs.engine.Engine.commit_alone.Goals as goal
@@ -38,7 +38,9 @@ returns-in-Ok-commit_held-clause-ok c = rw (← c.self.view_is) (
     let begun = c.begin.ensures ∙ ap (λ (j : Numbered). with_group c.self.inside.front (j ∷ [])) c.in-Ok.ensures.job in
     alone_restores old c.args.submitter number c.args.packet sound idle _
     (subst (λ (e : EngineState). c.args.submitter < e.front.submitters) (sym c.self.view_is) c.requires.among)
-    (omega (arith, known.counted, known.among, known.each)) c.has_few_places.ensures refl
+    (omega (arith, known.counted, known.among, known.each))
+    (subst (λ (e : EngineState). e.ledger.places < places_max) (sym c.self.view_is) c.requires.place)
+    (subst (λ (e : EngineState). e.ledger.stopped ≡ false) (sym c.self.view_is) c.requires.goes) refl
     (group_serves _ _ (λ start items read has. done.taken start items read
     (subst (λ replies. HasTaken start items (read ++ replies) c.begin.new.self c.self.inside.ledger) (sym c.reserve.ensures.same)
     (subst (λ f. HasTaken start items (read ++ c.self.inside.unread.replies) f c.self.inside.ledger) (sym begun) has)))

@@ -1,6 +1,6 @@
 //! A till: the driver of one submitter.
 
-use crate::payments::{PacketResult, TillAccounts, is_transient, result_of};
+use crate::service::packets::{PacketResult, TillAccounts, is_transient, result_of};
 use std::alloc::Global;
 use std::sync::Wait;
 use std::time::{Duration, Instant};

@@ -1,6 +1,6 @@
 //! A payment service whose ledger is in a file, so that it outlives the process.
 //!
-//!     example_service FILE [PAYMENTS]
+//!     examples service FILE [PAYMENTS]
 //!
 //! Four tills post payments through one pipeline, each from a thread of its own. Each payment moves 1 from a till's wallet to its shop.
 //! A wallet can't pay more than it has, and is topped up every 50 milliseconds. A payment that fails meanwhile is tried again, with a new
@@ -18,18 +18,17 @@
 //! with which code. It is 1 for other arguments, and 2 if the ledger can't be opened, it stopped, or memory, a thread, the clock or
 //! the output failed. Then standard error has a line that says why. The batch at which a ledger stops may be in the file though its
 //! replies say stopped; the next run tells.
-#![tactic(auto)]
 
 ghost use Rattle.std.specs.Prelude.{◌≡◌, IfSome, length};
 
-mod payments;
+mod packets;
 mod till;
 
-use crate::payments::TillAccounts;
-use crate::till::Till;
+use crate::service::packets::TillAccounts;
+use crate::service::till::Till;
 use sqlite_trees::store::Store;
 use std::alloc::Global;
-use std::env;
+use std::env::Args;
 use std::process::ExitCode;
 use std::sync::Wait;
 use std::thread::Threads;
@@ -56,20 +55,28 @@ const CREDIT: u32 = 16;
 
 type CountedTill = CountedDriver<Till, HostRuntime>;
 
-/// Returns the path and the number of payments that the words ask for.
-fn asked(rt: &HostRuntime) -> Option<(String, u64)> {
-    let mut words = env::args(rt).ok()?;
-    words.next()?;
-    let path = words.next()?;
-    let payments = match words.next() {
-        Some(word) => word.as_str().parse().ok(),
-        None => Some(u64::MAX),
-    };
-    match (payments, words.next()) {
-        (Some(payments), None) => Some((path, payments)),
-        _ => {
-            drop(path);
-            None
+/// A service over the ledger in the file at a path, for a number of payments of each till.
+#[derive(Drop)]
+pub(crate) struct Service {
+    path: String,
+    payments: u64,
+}
+
+impl Service {
+    /// Returns the service that the words after `service` ask for.
+    pub(crate) fn asked_by(words: Args) -> Option<Service> {
+        let mut words = words;
+        let path = words.next()?;
+        let payments = match words.next() {
+            Some(word) => word.as_str().parse().ok(),
+            None => Some(u64::MAX),
+        };
+        match (payments, words.next()) {
+            (Some(payments), None) => Some(Service { path, payments }),
+            _ => {
+                drop(path);
+                None
+            }
         }
     }
 }
@@ -289,21 +296,22 @@ fn serve<R: Threads + Wait + Clock + Sync, S: Store + Drop + Send>(
     Some((ledger.into_store(), complete))
 }
 
-fn main(rt: HostRuntime) -> ExitCode {
-    let Some((path, payments)) = asked(&rt) else {
-        let _ = eprintln!(rt; "usage: example_service FILE [PAYMENTS]");
-        return ExitCode::from(1);
-    };
-    let served = match open_file(&rt, path.as_str()) {
-        Ok(store) => serve(&rt, &rt, store, payments),
+/// Runs a service until all its tills have ended, as the head of this file says. Returns the status.
+pub(crate) fn run_service<R: Threads + Wait + Clock + Sync>(
+    threads: &R,
+    rt: &HostRuntime,
+    service: &Service,
+) -> ExitCode {
+    let served = match open_file(rt, service.path.as_str()) {
+        Ok(store) => serve(threads, rt, store, service.payments),
         Err(fault) => {
-            say_fault(&rt, fault);
+            say_fault(rt, fault);
             None
         }
     };
     let Some((store, complete)) = served else {
         return ExitCode::from(2);
     };
-    finish_file(&rt, store);
+    finish_file(rt, store);
     ExitCode::from(if complete { 0 } else { 2 })
 }
