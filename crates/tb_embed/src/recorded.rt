@@ -303,11 +303,14 @@ impl RecordedEngine {
     pub fn next_reply(&self) -> Option<&Reply>
         ensures { option_copied result ≡ readable self.now }
     {
+        if !self.records {
+            return self.engine.next_reply();
+        }
         if let Some(first) = self.handed.front() {
             return is_stored(self.durable, &first.outcome).then_some(first);
         }
         let next = self.engine.next_reply()?;
-        (!self.records || !is_committed(&next.outcome)).then_some(next)
+        (!is_committed(&next.outcome)).then_some(next)
     }
 
     /// Removes the next reply that can be read and returns it, in the order in which packets were queued; None if there is none.
