@@ -162,7 +162,7 @@ fn queue(ledger: &mut Ledger<Recorded>, number: u64) -> Result<(), Refusal> {
     Ok(())
 }
 
-/// Reads all replies. An event whose id is there was committed before, and that is well too.
+/// Reads all replies. An event that fails as `exists` was committed before, so it isn't made twice.
 fn read_replies(ledger: &mut Ledger<Recorded>) -> Result<(), Failure> {
     let mut buffer = Vec::new();
     while let Some(reply) = ledger.reply(&mut buffer)? {
