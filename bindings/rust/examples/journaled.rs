@@ -6,7 +6,7 @@
 //! ledger, and is printed as `committed PLACE`. So the next run goes on at the first place that isn't in the file. The file is synced once for
 //! four calls.
 //!
-//! The file is a header and a record for each entry: the body's size and its sum, and the body. It is a journal of this program alone, and a
+//! The file is a header and a record for each entry: a mark, the body's size and its sum, and the body. It is a journal of this program alone, and a
 //! lock keeps other processes out (`File::try_lock`, from Rust 1.89 on). A crash may leave the records of the last commit in part. They are
 //! cut off: nobody was told of them. If others aren't whole, the file is refused and stays as it was. Damage in the last commit's records
 //! can't be told from a crash.
@@ -23,6 +23,9 @@ type Failure = Box<dyn std::error::Error>;
 
 /// How the file begins: with the settings that the ledger has at each start.
 const HEADER: &[u8] = b"kip journal 1: clock 0, limit 8190, submitters 1\n";
+/// How a record begins.
+const MARK: [u8; 4] = *b"kipe";
+/// How many calls a sync is for.
 const GROUP: u64 = 4;
 /// What a pulse's record has for an operation.
 const PULSE: u8 = 0;
@@ -47,7 +50,7 @@ fn record_of(entry: &Entry, stored: u64) -> Vec<u8> {
     };
     let words = [stored, entry.place, number].map(u64::to_le_bytes).concat();
     let body = [&words, &submitter.to_le_bytes()[..], &[operation], events].concat();
-    [&(body.len() as u32).to_le_bytes()[..], &sum_of(&body).to_le_bytes(), &body].concat()
+    [&MARK[..], &(body.len() as u32).to_le_bytes(), &sum_of(&body).to_le_bytes(), &body].concat()
 }
 
 /// Cuts a field off the start of what is left.
@@ -59,7 +62,7 @@ fn cut<const SIZE: usize>(rest: &mut &[u8]) -> Option<[u8; SIZE]> {
 
 /// Returns the record at the start of these bytes, if there is a whole one.
 fn record_at(bytes: &[u8]) -> Option<Record> {
-    let mut rest = bytes;
+    let mut rest = bytes.strip_prefix(&MARK)?;
     let size = u32::from_le_bytes(cut(&mut rest)?) as usize;
     let sum = u64::from_le_bytes(cut(&mut rest)?);
     let mut body = rest.get(..size)?;

@@ -70,7 +70,7 @@ impl Entry {
 }
 
 /// Of a ledger whose host keeps the journal, as `Ledger::open_recorded` opens it.
-#[derive(Debug, Default)]
+#[derive(Debug)]
 pub struct Recorded {
     /// The place below which all entries were handed out.
     handed: u64,
@@ -175,7 +175,7 @@ impl Ledger<Recorded> {
         let mut handle = Box::new(raw::Handle::closed());
         let [low, high] = seed;
         done(unsafe { raw::kip_open_recorded(&mut *handle, clock, limit, submitters, low, high) })?;
-        Ok(Ledger::over(handle, Recorded::default()))
+        Ok(Ledger::over(handle, Recorded { handed: 0, durable: 0 }))
     }
 
     /// Commits an entry again, by itself and at the next place. Its reply isn't given, its packet has its old number, and it isn't handed out.
