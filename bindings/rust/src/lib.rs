@@ -5,6 +5,8 @@
 //! `Ok` of `create_accounts` and `create_transfers` says that the packet is committed, and has the events that failed. `all_created`
 //! makes an error of these. A reply to a packet says the same by `succeeded` and `failures`.
 //!
+//! `Ledger::open_recorded` opens a ledger whose journal its host keeps, so that it is there again after a crash.
+//!
 //! ```
 //! use kip::{Account, Ledger, Transfer};
 //!
@@ -27,6 +29,7 @@
 
 mod failures;
 mod ids;
+mod journal;
 #[cfg(doctest)]
 mod must_warn;
 mod raw;
@@ -38,6 +41,7 @@ use std::fmt;
 
 pub use failures::{CreateAccountsResult, CreateTransfersResult, Failed, Failure, Failures};
 pub use ids::id;
+pub use journal::{Entry, Item, Recorded, StoreError};
 pub use raw::Counts;
 pub use records::{Account, AccountFlags, PendingStatus, Transfer, TransferFlags};
 pub use results::{CreateAccountResult, CreateTransferResult};
@@ -62,6 +66,15 @@ pub enum Refusal {
     BadLimit,
     BadSubmitters,
     MomentTooLarge,
+    /// An entry that is to be restored isn't at the next place, or its number isn't its submitter's next.
+    NotNext,
+    /// Nothing can be restored now: packets wait, replies are unread, entries aren't handed out or stored, or `shut` was called.
+    InUse,
+    /// An entry below the place is still to be handed out, so it can't be stored.
+    NotHandedOut,
+    /// The host keeps the journal, and what is committed isn't stored: so no reply can be read yet. Of `commit` and the calls that create:
+    /// entries that were handed out aren't stored, so those after them can't be.
+    NotStored,
 }
 
 impl Refusal {
@@ -77,6 +90,9 @@ impl Refusal {
             9 => Refusal::BadLimit,
             11 => Refusal::BadSubmitters,
             12 => Refusal::MomentTooLarge,
+            108 => Refusal::NotNext,
+            109 => Refusal::InUse,
+            111 => Refusal::NotHandedOut,
             other => unreachable!("status {other}"),
         }
     }
@@ -95,7 +111,7 @@ pub enum Error {
     /// The packet wasn't queued, and nothing has changed.
     Refused(Refusal),
     /// Memory ran out as the packet was committed. It stays queued, with this number: `flush` commits it once memory is there, and
-    /// `reply` has its results.
+    /// `reply` has its results. If the host keeps the journal, `commit` takes the place of `flush`.
     Queued { number: u64 },
     NotCommitted(NotCommitted),
     /// Accounts of a committed packet weren't created: this many, the first of them so.
@@ -198,6 +214,32 @@ fn failures_in(results: &[u8]) -> impl Iterator<Item = Failure> + '_ {
     })
 }
 
+fn bytes_of_accounts(accounts: &[Account]) -> Vec<u8> {
+    accounts.iter().flat_map(Account::to_bytes).collect()
+}
+
+fn bytes_of_transfers(transfers: &[Transfer]) -> Vec<u8> {
+    transfers.iter().flat_map(Transfer::to_bytes).collect()
+}
+
+/// Returns the accounts that weren't created, by the results of their packet.
+fn account_failures(results: &[u8]) -> Failures<CreateAccountsResult> {
+    let of = |failure: Failure| CreateAccountsResult {
+        index: failure.index,
+        result: CreateAccountResult::of(failure.result).expect("a result of an account"),
+    };
+    Failures::of(failures_in(results).map(of))
+}
+
+/// Returns the transfers that weren't created, by the results of their packet.
+fn transfer_failures(results: &[u8]) -> Failures<CreateTransfersResult> {
+    let of = |failure: Failure| CreateTransfersResult {
+        index: failure.index,
+        result: CreateTransferResult::of(failure.result).expect("a result of a transfer"),
+    };
+    Failures::of(failures_in(results).map(of))
+}
+
 /// A reply that was read while another was looked for.
 struct Kept {
     head: raw::Head,
@@ -221,32 +263,30 @@ fn reply_of<'a>(head: &raw::Head, results: &'a [u8]) -> Reply<'a> {
     }
 }
 
-/// A ledger in memory. It may move to another thread; calls are made one at a time.
-pub struct Ledger {
+/// A ledger in memory. It may move to another thread; calls are made one at a time. A `Ledger<Recorded>` is one whose host keeps the journal.
+pub struct Ledger<J = Unrecorded> {
     handle: Box<raw::Handle>,
     kept: VecDeque<Kept>,
+    journal: J,
 }
+
+/// Of a ledger that keeps no journal, as `Ledger::open` opens it.
+#[derive(Debug)]
+pub struct Unrecorded(());
 
 // SAFETY: what is behind the handle is memory of the heap that belongs to no thread, which is proved of the library
 // (`crates/kip/proofs/engine_pointer`). Each call takes `&mut self`, so none is made during another.
-unsafe impl Send for Ledger {}
+unsafe impl<J: Send> Send for Ledger<J> {}
 
 // SAFETY, of each call below: the handle was zeroed before it was opened, has one owner, and is changed only by these
 // calls; each slice passes its own pointer, which is never null, and its own length; the arguments don't overlap.
 impl Ledger {
-    fn opened(handle: Box<raw::Handle>) -> Ledger {
-        Ledger {
-            handle,
-            kept: VecDeque::new(),
-        }
-    }
-
     /// Opens a ledger whose clock starts at `clock` nanoseconds, for packets of up to `limit` events (1 to 8190) and
     /// 1 to 16 submitters.
     pub fn open(clock: u64, limit: u32, submitters: u32) -> Result<Ledger, Refusal> {
         let mut handle = Box::new(raw::Handle::closed());
         done(unsafe { raw::kip_open(&mut *handle, clock, limit, submitters) })?;
-        Ok(Ledger::opened(handle))
+        Ok(Ledger::over(handle, Unrecorded(())))
     }
 
     /// Opens a ledger as `open` does, and hashes ids with a seed. Use a seed if ids can be chosen by someone you don't
@@ -260,7 +300,46 @@ impl Ledger {
         let mut handle = Box::new(raw::Handle::closed());
         let [low, high] = seed;
         done(unsafe { raw::kip_open_seeded(&mut *handle, clock, limit, submitters, low, high) })?;
-        Ok(Ledger::opened(handle))
+        Ok(Ledger::over(handle, Unrecorded(())))
+    }
+
+    /// Reads the next reply, which may be another packet's than the last one queued. Its results are in the buffer, in place of what was
+    /// there, and nothing else of it is written. `None` doesn't say that all is committed: packets that are held have a reply after `flush`.
+    #[must_use = "only the reply says whether its packet is committed"]
+    pub fn reply<'a>(&mut self, buffer: &'a mut Vec<u8>) -> Option<Reply<'a>> {
+        self.next_reply(buffer)
+    }
+
+    /// Commits one packet of submitter 0, and returns its results. Replies to other packets are kept for `reply`.
+    fn committed(&mut self, operation: u8, data: &[u8]) -> Result<Vec<u8>, Error> {
+        let number = self.submit(0, operation, data, 0)?;
+        self.flush().map_err(|_| Error::Queued { number })?;
+        Ok(self.results_of(number)?)
+    }
+
+    /// Commits one packet of submitter 0, and returns a result for each account that failed: `Ok` doesn't say that they were created. If
+    /// memory runs out as it is committed, the error is `Queued`.
+    pub fn create_accounts(&mut self, accounts: &[Account]) -> Result<Failures<CreateAccountsResult>, Error> {
+        let results = self.committed(CREATE_ACCOUNTS, &bytes_of_accounts(accounts))?;
+        Ok(account_failures(&results))
+    }
+
+    /// Commits one packet of submitter 0, and returns a result for each transfer that failed: `Ok` doesn't say that they were created. If
+    /// memory runs out as it is committed, the error is `Queued`.
+    pub fn create_transfers(&mut self, transfers: &[Transfer]) -> Result<Failures<CreateTransfersResult>, Error> {
+        let results = self.committed(CREATE_TRANSFERS, &bytes_of_transfers(transfers))?;
+        Ok(transfer_failures(&results))
+    }
+}
+
+// SAFETY, of each call below: as above.
+impl<J> Ledger<J> {
+    fn over(handle: Box<raw::Handle>, journal: J) -> Ledger<J> {
+        Ledger {
+            handle,
+            kept: VecDeque::new(),
+            journal,
+        }
     }
 
     /// Reserves capacity for accounts and transfers that are still to be made. Until then no commit waits for their maps
@@ -333,10 +412,8 @@ impl Ledger {
         }
     }
 
-    /// Reads the next reply, which may be another packet's than the last one queued. Its results are in the buffer, in place of what was
-    /// there, and nothing else of it is written. `None` doesn't say that all is committed: packets that are held have a reply after `flush`.
-    #[must_use = "only the reply says whether its packet is committed"]
-    pub fn reply<'a>(&mut self, buffer: &'a mut Vec<u8>) -> Option<Reply<'a>> {
+    /// Reads the next reply, or one that was kept.
+    fn next_reply<'a>(&mut self, buffer: &'a mut Vec<u8>) -> Option<Reply<'a>> {
         let head = match self.kept.pop_front() {
             Some(kept) => {
                 *buffer = kept.results;
@@ -347,14 +424,12 @@ impl Ledger {
         Some(reply_of(&head, buffer))
     }
 
-    /// Commits one packet of submitter 0, and returns its results. Replies to other packets are kept for `reply`.
-    fn committed(&mut self, operation: u8, data: &[u8]) -> Result<Vec<u8>, Error> {
-        let number = self.submit(0, operation, data, 0)?;
-        self.flush().map_err(|_| Error::Queued { number })?;
+    /// Returns the results of a packet of submitter 0, whose reply can be read. Replies to other packets are kept for `reply`.
+    fn results_of(&mut self, number: u64) -> Result<Vec<u8>, NotCommitted> {
         loop {
             let mut results = Vec::new();
             let Some(head) = self.read(&mut results) else {
-                unreachable!("a flushed packet has a reply")
+                unreachable!("a packet that is committed and stored has a reply")
             };
             if (head.submitter, head.number) != (0, number) {
                 self.kept.push_back(Kept { head, results });
@@ -362,34 +437,10 @@ impl Ledger {
             }
             return match head.outcome {
                 0 => Ok(results),
-                7 => Err(Error::NotCommitted(NotCommitted::Shutdown)),
-                _ => Err(Error::NotCommitted(NotCommitted::Stopped)),
+                7 => Err(NotCommitted::Shutdown),
+                _ => Err(NotCommitted::Stopped),
             };
         }
-    }
-
-    /// Commits one packet of submitter 0, and returns a result for each account that failed: `Ok` doesn't say that they were created. If
-    /// memory runs out as it is committed, the error is `Queued`.
-    pub fn create_accounts(&mut self, accounts: &[Account]) -> Result<Failures<CreateAccountsResult>, Error> {
-        let data: Vec<u8> = accounts.iter().flat_map(Account::to_bytes).collect();
-        let results = self.committed(CREATE_ACCOUNTS, &data)?;
-        let of = |failure: Failure| CreateAccountsResult {
-            index: failure.index,
-            result: CreateAccountResult::of(failure.result).expect("a result of an account"),
-        };
-        Ok(Failures::of(failures_in(&results).map(of)))
-    }
-
-    /// Commits one packet of submitter 0, and returns a result for each transfer that failed: `Ok` doesn't say that they were created. If
-    /// memory runs out as it is committed, the error is `Queued`.
-    pub fn create_transfers(&mut self, transfers: &[Transfer]) -> Result<Failures<CreateTransfersResult>, Error> {
-        let data: Vec<u8> = transfers.iter().flat_map(Transfer::to_bytes).collect();
-        let results = self.committed(CREATE_TRANSFERS, &data)?;
-        let of = |failure: Failure| CreateTransfersResult {
-            index: failure.index,
-            result: CreateTransferResult::of(failure.result).expect("a result of a transfer"),
-        };
-        Ok(Failures::of(failures_in(&results).map(of)))
     }
 
     /// Returns the account with an id; packets that wait aren't in it.
@@ -488,13 +539,13 @@ impl Ledger {
     }
 }
 
-impl fmt::Debug for Ledger {
+impl<J> fmt::Debug for Ledger<J> {
     fn fmt(&self, out: &mut fmt::Formatter<'_>) -> fmt::Result {
         out.debug_struct("Ledger").finish_non_exhaustive()
     }
 }
 
-impl Drop for Ledger {
+impl<J> Drop for Ledger<J> {
     fn drop(&mut self) {
         unsafe { raw::kip_close(&mut *self.handle) };
     }

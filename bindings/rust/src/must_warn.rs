@@ -15,6 +15,9 @@ macro_rules! head {
         "#![deny(unused_must_use)]
 fn call(ledger: &mut kip::Ledger, reply: kip::Reply, buffer: &mut Vec<u8>) -> Result<(), Box<dyn std::error::Error>> {
 let _ = (reply, &buffer, &ledger);
+let mut recorded = kip::Ledger::open_recorded(0, 1, 1)?;
+let store = |_: &[kip::Entry]| -> Result<(), std::fmt::Error> { Ok(()) };
+let _ = (&mut recorded, store);
 "
     };
 }
@@ -38,4 +41,9 @@ must_warn! {
     Failures "reply.failures()?"
     Succeeded "reply.succeeded()"
     Stopped "ledger.stopped()"
+    StoredAccounts "recorded.create_accounts(&[], store)?"
+    StoredTransfers "recorded.create_transfers(&[], store)?"
+    Commit "recorded.commit(store)"
+    Restore "recorded.restore(&kip::Entry { place: 0, item: kip::Item::Pulse { moment: 0 } })"
+    StoredReply "recorded.reply(buffer)?.unwrap()"
 }

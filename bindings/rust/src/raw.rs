@@ -31,6 +31,18 @@ pub(crate) struct Head {
     reserved: u32,
 }
 
+/// The head of an entry.
+#[repr(C)]
+#[derive(Clone, Copy, Default)]
+pub(crate) struct EntryHead {
+    pub(crate) place: u64,
+    pub(crate) moment: u64,
+    pub(crate) number: u64,
+    pub(crate) size: u64,
+    pub(crate) submitter: u32,
+    pub(crate) operation: u32,
+}
+
 /// How much a ledger stores.
 #[repr(C)]
 #[derive(Clone, Copy, Debug, Default, PartialEq, Eq)]
@@ -46,6 +58,14 @@ extern "C" {
     pub(crate) fn kip_version() -> u32;
     pub(crate) fn kip_open(kip: *mut Handle, clock: u64, limit: u32, submitters: u32) -> u32;
     pub(crate) fn kip_open_seeded(
+        kip: *mut Handle,
+        clock: u64,
+        limit: u32,
+        submitters: u32,
+        seed_low: u64,
+        seed_high: u64,
+    ) -> u32;
+    pub(crate) fn kip_open_recorded(
         kip: *mut Handle,
         clock: u64,
         limit: u32,
@@ -72,6 +92,19 @@ extern "C" {
         reply: *mut Head,
         results: *mut u8,
         results_size: usize,
+    ) -> u32;
+    pub(crate) fn kip_entry_bytes(
+        kip: *mut Handle,
+        entry: *mut EntryHead,
+        data: *mut u8,
+        data_size: usize,
+    ) -> u32;
+    pub(crate) fn kip_durable(kip: *mut Handle, places: u64) -> u32;
+    pub(crate) fn kip_restore_bytes(
+        kip: *mut Handle,
+        entry: *const EntryHead,
+        data: *const u8,
+        data_size: usize,
     ) -> u32;
     pub(crate) fn kip_lookup_account(
         kip: *mut Handle,

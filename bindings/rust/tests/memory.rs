@@ -1,5 +1,14 @@
-//! Memory that runs out as a packet is committed. In a file of its own, since the limit is the whole process's.
-use kip::{Account, Counts, Error, Ledger, Transfer};
+//! Memory that runs out as a packet is committed, or as its entry is handed out. In a file of its own, since the limit is the whole process's.
+use kip::{Account, Counts, Entry, Error, Ledger, Recorded, Refusal, StoreError, Transfer, CREATE_TRANSFERS};
+use std::convert::Infallible;
+use std::sync::{Mutex, MutexGuard, PoisonError};
+
+/// Held by the test that runs.
+static ONLY: Mutex<()> = Mutex::new(());
+
+fn only() -> MutexGuard<'static, ()> {
+    ONLY.lock().unwrap_or_else(PoisonError::into_inner)
+}
 
 #[repr(C)]
 struct Limits {
@@ -20,6 +29,17 @@ fn size() -> u64 {
     pages.split(' ').next().and_then(|it| it.parse::<u64>().ok()).expect("statm has a number") * 4096
 }
 
+/// Makes a call while this process can't map more than some further bytes.
+fn limited<T>(more: u64, call: impl FnOnce() -> T) -> T {
+    let mut before = Limits { soft: 0, hard: 0 };
+    assert_eq!(unsafe { getrlimit(RLIMIT_AS, &mut before) }, 0);
+    let limits = Limits { soft: size() + more, hard: before.hard };
+    assert_eq!(unsafe { setrlimit(RLIMIT_AS, &limits) }, 0);
+    let made = call();
+    assert_eq!(unsafe { setrlimit(RLIMIT_AS, &before) }, 0);
+    made
+}
+
 /// Returns 8,190 transfers to an account that isn't there, so that their ids are stored as failed.
 fn failing(packet: u64) -> Vec<Transfer> {
     let of = |it: u64| Transfer {
@@ -34,24 +54,32 @@ fn failing(packet: u64) -> Vec<Transfer> {
     (0..8190).map(of).collect()
 }
 
+const ACCOUNT: [u8; 128] = {
+    let mut bytes = [0; 128];
+    (bytes[0], bytes[112], bytes[116]) = (1, 1, 1); // its id, its ledger and its code
+    bytes
+};
+
+/// Makes packets of failing transfers until one is refused, and returns its number and why.
+fn until_refused<E>(mut create: impl FnMut(&[Transfer]) -> Result<usize, E>) -> (u64, E) {
+    limited(16 << 20, || {
+        let mut number = 1;
+        loop {
+            match create(&failing(number)) {
+                Ok(failures) => assert_eq!(failures, 8190),
+                Err(error) => return (number, error),
+            }
+            number += 1;
+        }
+    })
+}
+
 #[test]
 fn a_packet_without_memory_to_commit_it_stays_queued() {
+    let _only = only();
     let mut ledger = Ledger::open(0, 8190, 1).expect("it opens");
-    let account = Account { id: 1, ledger: 1, code: 1, ..Account::default() };
-    assert!(ledger.create_accounts(&[account]).is_ok_and(|failures| failures.is_empty()));
-    let mut before = Limits { soft: 0, hard: 0 };
-    assert_eq!(unsafe { getrlimit(RLIMIT_AS, &mut before) }, 0);
-    let limits = Limits { soft: size() + (32 << 20), hard: before.hard };
-    assert_eq!(unsafe { setrlimit(RLIMIT_AS, &limits) }, 0);
-    let mut number = 1;
-    let refused = loop {
-        match ledger.create_transfers(&failing(number)) {
-            Ok(results) => assert_eq!(results.len(), 8190),
-            Err(error) => break error,
-        }
-        number += 1;
-    };
-    assert_eq!(unsafe { setrlimit(RLIMIT_AS, &before) }, 0);
+    assert!(ledger.create_accounts(&[Account::from_bytes(&ACCOUNT)]).is_ok_and(|failures| failures.is_empty()));
+    let (number, refused) = until_refused(|transfers| ledger.create_transfers(transfers).map(|it| it.len()));
     assert_eq!(refused, Error::Queued { number });
     let mut buffer = Vec::new();
     assert!(ledger.reply(&mut buffer).is_none());
@@ -61,4 +89,55 @@ fn a_packet_without_memory_to_commit_it_stays_queued() {
     assert_eq!(reply.failures().expect("it is committed").len(), 8190);
     let Counts { failed_ids, .. } = ledger.counts();
     assert_eq!(failed_ids, number * 8190);
+}
+
+/// A store that keeps only the places.
+fn keeping(places: &mut Vec<u64>) -> impl FnMut(&[Entry]) -> Result<(), Infallible> + '_ {
+    |entries| {
+        places.extend(entries.iter().map(|entry| entry.place));
+        Ok(())
+    }
+}
+
+fn recorded() -> Ledger<Recorded> {
+    let mut ledger = Ledger::open_recorded(0, 8190, 1).expect("it opens");
+    let created = ledger.create_accounts(&[Account::from_bytes(&ACCOUNT)], |_| Ok::<_, Infallible>(()));
+    assert!(created.is_ok_and(|failures| failures.is_empty()));
+    ledger
+}
+
+#[test]
+fn a_packet_without_memory_to_commit_it_is_stored_later() {
+    let _only = only();
+    let (mut ledger, mut places, mut buffer) = (recorded(), Vec::with_capacity(10_000), Vec::new());
+    let (number, refused) = until_refused(|transfers| ledger.create_transfers(transfers, keeping(&mut places)).map(|it| it.len()));
+    assert_eq!(refused, StoreError::Ledger(Error::Queued { number }));
+    assert!(places.iter().copied().eq(1..number));
+    assert_eq!(ledger.commit(keeping(&mut places)), Ok(()));
+    assert_eq!(places.last(), Some(&number));
+    let reply = ledger.reply(&mut buffer).expect("it is stored").expect("a reply");
+    assert_eq!((reply.number, reply.failures().map(|it| it.len())), (number, Ok(8190)));
+    assert_eq!(ledger.counts().failed_ids, number * 8190);
+}
+
+/// What was handed out is stored, and its replies can be read. The rest follows once memory is there.
+#[test]
+fn entries_without_memory_to_hand_them_out_stay() {
+    let _only = only();
+    let (mut ledger, mut places, mut buffer) = (recorded(), Vec::with_capacity(100), Vec::new());
+    let data: Vec<u8> = failing(1).iter().flat_map(Transfer::to_bytes).collect();
+    for _ in 0..64 {
+        ledger.submit(0, CREATE_TRANSFERS, &data, 0).expect("it is queued");
+    }
+    ledger.flush().expect("memory is there");
+    let refused = limited(8 << 20, || ledger.commit(keeping(&mut places)));
+    assert_eq!(refused, Err(Refusal::NoMemory.into()));
+    let stored = places.len();
+    assert!(0 < stored && stored < 64, "{stored} of 64 were handed out");
+    for place in 1..=stored as u64 {
+        assert!(ledger.reply(&mut buffer).is_ok_and(|reply| reply.is_some_and(|it| it.number == place)));
+    }
+    assert_eq!(ledger.reply(&mut buffer), Err(Refusal::NotStored));
+    assert_eq!(ledger.commit(keeping(&mut places)), Ok(()));
+    assert!(places.iter().copied().eq(1..=64));
 }

@@ -1,0 +1,223 @@
+//! A ledger that survives the process: what is committed is in a file before it is printed, and is restored at the start.
+//!
+//!     cargo run --example journaled FILE CALLS
+//!
+//! Makes the calls of a little bank up to number CALLS: two accounts, then transfers, and now and then a pulse. Each takes one place of the
+//! ledger, and is printed as `committed PLACE`. So the next run goes on at the first place that isn't in the file. The file is synced once for
+//! four calls.
+//!
+//! The file is a header and a record for each entry: a mark, the body's size and its sum, and the body. It is a journal of this program alone, and a
+//! lock keeps other processes out (`File::try_lock`, from Rust 1.89 on). A crash may leave the records of the last commit in part. They are
+//! cut off: nobody was told of them. If others aren't whole, the file is refused and stays as it was. Damage in the last commit's records
+//! can't be told from a crash.
+
+use kip::{
+    Account, CreateAccountResult, CreateTransferResult, Entry, Item, Ledger, Recorded, Refusal, Transfer, CREATE_ACCOUNTS, CREATE_TRANSFERS,
+};
+use std::fs::{File, TryLockError};
+use std::io::{stdout, Read, Seek, SeekFrom, Write};
+use std::path::Path;
+use std::process::ExitCode;
+
+type Failure = Box<dyn std::error::Error>;
+
+/// How the file begins: with the settings that the ledger has at each start.
+const HEADER: &[u8] = b"kip journal 1: clock 0, limit 8190, submitters 1\n";
+/// How a record begins.
+const MARK: [u8; 4] = *b"kipe";
+/// How many calls a sync is for.
+const GROUP: u64 = 4;
+/// What a pulse's record has for an operation.
+const PULSE: u8 = 0;
+
+/// A record that is whole.
+struct Record {
+    size: usize,
+    /// The place below which all was stored when this was written.
+    stored: u64,
+    entry: Entry,
+}
+
+/// Returns the FNV-1a sum of a body, by which one that was written in part is known.
+fn sum_of(body: &[u8]) -> u64 {
+    body.iter().fold(0xcbf2_9ce4_8422_2325, |sum, byte| (sum ^ u64::from(*byte)).wrapping_mul(0x100_0000_01b3))
+}
+
+fn record_of(entry: &Entry, stored: u64) -> Vec<u8> {
+    let (number, submitter, operation, events) = match &entry.item {
+        Item::Packet { submitter, number, operation, events } => (*number, *submitter, *operation, &events[..]),
+        Item::Pulse { moment } => (*moment, 0, PULSE, &[][..]),
+    };
+    let words = [stored, entry.place, number].map(u64::to_le_bytes).concat();
+    let body = [&words, &submitter.to_le_bytes()[..], &[operation], events].concat();
+    [&MARK[..], &(body.len() as u32).to_le_bytes(), &sum_of(&body).to_le_bytes(), &body].concat()
+}
+
+/// Cuts a field off the start of what is left.
+fn cut<const SIZE: usize>(rest: &mut &[u8]) -> Option<[u8; SIZE]> {
+    let (field, after) = rest.split_first_chunk()?;
+    *rest = after;
+    Some(*field)
+}
+
+/// Returns the record at the start of these bytes, if there is a whole one.
+fn record_at(bytes: &[u8]) -> Option<Record> {
+    let mut rest = bytes.strip_prefix(&MARK)?;
+    let size = u32::from_le_bytes(cut(&mut rest)?) as usize;
+    let sum = u64::from_le_bytes(cut(&mut rest)?);
+    let mut body = rest.get(..size)?;
+    if sum_of(body) != sum {
+        return None;
+    }
+    let size = bytes.len() - rest.len() + size;
+    let stored = u64::from_le_bytes(cut(&mut body)?);
+    let place = u64::from_le_bytes(cut(&mut body)?);
+    let number = u64::from_le_bytes(cut(&mut body)?);
+    let submitter = u32::from_le_bytes(cut(&mut body)?);
+    let item = match cut(&mut body)? {
+        [PULSE] => Item::Pulse { moment: number },
+        [operation] => Item::Packet { submitter, number, operation, events: body.to_vec() },
+    };
+    Some(Record { size, stored, entry: Entry { place, item } })
+}
+
+/// Restores all whole records, and returns how many bytes of the file they end at.
+fn restore_all(ledger: &mut Ledger<Recorded>, bytes: &[u8]) -> Result<usize, Failure> {
+    let mut end = HEADER.len();
+    while let Some(record) = record_at(&bytes[end..]) {
+        ledger.restore(&record.entry).map_err(|why| format!("the record at byte {end} is no entry of this journal: {why}"))?;
+        end += record.size;
+    }
+    // What follows was never acknowledged, unless a later record says that the place of this one was stored.
+    let place = ledger.places();
+    if (end..bytes.len()).any(|at| record_at(&bytes[at..]).is_some_and(|later| later.stored > place)) {
+        return Err(format!("the file is damaged at byte {end}: put a copy back").into());
+    }
+    Ok(end)
+}
+
+/// The file, which ends with a whole record.
+struct Journal {
+    file: File,
+    /// The place below which all is stored.
+    stored: u64,
+}
+
+impl Journal {
+    /// Opens the file for this process only, and restores what it has. A new one gets its header.
+    fn open(path: &Path, ledger: &mut Ledger<Recorded>) -> Result<Journal, Failure> {
+        let mut file = File::options().read(true).write(true).create(true).truncate(false).open(path)?;
+        file.try_lock().map_err(|why| match why {
+            TryLockError::WouldBlock => "another process has the file open".to_string(),
+            TryLockError::Error(why) => format!("the file can't be locked: {why}"),
+        })?;
+        let mut bytes = Vec::new();
+        file.read_to_end(&mut bytes)?;
+        if bytes.len() < HEADER.len() && HEADER.starts_with(&bytes) {
+            bytes = HEADER.to_vec();
+            file.seek(SeekFrom::Start(0))?;
+            file.write_all(HEADER)?;
+        }
+        if !bytes.starts_with(HEADER) {
+            return Err("the file is another program's: give another".into());
+        }
+        let end = restore_all(ledger, &bytes)?;
+        if end < bytes.len() {
+            eprintln!("journaled: the last {} bytes, which a crash left, are cut off", bytes.len() - end);
+        }
+        file.set_len(end as u64)?;
+        file.seek(SeekFrom::Start(end as u64))?;
+        // (a run that was killed may have written records, or made the file, without a sync)
+        file.sync_all()?;
+        sync_name(path)?;
+        Ok(Journal { file, stored: ledger.places() })
+    }
+
+    /// Appends entries, and returns once they are on the disk.
+    fn append(&mut self, entries: &[Entry]) -> std::io::Result<()> {
+        let records: Vec<u8> = entries.iter().flat_map(|entry| record_of(entry, self.stored)).collect();
+        self.file.write_all(&records)?;
+        self.file.sync_data()?;
+        self.stored += entries.len() as u64;
+        Ok(())
+    }
+}
+
+/// Has the disk keep the name of the file too.
+fn sync_name(path: &Path) -> std::io::Result<()> {
+    let folder = path.parent().filter(|it| !it.as_os_str().is_empty());
+    File::open(folder.unwrap_or(Path::new(".")))?.sync_all()
+}
+
+/// Queues call `number` of the bank. A transfer's id is its number, so that none is posted twice.
+fn queue(ledger: &mut Ledger<Recorded>, number: u64) -> Result<(), Refusal> {
+    if number == 0 {
+        let account = Account { ledger: 1, code: 1, ..Account::default() };
+        let accounts = [Account { id: 1, ..account }, Account { id: 2, ..account }].map(|it| it.to_bytes()).concat();
+        ledger.submit(0, CREATE_ACCOUNTS, &accounts, number)?;
+    } else if number.is_multiple_of(10) {
+        ledger.pulse(number.saturating_mul(1_000_000_000))?;
+    } else {
+        let (id, amount) = (u128::from(number), u128::from(number));
+        let transfer = Transfer { id, debit_account_id: 1, credit_account_id: 2, amount, ledger: 1, code: 1, ..Transfer::default() };
+        ledger.submit(0, CREATE_TRANSFERS, &transfer.to_bytes(), number)?;
+    }
+    Ok(())
+}
+
+/// Reads all replies. An event that fails as `exists` was committed before, so it isn't made twice.
+fn read_replies(ledger: &mut Ledger<Recorded>) -> Result<(), Failure> {
+    let mut buffer = Vec::new();
+    while let Some(reply) = ledger.reply(&mut buffer)? {
+        for failure in reply.failures()? {
+            let exists = match reply.operation {
+                CREATE_ACCOUNTS => CreateAccountResult::of(failure.result) == Some(CreateAccountResult::Exists),
+                _ => CreateTransferResult::of(failure.result) == Some(CreateTransferResult::Exists),
+            };
+            if !exists {
+                return Err(format!("call {}: {failure}", reply.user_data).into());
+            }
+        }
+    }
+    Ok(())
+}
+
+fn run(path: &Path, calls: u64) -> Result<(), Failure> {
+    let mut ledger = Ledger::open_recorded(0, 8190, 1)?;
+    let mut journal = Journal::open(path, &mut ledger)?;
+    let mut place = ledger.places();
+    writeln!(stdout(), "recovered {place}")?;
+    while place < calls {
+        let end = calls.min(place + GROUP);
+        for number in place..end {
+            queue(&mut ledger, number)?;
+        }
+        ledger.commit(|entries| journal.append(entries))?;
+        read_replies(&mut ledger)?;
+        for number in place..end {
+            writeln!(stdout(), "committed {number}")?;
+        }
+        place = end;
+    }
+    let debits = ledger.lookup_account(1).map_or(0, |account| account.debits_posted);
+    writeln!(stdout(), "debits {debits}, clock {}", ledger.clock())?;
+    Ok(())
+}
+
+fn main() -> ExitCode {
+    let words: Vec<_> = std::env::args_os().skip(1).collect();
+    let done = match &words[..] {
+        [path, calls] => match calls.to_str().and_then(|it| it.parse().ok()) {
+            Some(calls) => run(Path::new(path), calls),
+            None => Err("CALLS is a number".into()),
+        },
+        _ => Err("usage: journaled FILE CALLS".into()),
+    };
+    match done {
+        Ok(()) => ExitCode::SUCCESS,
+        Err(why) => {
+            eprintln!("journaled: {why}");
+            ExitCode::from(2)
+        }
+    }
+}
