@@ -29,12 +29,13 @@ on_ok (Ok value) is holds = holds
 on_ok (Err error) is holds = cc
 
 -- without a next reply none can be read
-pub none_to_read : (head : KipReply) (size : ℕ) (host : RecordedState) (found : Option (Bor ReplyValue)) → found ≡ None
-    → option_copied found ≡ readable host → IsPeek no_reply head size host
-none_to_read head size host found is next = record {
-  fits = λ e. absurd (omega (arith, e));
+pub none_to_read : (head : KipReply) (buffer : List ℕ) (host : RecordedState) (found : Option (Bor ReplyValue)) → found ≡ None
+    → option_copied found ≡ readable host → IsPeek no_reply head buffer buffer host
+none_to_read head buffer host found is next = record {
+  copied = λ e. absurd (omega (arith, e));
   none = λ e. sym (ap option_copied (sym is) ∙ next);
   small = λ e. absurd (omega (arith, e));
+  same = λ other. refl;
   one_of = inr (inl refl);
 }
 

@@ -393,17 +393,18 @@ pub extern "C" fn kip_flush(alloc: Global, kip: &mut Kip) -> u32
     status
 }
 
-/// Writes the head of the next reply, which stays. Returns 0 if its results fit into `size` bytes.
-fn peek(engine: &RecordedEngine, head: &mut KipReply, size: usize) -> u32
-    ensures { IsPeek result head.new size engine.now }
+/// Writes the head of the next reply, which stays, and its results if they fit.
+fn peek(engine: &RecordedEngine, head: &mut KipReply, results: &mut [u8]) -> u32
+    ensures { IsPeek result head.new results.old results.new engine.now }
 {
     let Some(next) = engine.next_reply() else {
         return NO_REPLY;
     };
     *head = head_of(next);
-    if head.size > size as u64 {
+    if head.size > results.len() as u64 {
         return TOO_SMALL;
     }
+    put_results(&next.outcome, results);
     0
 }
 
@@ -411,15 +412,11 @@ fn peek(engine: &RecordedEngine, head: &mut KipReply, size: usize) -> u32
 fn read(engine: &mut RecordedEngine, head: &mut KipReply, results: &mut [u8]) -> u32
     ensures { IsReading result head.new results.old results.new engine.old engine.new }
 {
-    let status = peek(engine, head, results.len());
+    let status = peek(engine, head, results);
     if status != 0 {
         return status;
     }
-    let Some(reply) = engine.reply() else {
-        unreachable!()
-    };
-    put_results(&reply.outcome, results);
-    drop(reply);
+    drop(engine.reply());
     0
 }
 

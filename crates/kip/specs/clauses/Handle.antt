@@ -126,11 +126,19 @@ pub record IsNextIn (head : KipReply) (host : RecordedState) : Type 0 where
   pub is_next : readable host ≡ Some reply
   pub described : IsHeadOf head reply
 
--- the next reply, whose results have up to `size` bytes, or more if it is `too_small`; none if there is `no_reply`
-pub record IsPeek (status : ℕ) (head : KipReply) (size : ℕ) (host : RecordedState) : Type 0 where
-  pub fits : status ≡ 0 → IsNextIn head host × (head.size ≤ size)
+-- the same, and its results are in the buffer
+pub record IsCopied (head : KipReply) (before after : List ℕ) (host : RecordedState) : Type 0 where
+  pub reply : ReplyValue
+  pub is_next : readable host ≡ Some reply
+  pub described : IsHeadOf head reply
+  pub written : AreWritten (result_bytes reply.outcome) (result_size reply.outcome) before after
+
+-- the next reply with its results, or only its head if the buffer is `too_small`; none if there is `no_reply`
+pub record IsPeek (status : ℕ) (head : KipReply) (before after : List ℕ) (host : RecordedState) : Type 0 where
+  pub copied : status ≡ 0 → IsCopied head before after host
   pub none : status ≡ no_reply → readable host ≡ None
-  pub small : status ≡ too_small → IsNextIn head host × (size < head.size)
+  pub small : status ≡ too_small → IsNextIn head host × (length before < head.size)
+  pub same : (status ≡ 0 → ⊥) → after ≡ before
   pub one_of : (status ≡ 0) ⊎ ((status ≡ no_reply) ⊎ (status ≡ too_small))
 
 -- the status of a read: 0 with a reply, `no_reply` without one, `too_small` with a buffer that is
