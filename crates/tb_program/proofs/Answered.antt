@@ -11,7 +11,7 @@ use Rattle.tb_pipe.specs.declared.driving.Finished.{Finished}
 use Rattle.tb_pipe.specs.declared.opening.Opened.{Opened}
 use Rattle.tb_program.proofs.HandedPackets.{handed_longer}
 
-first_part : (submitter : ℕ) (ticket : Ticket) (queue : List Ticket) (own : Bool) → (ticket.sender == submitter) ≡ own
+pub first_part : (submitter : ℕ) (ticket : Ticket) (queue : List Ticket) (own : Bool) → (ticket.sender == submitter) ≡ own
     → items_from submitter (ticket ∷ queue) ≡ (if own then ticket.item ∷ items_from submitter queue else items_from submitter queue)
 first_part submitter ticket queue true is = rw is refl
 first_part submitter ticket queue false is = rw is refl

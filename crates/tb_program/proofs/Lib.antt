@@ -1,6 +1,7 @@
 pub mod Words
 mod Answered
 mod HandedPackets
+mod Lacking
 mod Noting
 mod Packets
 mod Planning
@@ -8,3 +9,4 @@ mod Pulses
 mod RefusalReasons
 mod Sharing
 mod Sending
+pub mod Whole

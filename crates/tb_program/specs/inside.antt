@@ -2,3 +2,4 @@
 pub mod Faults
 pub mod Drivers
 pub mod Answering
+pub mod Lacking

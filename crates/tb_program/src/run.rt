@@ -11,7 +11,7 @@ ghost use Rattle.tb_program.specs.clauses.Noting.{AreFresh, HaveCredit};
 ghost use Rattle.tb_program.specs.clauses.Listing.{out, is_faultless};
 ghost use Rattle.tb_program_text.specs.clauses.Source.{source_in};
 ghost use Rattle.tb_program.specs.clauses.Operations.{operations_run, operations_if_faultless};
-ghost use Rattle.tb_program.specs.clauses.RunText.{IsRunOf, IsRunText, IsTextOf};
+ghost use Rattle.tb_program.specs.clauses.RunText.{IsOutputOf, IsOutputOfBytes, IsRunOutput, IsRunOf, IsTextOf};
 ghost use Rattle.tb_program_text.specs.clauses.Script.{InBounds, capacity_of, clock_of, credit_of, limit_of, submitters_of};
 
 mod driver;
@@ -24,7 +24,7 @@ mod share;
 use crate::operations::operations_shared;
 use crate::run::driver::ScriptDriver;
 use crate::run::fault::program_fault_of;
-use crate::run::report::text_of;
+use crate::run::report::{RunText, text_of};
 use crate::run::share::{Shares, share_out};
 pub use over::{RunOver, run_over};
 use std::alloc::Global;
@@ -81,14 +81,14 @@ fn drivers(alloc: Global, packets: Vec<Vec<Packet>>) -> Result<Vec<ScriptDriver>
     Ok(drivers)
 }
 
-/// Runs what is opened until all of its senders have ended; the output of the run.
+/// Runs what is opened until all of its senders have ended; the text of the run.
 fn run_opened<T: Threads + Wait + Clock + Sync>(
     rt: &T,
     alloc: Global,
     opened: Opened,
     drivers: Vec<ScriptDriver>,
     lines: ControlPlan,
-) -> Result<String, ProgramFault>
+) -> Result<RunText, ProgramFault>
     requires together { AreTogether opened.pipeline opened.submitters.items opened.control }
     requires first { opened.pipeline.start ≡ new_ledger opened.pipeline.start.opening }
     requires number { length drivers.items ≡ length opened.pipeline.submitters }
@@ -96,12 +96,17 @@ fn run_opened<T: Threads + Wait + Clock + Sync>(
     requires fresh { AreFresh opened.submitters.items }
     requires silent { opened.control.queued ≡ [] }
     requires new { AreNew drivers.items }
-    ensures { IfOk result (λ text. IsRunText opened.pipeline.start.opening opened.pipeline.intake.limit
+    ensures { IfOk result (λ made. IsRunOutput opened.pipeline.start.opening opened.pipeline.intake.limit
         (map share_of drivers.items)
-        (planned_items lines.moments.items lines.shuts) (refused_of lines.moments.items) (string_bytes text)) }
+        (planned_items lines.moments.items lines.shuts) (refused_of lines.moments.items) (string_bytes made.text)
+        made.lacks_memory) }
 {
+    let asked = lines.moments.len();
     match drive_all(rt, alloc, opened, drivers, lines.driver()) {
-        Ok(finished) => Ok(text_of(alloc, finished)?),
+        Ok(finished) => {
+            let queued = asked.saturating_sub(finished.control.refused as usize);
+            Ok(text_of(alloc, finished, queued)?)
+        }
         Err(fault) => Err(program_fault_of(fault)),
     }
 }
@@ -112,12 +117,12 @@ fn text_for<T: Threads + Wait + Clock + Sync>(
     alloc: Global,
     settings: &Settings,
     shares: Shares,
-) -> Result<String, ProgramFault>
+) -> Result<RunText, ProgramFault>
     requires bounds { InBounds settings.now }
     requires number { length shares.packets.items ≡ submitters_of settings.now }
-    ensures { IfOk result (λ text. IsRunText (clock_of settings.now) (limit_of settings.now) (lists_of shares.packets.items)
+    ensures { IfOk result (λ made. IsRunOutput (clock_of settings.now) (limit_of settings.now) (lists_of shares.packets.items)
         (planned_items shares.lines.moments.items shares.lines.shuts) (refused_of shares.lines.moments.items)
-        (string_bytes text)) }
+        (string_bytes made.text) made.lacks_memory) }
 {
     let Shares { packets, lines } = shares;
     let drivers = drivers(alloc, packets)?;
@@ -127,21 +132,6 @@ fn text_for<T: Threads + Wait + Clock + Sync>(
     }
 }
 
-/// Returns whether memory ran out for a packet, or in the front, which passes nothing on from then on, by the lines of packets.
-pub fn lacks_memory(lines: &str) -> bool {
-    lines.as_bytes().split(|byte| *byte == b'\n').any(|line| line.ends_with(b" stopped")
-        || line.ends_with(b" refused 6 NoMemory"))
-}
-
-/// Returns how many lines are of pulses. One that a pipeline left out, since it stopped, has none.
-fn pulses_in(lines: &str) -> usize {
-    lines
-        .as_bytes()
-        .split(|byte| *byte == b'\n')
-        .filter(|line| line.starts_with(b"pulse "))
-        .count()
-}
-
 /// Returns the output for a script that has no fault.
 fn output_for<T: Threads + Wait + Clock + Sync>(
     rt: &T,
@@ -149,21 +139,20 @@ fn output_for<T: Threads + Wait + Clock + Sync>(
     script: Script,
 ) -> Result<Output, ProgramFault>
     ensures text { IfOk result (λ output. IsTextOf script (string_bytes output.text)) }
+    ensures memory { IfOk result (λ output. IsOutputOf script (string_bytes output.text) output.lacks_memory) }
     ensures faultless { IfOk result (λ output. output.faultless ≡ true) }
     ensures operations { IfOk result (λ output. output.operations.items ≡ operations_run script) }
 {
     let ScriptParts { settings, items } = script.finish()?;
     let shares = share_out(alloc, settings.submitters(), items)?;
     let operations = operations_shared(alloc, &shares.packets)?;
-    let pulses = shares.lines.moments.len();
-    let text = text_for(rt, alloc, &settings, shares)?;
-    let lacks_memory = lacks_memory(text.as_str()) || pulses_in(text.as_str()) < pulses;
+    let made = text_for(rt, alloc, &settings, shares)?;
     Ok(Output {
-        text,
+        text: made.text,
         faultless: true,
         remark: String::new(alloc),
         operations,
-        lacks_memory,
+        lacks_memory: made.lacks_memory,
     })
 }
 
@@ -180,6 +169,11 @@ pub fn run_output<T: Threads + Wait + Clock + Sync, R: Read>(
         → string_bytes output.text ≡ out bytes)) }
     ensures ran { IfOk result (λ output. IfSome (R.remaining reader.old) (λ bytes. is_faultless bytes ≡ true
         → IsRunOf bytes (string_bytes output.text))) }
+    // It says whether memory ran out in such a run. It didn't for a faulty script.
+    ensures memory { IfOk result (λ output. IfSome (R.remaining reader.old) (λ bytes. is_faultless bytes ≡ true
+        → IsOutputOfBytes bytes (string_bytes output.text) output.lacks_memory)) }
+    ensures no_run { IfOk result (λ output. IfSome (R.remaining reader.old) (λ bytes. is_faultless bytes ≡ false
+        → output.lacks_memory ≡ false)) }
     // The operations that name its codes are those of each submitter's packets, in order.
     ensures operations { IfOk result (λ output. IfSome (R.remaining reader.old) (λ bytes.
         output.operations.items ≡ operations_if_faultless operations_run (source_in bytes))) }

@@ -1,7 +1,7 @@
 //! How the program ends.
 
 ghost use Rattle.std.specs.Prelude.{◌≡◌};
-ghost use Rattle.tb_program_text.specs.clauses.Ending.{ending_of, remark_of, status_of, text_of};
+ghost use Rattle.tb_program_text.specs.clauses.Ending.{ending_of, ending_of_run, remark_of, status_of, text_of};
 
 use crate::program_fault::ProgramFault;
 
@@ -37,6 +37,16 @@ pub fn ending_of(outcome: Result<bool, ProgramFault>) -> Ending
 }
 
 impl Ending {
+    /// Returns how a run ends whose output is printed. If memory ran out in it, that isn't as if all were well.
+    pub fn of_run(self, lacks_memory: bool) -> Ending
+        ensures { result ≡ ending_of_run self lacks_memory }
+    {
+        match self {
+            Ending::Done | Ending::NotAllSucceeded if lacks_memory => Ending::NotAllCommitted,
+            ending => ending,
+        }
+    }
+
     /// Returns the exit status.
     pub fn status(&self) -> u8
         ensures { result ≡ status_of self.now }

@@ -9,7 +9,7 @@
 //! `read_script` reads the bytes of a script, `source_of` says what they are: a script, or the line of its fault, with a remark on it for
 //! people. `put_reply` and its
 //! like append exactly the line that `specs/clauses/Output.antt` defines, and `write_out` writes a whole text. `request_of` is what the
-//! arguments ask for; `ending_of`, `Ending::status` and `Ending::text` give the exit status and the last line.
+//! arguments ask for; `ending_of`, `Ending::of_run`, `Ending::status` and `Ending::text` give the exit status and the last line.
 #![tactic(auto)]
 
 mod ending;

@@ -36,6 +36,7 @@ impl Output {
         ensures text { result.text ≡ faulty.line }
         ensures faultless { result.faultless ≡ false }
         ensures operations { result.operations.items ≡ [] }
+        ensures memory { result.lacks_memory ≡ false }
     {
         Output {
             text: faulty.line,

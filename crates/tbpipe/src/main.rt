@@ -88,15 +88,10 @@ fn print(rt: &HostRuntime, options: &Options, made: Result<Output, ProgramFault>
     }
 }
 
-/// Prints what was made of a run in memory. Returns how the program ends: not as if all were well if its pipeline stopped.
+/// Prints what was made of a run in memory. Returns how the program ends.
 fn print_run(rt: &HostRuntime, options: &Options, made: Result<Output, ProgramFault>) -> Ending {
     match made {
-        Ok(output) => match print_output(rt, options, &output) {
-            Ending::Done | Ending::NotAllSucceeded if output.lacks_memory => {
-                Ending::NotAllCommitted
-            }
-            ending => ending,
-        },
+        Ok(output) => print_output(rt, options, &output).of_run(output.lacks_memory),
         Err(fault) => Ending::Failed(fault),
     }
 }

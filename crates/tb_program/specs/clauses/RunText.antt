@@ -1,8 +1,9 @@
 -- What is printed of a run.
-use Rattle.std.specs.Prelude.{◌≡◌, ℕ, ◌+◌, zero, suc, List, [], ◌∷◌, ◌++◌, Ok, Some, length, slice_get}
+use Rattle.std.specs.Prelude.{◌≡◌, ℕ, ◌+◌, zero, suc, nat_lt, Bool, true, false, ◌||◌, List, [], ◌∷◌, ◌++◌, Ok, Some, length, slice_get}
+use Rattle.std.specs.List.{list_any}
 use Rattle.tb_core.specs.claim.Grouping.{IsGrouping}
 use Rattle.tb_core.specs.claim.EachSubmitter.{moments_in, moments_queued}
-use Rattle.tb_core.specs.claim.EndedRun.{Run, committed_in, IsPrefix}
+use Rattle.tb_core.specs.claim.EndedRun.{Run, ahead_in, any_stopped, committed_in, IsPrefix}
 use Rattle.tb_core.specs.claim.Journal.{LedgerState, groups_since, inputs, inputs_since}
 use Rattle.tb_core.specs.claim.Report.{LawfulReport}
 use Rattle.tb_layout.specs.claim.Events.{Input, Packet, Pulse}
@@ -10,6 +11,7 @@ use Rattle.tb_machine.specs.claim.Replay.{State}
 use Rattle.tb_work.specs.claim.Packet.{ReplyValue}
 use Rattle.tb_work.specs.declared.item.Item.{Item}
 use Rattle.tb_work.specs.declared.packet.Packet as packets
+use Rattle.tb_work.specs.declared.refusal.Refusal.TheVariants.{NoMemory}
 use Rattle.tb_drive.specs.clauses.Plan.{planned_items, refused_of}
 use Rattle.tb_drive.specs.clauses.Seen.{jobs_in}
 use Rattle.tb_program_text.specs.clauses.Script.{ParsedScript, clock_of, limit_of, submitters_of, items_of}
@@ -63,6 +65,30 @@ refused_pulses_text (suc count) = refused_pulses_text count ++ refused_pulse_lin
 abbrev pub ledger_text : List Input → ℕ → State → List ℕ
 ledger_text inputs refused_pulses state = pulses_text 0 inputs ++ refused_pulses_text refused_pulses ++ state_text state
 
+-- ---- whether memory ran out
+
+abbrev pub is_refused_memory : PacketResult → Bool
+is_refused_memory (Refused NoMemory) = true
+is_refused_memory other = false
+
+-- memory ran out for a packet of a submitter: one was refused as NoMemory, or a reply is Stopped
+abbrev pub lacks_packet : List PacketResult → List ReplyValue → Bool
+lacks_packet results replies = list_any is_refused_memory results || any_stopped replies
+
+-- for a packet of any submitter from one on, the first of whose replies are those of 0
+abbrev pub lacks_packets : List (List PacketResult) → (ℕ → List ReplyValue) → Bool
+lacks_packets [] replies = false
+lacks_packets (own ∷ others) replies = lacks_packet own (replies zero) || lacks_packets others (λ k. replies (suc k))
+
+-- for a pulse: fewer are committed than were queued
+abbrev pub lacks_pulse : List Input → ℕ → Bool
+lacks_pulse committed queued = nat_lt (length (moments_in committed)) queued
+
+-- in a run: for a packet of any submitter, or for a pulse of the control
+abbrev pub lacks_memory_in : Run → List (List PacketResult) → List Item → Bool
+lacks_memory_in run results controlled =
+    lacks_packets results run.replies || lacks_pulse (committed_in run) (length (moments_queued controlled))
+
 -- ---- the whole
 
 abbrev pub run_text : List (List PacketResult) → (ℕ → List ReplyValue) → List Input → ℕ → State → List ℕ
@@ -112,6 +138,18 @@ pub record IsRunOver (limit : ℕ) (shares : List (List packets.Packet)) (contro
   pub handed : AreHandedIn limit run.replies shares results run.queued
   pub printed : text ≡ packets_text 0 results run.replies
 
+-- a text as above, and whether memory ran out in its run
+pub record IsRunOutput (clock limit : ℕ) (shares : List (List packets.Packet)) (controlled : List Item)
+    (refused_pulses : ℕ) (text : List ℕ) (lacks_memory : Bool) : Type 0 where
+  pub ran : IsRunText clock limit shares controlled refused_pulses text
+  pub lacking : lacks_memory ≡ lacks_memory_in ran.run ran.results controlled
+
+-- the same of a run from one ledger to another, but for its packets only
+pub record IsOutputOver (limit : ℕ) (shares : List (List packets.Packet)) (controlled : List Item) (text : List ℕ)
+    (lacks_memory : Bool) (start ledger : LedgerState) : Type 0 where
+  pub ran : IsRunOver limit shares controlled text start ledger
+  pub lacking : lacks_memory ≡ lacks_packets ran.results ran.run.replies
+
 -- of what a script says: each submitter's share is its packets, and the control queues the pulses and the Close, or its
 -- end
 abbrev pub IsTextOf : ParsedScript → List ℕ → Type 0
@@ -121,6 +159,33 @@ IsTextOf parsed text =
     (planned_items (moments_asked items) (shuts_in items))
     (refused_of (moments_asked items)) text
 
--- the same of the bytes of a script without a fault
+-- the same, and whether memory ran out
+abbrev pub IsOutputOf : ParsedScript → List ℕ → Bool → Type 0
+IsOutputOf parsed text lacks_memory =
+    let items = items_of parsed in
+    IsRunOutput (clock_of parsed.settings) (limit_of parsed.settings) (shares_of 0 (submitters_of parsed.settings) items)
+    (planned_items (moments_asked items) (shuts_in items))
+    (refused_of (moments_asked items)) text lacks_memory
+
+-- the text of a run of the bytes of a script without a fault
 abbrev pub IsRunOf : List ℕ → List ℕ → Type 0
 IsRunOf bytes text = (parsed : ParsedScript) → source_in bytes ≡ Ok parsed → IsTextOf parsed text
+
+-- the same, and whether memory ran out
+abbrev pub IsOutputOfBytes : List ℕ → List ℕ → Bool → Type 0
+IsOutputOfBytes bytes text lacks_memory =
+    (parsed : ParsedScript) → source_in bytes ≡ Ok parsed → IsOutputOf parsed text lacks_memory
+
+-- if memory didn't run out in a run, all that is ahead of its Close is committed
+abbrev pub WithoutLackAllIsCommitted : Type 0
+WithoutLackAllIsCommitted =
+    (clock limit : ℕ) (shares : List (List packets.Packet)) (controlled : List Item) (refused_pulses : ℕ) (text : List ℕ)
+    → (output : IsRunOutput clock limit shares controlled refused_pulses text false)
+    → committed_in output.ran.run ≡ ahead_in output.ran.run
+
+-- the same of a run from one ledger to another that hasn't stopped
+abbrev pub WithoutLackOrStopAllIsCommitted : Type 0
+WithoutLackOrStopAllIsCommitted =
+    (limit : ℕ) (shares : List (List packets.Packet)) (controlled : List Item) (text : List ℕ) (start ledger : LedgerState)
+    → (output : IsOutputOver limit shares controlled text false start ledger) → ledger.stopped ≡ false
+    → committed_in output.ran.run ≡ ahead_in output.ran.run

@@ -10,7 +10,7 @@ ghost use Rattle.tb_program.specs.inside.Answering.{AreAllAnswered, AreAllDone};
 ghost use Rattle.tb_program.specs.inside.Drivers.{AreNew, share_of, results_of};
 ghost use Rattle.tb_program.specs.clauses.Noting.{AreFresh};
 ghost use Rattle.tb_program.specs.clauses.Operations.{operations_of};
-ghost use Rattle.tb_program.specs.clauses.RunText.{IsRunOver, packets_text};
+ghost use Rattle.tb_program.specs.clauses.RunText.{IsOutputOver, IsRunOver, lacks_packets, packets_text};
 ghost use Rattle.tb_program.specs.clauses.Sharing.{moments_asked, shares_of, shuts_in};
 ghost use Rattle.tb_program_text.specs.clauses.Script.{InBounds, limit_of, submitters_of};
 ghost use Rattle.tb_submit.specs.clauses.Ends.{replies_of};
@@ -18,7 +18,7 @@ ghost use Rattle.tb_submit.specs.clauses.Ends.{replies_of};
 use crate::operations::operations_shared;
 use crate::run::driver::ScriptDriver;
 use crate::run::fault::program_fault_of;
-use crate::run::report::put_all_packets;
+use crate::run::report::{RunText, put_all_packets};
 use crate::run::share::share_out;
 use crate::run::{drivers, open_for};
 use std::alloc::Global;
@@ -38,6 +38,8 @@ pub struct RunOver<L: AnyLedger> {
     pub ledger: L,
     /// The lines of the packets, by rising number of their submitters.
     pub packets: String,
+    /// Whether memory ran out for a packet, whose line says stopped or refused.
+    pub lacks_memory: bool,
     /// The operation of each of these lines that is a reply's, and any number for another line.
     pub operations: Vec<u8>,
     /// How many pulses were refused, since their moments are too large.
@@ -45,14 +47,24 @@ pub struct RunOver<L: AnyLedger> {
 }
 
 /// Returns the lines of all packets.
-fn lines_of(alloc: Global, drivers: Vec<ScriptDriver>, ends: Vec<Ended>) -> Result<String, NoMemory>
+fn lines_of(
+    alloc: Global,
+    drivers: Vec<ScriptDriver>,
+    ends: Vec<Ended>,
+) -> Result<RunText, NoMemory>
     requires few { length drivers.items ≤ submitters_max }
     requires number { length ends.items ≡ length drivers.items }
     requires answered { AreAllAnswered drivers.items ends.items }
     ensures done { IfOk result (λ lines. AreAllDone drivers.items) }
-    ensures text { IfOk result (λ lines. string_bytes lines ≡ packets_text 0 (map results_of drivers.items) (replies_of ends.items)) }
+    ensures text { IfOk result (λ lines. string_bytes lines.text
+        ≡ packets_text 0 (map results_of drivers.items) (replies_of ends.items)) }
+    ensures lacking { IfOk result (λ lines. lines.lacks_memory
+        ≡ lacks_packets (map results_of drivers.items) (replies_of ends.items)) }
 {
-    let mut lines = String::new(alloc);
+    let mut lines = RunText {
+        text: String::new(alloc),
+        lacks_memory: false,
+    };
     put_all_packets(&mut lines, drivers, ends)?;
     Ok(lines)
 }
@@ -75,6 +87,9 @@ fn run_opened_over<T: Threads + Wait + Clock + Sync, L: AnyLedger + Send>(
     ensures ran { IfOk result (λ ran. GoesFrom (L.is opened.pipeline.start) (L.is ran.ledger)
         (IsRunOver opened.pipeline.intake.limit (map share_of drivers.items) (planned_items lines.moments.items lines.shuts)
         (string_bytes ran.packets))) }
+    ensures memory { IfOk result (λ ran. GoesFrom (L.is opened.pipeline.start) (L.is ran.ledger)
+        (IsOutputOver opened.pipeline.intake.limit (map share_of drivers.items) (planned_items lines.moments.items lines.shuts)
+        (string_bytes ran.packets) ran.lacks_memory)) }
     ensures refused { IfOk result (λ ran. ran.refused_pulses ≡ refused_of lines.moments.items) }
 {
     match drive_over(rt, alloc, opened, drivers, lines.driver()) {
@@ -87,9 +102,10 @@ fn run_opened_over<T: Threads + Wait + Clock + Sync, L: AnyLedger + Send>(
             } = finished;
             let Report { ledger, ends } = report;
             match lines_of(alloc, drivers, ends) {
-                Ok(packets) => Ok(RunOver {
+                Ok(lines) => Ok(RunOver {
                     ledger,
-                    packets,
+                    packets: lines.text,
+                    lacks_memory: lines.lacks_memory,
                     operations: Vec::new(alloc),
                     refused_pulses: control.refused,
                 }),
@@ -121,6 +137,11 @@ pub fn run_over<T: Threads + Wait + Clock + Sync, L: AnyLedger + Send>(
     ensures ran { IfOk result (λ ran. GoesFrom (L.is ledger) (L.is ran.ledger) (IsRunOver (limit_of script.settings)
         (shares_of 0 (submitters_of script.settings) script.items.items)
         (planned_items (moments_asked script.items.items) (shuts_in script.items.items)) (string_bytes ran.packets))) }
+    // It says whether memory ran out for a packet of this run.
+    ensures memory { IfOk result (λ ran. GoesFrom (L.is ledger) (L.is ran.ledger) (IsOutputOver (limit_of script.settings)
+        (shares_of 0 (submitters_of script.settings) script.items.items)
+        (planned_items (moments_asked script.items.items) (shuts_in script.items.items)) (string_bytes ran.packets)
+        ran.lacks_memory)) }
     ensures refused { IfOk result (λ ran. ran.refused_pulses ≡ refused_of (moments_asked script.items.items)) }
     // The operations that name its codes are those of each submitter's packets, in order.
     ensures operations { IfOk result (λ ran. ran.operations.items

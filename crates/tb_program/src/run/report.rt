@@ -1,7 +1,7 @@
 //! What is printed of a run.
 
-ghost use Rattle.std.specs.Prelude.{◌≡◌, ◌<◌, ◌≤◌, ◌+◌, ◌^◌, ◌++◌, ◌∷◌, [], length, map, IfOk, IsSomeAnd, OnOk, string_bytes};
-ghost use Rattle.std.specs.List.{flat_map};
+ghost use Rattle.std.specs.Prelude.{◌≡◌, ◌<◌, ◌≤◌, ◌+◌, ◌^◌, ◌++◌, ◌∷◌, ◌||◌, [], length, map, IfOk, IsSomeAnd, OnOk, string_bytes};
+ghost use Rattle.std.specs.List.{count_by, flat_map};
 ghost use Rattle.tb_core.specs.claim.Ledger.{group_of};
 ghost use Rattle.tb_core.specs.claim.Journal.{inputs};
 ghost use Rattle.tb_layout.specs.claim.Bounds.{submitters_max};
@@ -9,7 +9,8 @@ ghost use Rattle.tb_machine.specs.claim.Replay.{replay};
 ghost use Rattle.tb_submit.specs.clauses.Ends.{replies_of};
 ghost use Rattle.tb_program.specs.inside.Answering.{AreAllAnswered, AreAllDone, IsAnswered, IsAnsweredBy};
 ghost use Rattle.tb_program.specs.inside.Drivers.{IsDone, results_of};
-ghost use Rattle.tb_program.specs.clauses.RunText.{replies_after, ledger_text, packets_text, pulses_text, refused_pulses_text, run_text, line_of_packet, lines_of_packets};
+ghost use Rattle.tb_program.specs.inside.Lacking.{is_lost, is_pulse};
+ghost use Rattle.tb_program.specs.clauses.RunText.{lacks_packet, lacks_packets, lacks_pulse as fewer, replies_after, ledger_text, packets_text, pulses_text, refused_pulses_text, run_text, line_of_packet, lines_of_packets};
 ghost use Rattle.tb_program.specs.declared.run.notes.PacketResult.TheVariants.{Queued};
 
 use crate::run::driver::ScriptDriver;
@@ -24,10 +25,18 @@ use tb_layout::NoMemory;
 use tb_pipe::{Finished, Report};
 use tb_program_text::{put_pulse, put_refused, put_refused_pulse, put_reply};
 use tb_submit::Ended;
-use tb_work::Reply;
+use tb_work::{Outcome, Refusal, Reply};
 
 /// The shortest line of a packet, as `packet 0 0 committed 0` and its end.
 const SHORTEST_LINE: usize = 23;
+
+/// The text of a run.
+#[derive(Drop)]
+pub(crate) struct RunText {
+    pub(crate) text: String,
+    /// Whether memory ran out for a packet, whose line says stopped or refused, or for a pulse, which has no line.
+    pub(crate) lacks_memory: bool,
+}
 
 /// A submitter's replies in their order: those that its driver read, and then those that its end still has. It is seen
 /// as those that are left.
@@ -60,20 +69,28 @@ impl Replies {
     /// Adds the line of a packet: its reply, or why it was refused.
     fn put_result(
         &mut self,
-        out: &mut String,
+        out: &mut RunText,
         submitter: u32,
         packet_result: PacketResult,
     ) -> Result<(), AllocError>
         requires { packet_result ≡ Queued → 0 < length self.old }
-        ensures text { OnOk result (string_bytes out.new ≡ string_bytes out.old ++ line_of_packet submitter packet_result self.old) }
+        ensures text { OnOk result (string_bytes out.new.text
+            ≡ string_bytes out.old.text ++ line_of_packet submitter packet_result self.old) }
+        ensures lacking { OnOk result (out.new.lacks_memory ≡ (out.old.lacks_memory || is_lost packet_result self.old)) }
         ensures left { OnOk result (self.new ≡ replies_after packet_result self.old) }
     {
         match packet_result {
             PacketResult::Queued => match self.next() {
-                Some(reply) => put_reply(out, &reply),
+                Some(reply) => {
+                    out.lacks_memory |= matches!(reply.outcome, Outcome::Stopped);
+                    put_reply(&mut out.text, &reply)
+                }
                 None => Ok(()),
             },
-            PacketResult::Refused(refusal) => put_refused(out, submitter, refusal),
+            PacketResult::Refused(refusal) => {
+                out.lacks_memory |= matches!(refusal, Refusal::NoMemory);
+                put_refused(&mut out.text, submitter, refusal)
+            }
         }
     }
 }
@@ -81,13 +98,15 @@ impl Replies {
 /// Adds the lines of packets whose results are noted.
 #[tactic(auto, unfolding(crate::specs::clauses::RunText::lines_of_packets))]
 fn put_results(
-    out: &mut String,
+    out: &mut RunText,
     submitter: u32,
     results: &[PacketResult],
     replies: &mut Replies,
 ) -> Result<(), AllocError>
     requires { IsAnswered results.now replies.old }
-    ensures { OnOk result (string_bytes out.new ≡ string_bytes out.old ++ lines_of_packets submitter results.now replies.old) }
+    ensures text { OnOk result (string_bytes out.new.text
+        ≡ string_bytes out.old.text ++ lines_of_packets submitter results.now replies.old) }
+    ensures lacking { OnOk result (out.new.lacks_memory ≡ (out.old.lacks_memory || lacks_packet results.now replies.old)) }
 {
     for packet_result in results {
         replies.put_result(out, submitter, *packet_result)?;
@@ -97,15 +116,17 @@ fn put_results(
 
 /// Adds the lines of a submitter's packets.
 fn put_packets(
-    out: &mut String,
+    out: &mut RunText,
     submitter: u32,
     driver: ScriptDriver,
     ended: Ended,
 ) -> Result<(), NoMemory>
     requires { IsAnsweredBy driver ended }
     ensures done { OnOk result (IsDone driver) }
-    ensures text { OnOk result (string_bytes out.new
-        ≡ string_bytes out.old ++ lines_of_packets submitter (results_of driver) (ended.read ++ ended.lying)) }
+    ensures text { OnOk result (string_bytes out.new.text
+        ≡ string_bytes out.old.text ++ lines_of_packets submitter (results_of driver) (ended.read ++ ended.lying)) }
+    ensures lacking { OnOk result (out.new.lacks_memory
+        ≡ (out.old.lacks_memory || lacks_packet (results_of driver) (ended.read ++ ended.lying))) }
 {
     let Some(
         Notes {
@@ -130,7 +151,7 @@ fn put_packets(
 /// Adds the lines of all packets, by rising number of their submitters.
 #[tactic(auto, unfolding(crate::specs::clauses::RunText::packets_text))]
 pub(crate) fn put_all_packets(
-    out: &mut String,
+    out: &mut RunText,
     drivers: Vec<ScriptDriver>,
     ends: Vec<Ended>,
 ) -> Result<(), NoMemory>
@@ -138,8 +159,10 @@ pub(crate) fn put_all_packets(
     requires number { length ends.items ≡ length drivers.items }
     requires answered { AreAllAnswered drivers.items ends.items }
     ensures done { OnOk result (AreAllDone drivers.items) }
-    ensures text { OnOk result (string_bytes out.new
-        ≡ string_bytes out.old ++ packets_text 0 (map results_of drivers.items) (replies_of ends.items)) }
+    ensures text { OnOk result (string_bytes out.new.text
+        ≡ string_bytes out.old.text ++ packets_text 0 (map results_of drivers.items) (replies_of ends.items)) }
+    ensures lacking { OnOk result (out.new.lacks_memory
+        ≡ (out.old.lacks_memory || lacks_packets (map results_of drivers.items) (replies_of ends.items))) }
 {
     let mut ends = ends.into_iter();
     let mut submitter = 0u32;
@@ -202,9 +225,26 @@ fn put_ledger(out: &mut String, ledger: &Ledger, refused_pulses: u64) -> Result<
     Ok(())
 }
 
+/// Returns how many entries are pulses.
+fn pulses_in(journal: &[Entry]) -> usize
+    ensures { result ≡ count_by is_pulse journal.now }
+{
+    journal
+        .iter()
+        .filter(|entry| matches!(entry, Entry::Pulse { .. }))
+        .count()
+}
+
+/// Returns whether fewer pulses are committed than were queued.
+fn lacks_pulse(ledger: &Ledger, queued: usize) -> bool
+    ensures { result ≡ fewer (inputs ledger.now) queued }
+{
+    pulses_in(ledger.journal()) < queued
+}
+
 /// Adds all lines of a run.
 fn put_run(
-    out: &mut String,
+    out: &mut RunText,
     ledger: &Ledger,
     drivers: Vec<ScriptDriver>,
     ends: Vec<Ended>,
@@ -215,12 +255,14 @@ fn put_run(
     requires answered { AreAllAnswered drivers.items ends.items }
     requires places { length (inputs ledger.now) < 2 ^ 64 }
     ensures done { OnOk result (AreAllDone drivers.items) }
-    ensures text { OnOk result (string_bytes out.new
-        ≡ string_bytes out.old ++ run_text (map results_of drivers.items) (replies_of ends.items)
+    ensures text { OnOk result (string_bytes out.new.text
+        ≡ string_bytes out.old.text ++ run_text (map results_of drivers.items) (replies_of ends.items)
         (inputs ledger.now) refused_pulses ledger.now.state) }
+    ensures lacking { OnOk result (out.new.lacks_memory
+        ≡ (out.old.lacks_memory || lacks_packets (map results_of drivers.items) (replies_of ends.items))) }
 {
     put_all_packets(out, drivers, ends)?;
-    put_ledger(out, ledger, refused_pulses)
+    put_ledger(&mut out.text, ledger, refused_pulses)
 }
 
 /// Returns an empty text, with room for the shortest lines of what was committed.
@@ -231,19 +273,30 @@ fn text_with_room(alloc: Global, ledger: &Ledger) -> Result<String, AllocError>
     String::with_capacity(alloc, probable)
 }
 
-/// Returns a text with all lines of a run added to it.
-fn with_run(text: String, finished: Finished<ScriptDriver, PlanDriver>) -> Result<String, NoMemory>
+/// Returns a text with all lines of a run added to it, whose control queued this number of pulses.
+fn with_run(
+    text: String,
+    finished: Finished<ScriptDriver, PlanDriver>,
+    queued: usize,
+) -> Result<RunText, NoMemory>
     requires few { length finished.drivers.items ≤ submitters_max }
     requires number { length finished.report.ends.items ≡ length finished.drivers.items }
     requires answered { AreAllAnswered finished.drivers.items finished.report.ends.items }
     ensures done { IfOk result (λ all. AreAllDone finished.drivers.items) }
-    ensures text { IfOk result (λ all. string_bytes all
+    ensures text { IfOk result (λ all. string_bytes all.text
         ≡ string_bytes text ++ run_text (map results_of finished.drivers.items) (replies_of finished.report.ends.items)
         (inputs finished.report.ledger) finished.control.refused
         finished.report.ledger.state) }
+    ensures lacking { IfOk result (λ all. all.lacks_memory
+        ≡ (lacks_packets (map results_of finished.drivers.items) (replies_of finished.report.ends.items)
+        || fewer (inputs finished.report.ledger) queued)) }
 {
     let Report { ledger, ends } = finished.report;
-    let mut out = text;
+    let lacks_pulse = lacks_pulse(&ledger, queued);
+    let mut out = RunText {
+        text,
+        lacks_memory: false,
+    };
     let put = put_run(
         &mut out,
         &ledger,
@@ -253,26 +306,31 @@ fn with_run(text: String, finished: Finished<ScriptDriver, PlanDriver>) -> Resul
     );
     drop(ledger);
     put?;
+    out.lacks_memory |= lacks_pulse;
     Ok(out)
 }
 
-/// Returns the text of a run: its packets, its pulses, the pulses that were refused, the clock and the accounts. It
-/// begins with room for the shortest lines of what was committed.
+/// Returns the text of a run whose control queued this number of pulses: its packets, its pulses, the pulses that were
+/// refused, the clock and the accounts. It begins with room for the shortest lines of what was committed.
 pub(crate) fn text_of(
     alloc: Global,
     finished: Finished<ScriptDriver, PlanDriver>,
-) -> Result<String, NoMemory>
+    queued: usize,
+) -> Result<RunText, NoMemory>
     requires few { length finished.drivers.items ≤ submitters_max }
     requires number { length finished.report.ends.items ≡ length finished.drivers.items }
     requires answered { AreAllAnswered finished.drivers.items finished.report.ends.items }
-    ensures done { IfOk result (λ text. AreAllDone finished.drivers.items) }
-    ensures text { IfOk result (λ text. string_bytes text
+    ensures done { IfOk result (λ made. AreAllDone finished.drivers.items) }
+    ensures text { IfOk result (λ made. string_bytes made.text
         ≡ run_text (map results_of finished.drivers.items) (replies_of finished.report.ends.items)
         (inputs finished.report.ledger) finished.control.refused
         finished.report.ledger.state) }
+    ensures lacking { IfOk result (λ made. made.lacks_memory
+        ≡ (lacks_packets (map results_of finished.drivers.items) (replies_of finished.report.ends.items)
+        || fewer (inputs finished.report.ledger) queued)) }
 {
     match text_with_room(alloc, &finished.report.ledger) {
-        Ok(text) => with_run(text, finished),
+        Ok(text) => with_run(text, finished, queued),
         Err(_) => {
             drop(finished);
             Err(NoMemory)

@@ -1,6 +1,7 @@
-use super::{assert_both, assert_list, bytes_after, joined};
+use super::{assert_both, assert_list, bytes_after, joined, must};
 use std::alloc::Global;
 use std::process::Abort;
+use tb_program::run_output;
 
 /// Returns a packet of accounts and one of no operation, both of `count` bytes of zeros.
 fn two_packets_of(rt: &(impl Abort + Alloc<A = Global>), count: usize) -> String {
@@ -93,4 +94,13 @@ fn account_codes(rt: HostRuntime) {
         let (code, event) = row.split_once(' ').expect(&rt, "a code and fields");
         assert_answer(&rt, event, code);
     }
+}
+
+/// Nothing of this script is lost for want of memory: neither the packets that are refused or behind the Close, nor the pulse that is refused.
+#[test]
+fn run_that_lacks_no_memory(rt: HostRuntime) {
+    let script =
+        "packet 0 131\npacket 0 200\npulse 9\npulse 4611686018427387905\nshut\npacket 0 131\n";
+    let output = run_output(&rt, rt.alloc(), &mut script.as_bytes()).expect(&rt, "memory");
+    must(&rt, output.faultless && !output.lacks_memory);
 }

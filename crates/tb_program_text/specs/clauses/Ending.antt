@@ -10,6 +10,12 @@ ending_of (Ok true) = Done
 ending_of (Ok false) = FaultyScript
 ending_of (Err fault) = Failed fault
 
+-- if memory ran out in a run, it doesn't end as if all were well
+abbrev pub ending_of_run : Ending → Bool → Ending
+ending_of_run Done true = NotAllCommitted
+ending_of_run NotAllSucceeded true = NotAllCommitted
+ending_of_run ending lacks_memory = ending
+
 abbrev pub status_of : Ending → ℕ
 status_of Done = 0
 status_of FaultyScript = 1

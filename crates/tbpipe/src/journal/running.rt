@@ -37,10 +37,11 @@ fn journaled<S: Store + Drop>(
     let RunOver {
         ledger,
         packets: mut text,
+        lacks_memory,
         operations,
         refused_pulses,
     } = ran;
-    let lacks_memory = ledger.lacks_memory || tb_program::lacks_memory(text.as_str());
+    let lacks_memory = lacks_memory || ledger.lacks_memory;
     put_pulses(&mut text, &ledger.pulses, refused_pulses)?;
     put_state(&mut text, ledger.ledger.machine())?;
     let stop = match stop_of(&ledger.ledger) {

@@ -4,8 +4,8 @@ use Rattle.tb_program_text.specs.declared.item.Settings.{Settings}
 use Rattle.tb_program.proofs.Sharing.{dealt_lists}
 use Rattle.tb_program.proofs.run.output_for.Goals as goal
 
-pub returns-clause-text : goal.returns-clause-text
-returns-clause-text g c =
+pub returns-clause-memory : goal.returns-clause-memory
+returns-clause-memory g c =
     let parsed = c.args.script in
     let packets = c.in_ok-shares.shares.packets.items in
     let script = c.in_ok-settings.field-0 in
@@ -20,7 +20,10 @@ returns-clause-text g c =
     let limit : limit_of script.settings ≡ limit_of parsed.settings = ap limit_of is.settings in
     let moments : c.in_ok-shares.shares.lines.moments.items ≡ moments_asked (items_of parsed) = search rules in
     let shuts : c.in_ok-shares.shares.lines.shuts ≡ shuts_in (items_of parsed) = search rules in
-    rw (clock, limit, shares, moments, shuts) at c.in_ok-text.ensures
+    rw (clock, limit, shares, moments, shuts) at c.in_ok-made.ensures
+
+pub returns-clause-text : goal.returns-clause-text
+returns-clause-text g c = (returns-clause-memory g c).ran
 
 pub returns-clause-operations : goal.returns-clause-operations
 returns-clause-operations g c =

@@ -1,5 +1,7 @@
-use Rattle.std.proofs.Common.{◌≡◌, ◌∙◌, ◌++◌, List, [], length, map, ap, sym, subst}
+use Rattle.std.proofs.Common.{◌≡◌, ◌∙◌, ◌++◌, ◌||◌, List, [], length, map, ap, sym, subst, arith}
 use Rattle.tb_program.proofs.Words.{length-map, ℕ, Vec, Global, IsGrouping, LedgerState, groups_since, inputs, inputs_since, moments_in, moments_queued, IsPrefix, committed_in, planned_items, refused_of, jobs_in, ReplyValue, Item, HasSeenOf, share_of, results_of, AreHandedIn, run_text}
+use Rattle.tb_program.specs.clauses.RunText.{lacks_packets, lacks_pulse}
+use Rattle.tb_program.proofs.Lacking.{pulses_queued}
 use Rattle.tb_program.proofs.Answered.{all_answered, all_handed_in, committed_is}
 use Rattle.tb_program.proofs.run.run_opened.Goals as goal
 
@@ -36,25 +38,37 @@ returns-in_ok-text_of-in-Ok g c =
     let committed : inputs ledger ≡ committed_in run =
     ap (λ (start : LedgerState). inputs_since start ledger) (sym c.requires.first) ∙ sym (committed_is reported) in
     let long = length-map c.args.drivers.items share_of ∙ c.requires.number ∙ c.requires.together.2 in
+    let queued : c.saturating_sub-queued.result ≡ length (moments_queued lines) =
+    omega (
+      arith,
+      c.saturating_sub-queued.ensures,
+      c.len-asked.ensures,
+      counted,
+      pulses_queued c.args.lines.moments.items c.args.lines.shuts,
+    ) in
     record {
-      run = run;
-      results = results;
-      clock_is = reported.report.opening;
-      first = reported.began ∙ ap inputs c.requires.first;
-      submitters_are = reported.submitters_are ∙ sym long;
-      report = reported.report.lawful;
-      grouping = subst (λ (start : LedgerState). IsGrouping opened.pipeline.intake.limit (groups_since start run.ledger))
-          c.requires.first reported.report.grouping;
-      control = reported.controlled ∙ all;
-      pulses = subst (λ controlled. IsPrefix (moments_in (committed_in run)) (moments_queued controlled)) all
-          reported.report.pulses;
-      number = length-map drivers results_of ∙ sym (length-map drivers share_of) ∙ ap length shares;
-      handed = subst (λ all. AreHandedIn opened.pipeline.intake.limit run.replies all results run.queued) shares
-          (all_handed_in reported c.in_ok-text_of-in-Ok.ensures.done);
-      printed = c.in_ok-text_of-in-Ok.ensures.text
-          ∙ ap (λ replies. run_text results replies (inputs ledger) finished.control.refused ledger.state) (sym reported.replies_are)
-          ∙ ap (λ inputs. run_text results run.replies inputs finished.control.refused ledger.state) committed
-          ∙ ap (λ refused. run_text results run.replies (committed_in run) refused ledger.state) counted
-          ∙ ap (λ (ledger : LedgerState). run_text results run.replies (committed_in run)
-          (refused_of c.args.lines.moments.items) ledger.state) (sym reported.ledger_is);
+      ran = record {
+        run = run;
+        results = results;
+        clock_is = reported.report.opening;
+        first = reported.began ∙ ap inputs c.requires.first;
+        submitters_are = reported.submitters_are ∙ sym long;
+        report = reported.report.lawful;
+        grouping = subst (λ (start : LedgerState). IsGrouping opened.pipeline.intake.limit (groups_since start run.ledger))
+            c.requires.first reported.report.grouping;
+        control = reported.controlled ∙ all;
+        pulses = subst (λ controlled. IsPrefix (moments_in (committed_in run)) (moments_queued controlled)) all
+            reported.report.pulses;
+        number = length-map drivers results_of ∙ sym (length-map drivers share_of) ∙ ap length shares;
+        handed = subst (λ all. AreHandedIn opened.pipeline.intake.limit run.replies all results run.queued) shares
+            (all_handed_in reported c.in_ok-text_of-in-Ok.ensures.done);
+        printed = c.in_ok-text_of-in-Ok.ensures.text
+            ∙ ap (λ replies. run_text results replies (inputs ledger) finished.control.refused ledger.state) (sym reported.replies_are)
+            ∙ ap (λ inputs. run_text results run.replies inputs finished.control.refused ledger.state) committed
+            ∙ ap (λ refused. run_text results run.replies (committed_in run) refused ledger.state) counted
+            ∙ ap (λ (ledger : LedgerState). run_text results run.replies (committed_in run)
+            (refused_of c.args.lines.moments.items) ledger.state) (sym reported.ledger_is);
+      };
+      lacking = c.in_ok-text_of-in-Ok.ensures.lacking
+          ∙ (λ i. lacks_packets results (sym reported.replies_are i) || lacks_pulse (committed i) (queued i));
     }

@@ -2,7 +2,7 @@ use denote.Param.Send.{sendable}
 use Rattle.tb_program.proofs.Sending.{driver_send}
 use Rattle.std.proofs.Common.{◌≡◌, ◌∙◌, ◌++◌, List, [], length, map, string_bytes, ap, sym, subst, rules}
 use Rattle.tb_program.proofs.Words.{length-map, ℕ, Vec, Global, IsGrouping, LedgerState, groups_since, inputs_since, moments_in, moments_queued, IsPrefix, Input, planned_items, jobs_in, ReplyValue, Item, HasSeenOf, share_of, results_of, AreHandedIn}
-use Rattle.tb_program.specs.clauses.RunText.{packets_text}
+use Rattle.tb_program.specs.clauses.RunText.{lacks_packets, packets_text}
 use Rattle.tb_program.proofs.Answered.{all_answered, all_handed_in, committed_is}
 use Rattle.tb_program.proofs.run.over.run_opened_over.Goals as goal
 
@@ -21,8 +21,8 @@ pub lines_of-requires-clause-answered : goal.lines_of-requires-clause-answered
 lines_of-requires-clause-answered g c =
     all_answered (c.in-Ok.ensures.reported c.requires.known.0 c.requires.known.1).2
 
-pub returns-in-Ok-lines_of-clause-ran : goal.returns-in-Ok-lines_of-clause-ran
-returns-in-Ok-lines_of-clause-ran g c = λ start is.
+pub returns-in-Ok-lines_of-clause-memory : goal.returns-in-Ok-lines_of-clause-memory
+returns-in-Ok-lines_of-clause-memory g c = λ start is.
     let went = c.in-Ok.ensures.reported start is in
     let reported = went.2 in
     let drivers = c.in-Ok.finished.drivers.items in
@@ -39,25 +39,34 @@ returns-in-Ok-lines_of-clause-ran g c = λ start is.
       went.0,
       went.1,
       record {
-        run = reported.run;
-        results = results;
-        before = reported.began;
-        ledger_is = reported.ledger_is;
-        submitters_are = reported.submitters_are ∙ sym long;
-        report = reported.report.lawful;
-        grouping = subst (λ (ledger : LedgerState). IsGrouping c.args.opened.pipeline.intake.limit (groups_since start ledger))
-            reported.ledger_is reported.report.grouping;
-        control = reported.controlled ∙ all;
-        pulses = subst (λ (controlled : List Item). IsPrefix (moments_in (inputs_since start went.0)) (moments_queued controlled)) all
-            (subst (λ (inputs : List Input). IsPrefix (moments_in inputs) (moments_queued (c.args.opened.control.queued ++ reported.items)))
-            (committed_is reported) reported.report.pulses);
-        number = length-map drivers results_of ∙ sym (length-map drivers share_of) ∙ ap length shares;
-        handed = subst (λ all. AreHandedIn c.args.opened.pipeline.intake.limit reported.run.replies all results reported.run.queued) shares
-            (all_handed_in reported c.in-Ok-lines_of.ensures.done);
-        printed = subst (λ replies. string_bytes c.in-Ok-lines_of.packets ≡ packets_text 0 results replies) (sym reported.replies_are)
-            c.in-Ok-lines_of.ensures.text;
+        ran = record {
+          run = reported.run;
+          results = results;
+          before = reported.began;
+          ledger_is = reported.ledger_is;
+          submitters_are = reported.submitters_are ∙ sym long;
+          report = reported.report.lawful;
+          grouping = subst (λ (ledger : LedgerState). IsGrouping c.args.opened.pipeline.intake.limit (groups_since start ledger))
+              reported.ledger_is reported.report.grouping;
+          control = reported.controlled ∙ all;
+          pulses = subst (λ (controlled : List Item). IsPrefix (moments_in (inputs_since start went.0)) (moments_queued controlled)) all
+              (subst (λ (inputs : List Input). IsPrefix (moments_in inputs) (moments_queued (c.args.opened.control.queued ++ reported.items)))
+              (committed_is reported) reported.report.pulses);
+          number = length-map drivers results_of ∙ sym (length-map drivers share_of) ∙ ap length shares;
+          handed = subst (λ all. AreHandedIn c.args.opened.pipeline.intake.limit reported.run.replies all results reported.run.queued) shares
+              (all_handed_in reported c.in-Ok-lines_of.ensures.done);
+          printed = subst (λ replies. string_bytes c.in-Ok-lines_of.lines.text ≡ packets_text 0 results replies) (sym reported.replies_are)
+              c.in-Ok-lines_of.ensures.text;
+        };
+        lacking = subst (λ replies. c.in-Ok-lines_of.lines.lacks_memory ≡ lacks_packets results replies) (sym reported.replies_are)
+            c.in-Ok-lines_of.ensures.lacking;
       },
     )
+
+pub returns-in-Ok-lines_of-clause-ran : goal.returns-in-Ok-lines_of-clause-ran
+returns-in-Ok-lines_of-clause-ran g c = λ start is.
+    let went = returns-in-Ok-lines_of-clause-memory g c start is in
+    (went.0, went.1, went.2.ran)
 
 pub returns-in-Ok-lines_of-clause-refused : goal.returns-in-Ok-lines_of-clause-refused
 returns-in-Ok-lines_of-clause-refused g c = search rules

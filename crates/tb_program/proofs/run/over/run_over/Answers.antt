@@ -24,8 +24,8 @@ pub run_opened_over-requires-clause-fresh : goal.run_opened_over-requires-clause
 run_opened_over-requires-clause-fresh g c κs within =
     subst AreFresh (ap (λ vec. vec.items) (sym c.in-Ok.ensures.ends.0)) c.in_ok-opened.ensures.fresh
 
-pub returns-clause-ran : goal.returns-clause-ran
-returns-clause-ran g c =
+pub returns-clause-memory : goal.returns-clause-memory
+returns-clause-memory g c =
     let script = c.args.script in
     let packets = c.in_ok-shares.shares.packets.items in
     let lines = c.in_ok-shares.shares.lines in
@@ -37,7 +37,12 @@ returns-clause-ran g c =
     ∙ ap (λ n. shares_of 0 n script.items.items) number in
     let moments : lines.moments.items ≡ moments_asked script.items.items = c.in_ok-shares.ensures.moments in
     let shuts : lines.shuts ≡ shuts_in script.items.items = c.in_ok-shares.ensures.shuts in
-    rw (start, limit, shares, moments, shuts) at c.in_ok-ran.ensures.ran
+    rw (start, limit, shares, moments, shuts) at c.in_ok-ran.ensures.memory
+
+pub returns-clause-ran : goal.returns-clause-ran
+returns-clause-ran g c = λ start is.
+    let went = returns-clause-memory g c start is in
+    (went.0, went.1, went.2.ran)
 
 pub returns-clause-operations : goal.returns-clause-operations
 returns-clause-operations g c =

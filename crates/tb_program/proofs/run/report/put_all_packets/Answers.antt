@@ -1,5 +1,6 @@
 use Rattle.std.proofs.Common.{rules, ◌≡◌, ◌∙◌, ◌∷◌, suc, slice_get, length, ap, sym, subst, arith}
 use Rattle.tb_program.proofs.Words.{into_iter_items, AreAllDone}
+use Rattle.tb_program.proofs.Lacking.{first_lacks}
 use Rattle.tb_program.proofs.Packets.{first_done, first_text}
 use Rattle.tb_program.proofs.run.report.put_all_packets.Goals as goal
 
@@ -28,4 +29,5 @@ loop-driver-preserved c =
       done = λ others. before.done (subst AreAllDone (sym drivers)
           (first_done c.in-Some.driver c.next.new.self.rest.items c.in_ok-put_packets.ensures.done others));
       text = first_text _ c.loop-driver.submitter drivers ends c.in_ok-put_packets.ensures.text ∙ before.text;
+      lacking = first_lacks _ drivers ends c.in_ok-put_packets.ensures.lacking ∙ before.lacking;
     }
