@@ -209,6 +209,7 @@ pulse_restores old moment new idle room on queues =
         else take_result (with_group old.front []) (group_as_batch old.front.held ++ Pulse moment ∷ [])).front.held ≡ []
     sealed true empty = empty
     sealed false empty = refl
+
     once : (clear : Bool) → clear ≡ false → old.front.held ≡ [] → places_in (if clear then take_result old.front []
         else take_result (with_group old.front []) (group_as_batch old.front.held ++ Pulse moment ∷ [])).parcels ≡ 1
     once true open_yet empty = cc

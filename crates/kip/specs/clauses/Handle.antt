@@ -1,5 +1,5 @@
 -- what a call did to the engine inside a handle; a closed handle has none.
-use Rattle.std.specs.Prelude.{◌≡◌, ◌<◌, ◌≤◌, ◌⊎◌, ◌+◌, ◌*◌, ◌^◌, ℕ, Bool, nat_lt, if◌then◌else◌, length, List, Option, Some, None}
+use Rattle.std.specs.Prelude.{◌≡◌, ◌<◌, ◌⊎◌, ◌+◌, ◌*◌, ◌^◌, ℕ, Bool, nat_lt, if◌then◌else◌, length, List, Option, Some, None}
 use Rattle.tb_layout.specs.clauses.Records.{account_bytes, transfer_bytes}
 use Rattle.tb_layout.specs.claim.Limits.{clock_max}
 use Rattle.tb_layout.specs.declared.account.Account.{Account}
