@@ -408,12 +408,12 @@ fn any_error_of_a_store_is_boxed() {
 #[test]
 fn kept_replies_come_in_the_order_of_places() -> Result<(), Failed> {
     let mut ledger = Ledger::open_recorded(0, 8190, 1)?;
-    let mut store = |_: &[Entry]| -> Result<(), Infallible> { Ok(()) };
+    let store = |_: &[Entry]| -> Result<(), Infallible> { Ok(()) };
     ledger.submit(0, CREATE_ACCOUNTS, &accounts([1]), 0)?;
     ledger.submit(0, CREATE_ACCOUNTS, &accounts([0]), 0)?;
-    ledger.create_accounts(&[account(2)], &mut store)?.all_created()?;
+    ledger.create_accounts(&[account(2)], store)?.all_created()?;
     ledger.submit(0, CREATE_ACCOUNTS, &accounts([1]), 0)?;
-    ledger.commit(&mut store)?;
+    ledger.commit(store)?;
     // id_must_not_be_zero is 6, and exists is 21.
     assert_eq!(answers(&mut ledger)?, [(0, 0, 0, Vec::new()), (0, 1, 1, failures(&[(0, 6)])), (0, 3, 3, failures(&[(0, 21)]))]);
     Ok(())
