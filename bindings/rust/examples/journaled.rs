@@ -62,8 +62,8 @@ fn mark_in(bytes: &[u8]) -> Option<Mark> {
 
 /// Returns whether a new file may have this after a crash: a part of a header, and zeros.
 fn is_new(bytes: &[u8]) -> bool {
-    let whole = header_of(&[b'x'; 16]);
-    let fits = |(byte, its): (&u8, &u8)| *byte == 0 || byte == its || *its == b'x' && byte.is_ascii_hexdigit();
+    let whole = header_of(&[0; 16]);
+    let fits = |(byte, its): (&u8, &u8)| *byte == 0 || byte == its || *its == 0 && byte.is_ascii_hexdigit();
     bytes.len() <= whole.len() && bytes.iter().zip(&whole).all(fits)
 }
 
