@@ -10,9 +10,9 @@
 //! so that nobody can put a record into the events of a packet. It is a journal of this program only, and a lock keeps other processes out
 //! (`File::try_lock`, from Rust 1.89 on).
 //!
-//! A crash may leave the records of the last commit in part. What follows the whole records is cut off, and kept in `FILE.cut1`. If a later
-//! record says that it was stored, the file is damaged: it is refused and stays as it was. A file whose end is gone or damaged, from any place
-//! on, can't be told from one that a crash left.
+//! A crash may leave the records of the last commit in part. What follows the whole records is cut off, and kept in `FILE.cut1`, or with the
+//! next free number. If a later record says that it was stored, the file is damaged: it is refused and stays as it was. A file whose end is
+//! gone or damaged, from any place on, can't be told from one that a crash left.
 
 use kip::{
     Account, CreateAccountResult, CreateTransferResult, Entry, Item, Ledger, Recorded, Refusal, Transfer, CREATE_ACCOUNTS, CREATE_TRANSFERS,
