@@ -30,7 +30,7 @@ type Failure = Box<dyn std::error::Error>;
 /// How a record begins: 16 digits that the file's header has.
 type Mark = [u8; 16];
 
-/// How the file begins: with the settings that the ledger has at each start. The mark and the end of the line follow.
+/// How the file begins: with the settings that the ledger has at each start. The mark follows, twice, and the end of the line.
 const HEADER: &[u8] = b"kip journal 2: clock 0, limit 8190, submitters 1, mark ";
 /// How many calls a sync is for.
 const GROUP: u64 = 4;
@@ -51,13 +51,13 @@ fn sum_of(body: &[u8]) -> u64 {
 }
 
 fn header_of(mark: &[u8]) -> Vec<u8> {
-    [HEADER, mark, b"\n"].concat()
+    [HEADER, mark, b" ", mark, b"\n"].concat()
 }
 
 /// Returns the mark in the header of a file, if that is whole.
 fn mark_in(bytes: &[u8]) -> Option<Mark> {
-    let (mark, rest) = bytes.strip_prefix(HEADER)?.split_first_chunk()?;
-    (rest.starts_with(b"\n") && mark.iter().all(u8::is_ascii_hexdigit)).then_some(*mark)
+    let mark: &Mark = bytes.strip_prefix(HEADER)?.first_chunk()?;
+    (bytes.starts_with(&header_of(mark)) && mark.iter().all(u8::is_ascii_hexdigit)).then_some(*mark)
 }
 
 /// Returns whether a new file may have this after a crash: a part of a header, and zeros.
