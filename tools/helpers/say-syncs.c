@@ -1,8 +1,9 @@
 // Preloaded into a program: says on standard output which bytes of a file it writes, and what it syncs, each by its inode, for
-// tools/gate/check-journaled. Nothing is synced.
+// tools/gate/check-journaled. Nothing is synced. The file that DELETE_AT_SYNC names is deleted as data is synced.
 #define _GNU_SOURCE
 #include <dlfcn.h>
 #include <stdio.h>
+#include <stdlib.h>
 #include <sys/stat.h>
 #include <unistd.h>
 
@@ -31,5 +32,8 @@ int fsync(int file)
 
 int fdatasync(int file)
 {
+    const char *deleted = getenv("DELETE_AT_SYNC");
+    if (deleted)
+        unlink(deleted);
     return fsync(file);
 }
