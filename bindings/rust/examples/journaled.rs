@@ -6,25 +6,32 @@
 //! ledger, and is printed as `committed PLACE`. So the next run goes on at the first place that isn't in the file. The file is synced once for
 //! four calls.
 //!
-//! The file is a header and a record for each entry: a mark, the body's size and its sum, and the body. It is a journal of this program alone, and a
-//! lock keeps other processes out (`File::try_lock`, from Rust 1.89 on). A crash may leave the records of the last commit in part. They are
-//! cut off: nobody was told of them. If others aren't whole, the file is refused and stays as it was. Damage in the last commit's records
-//! can't be told from a crash.
+//! The file is a header and a record for each entry: a mark, the body's size and its sum, and the body. The mark is the file's own, and random,
+//! so that nobody can put a record into the events of a packet. It is a journal of this program only, and a lock keeps other processes out
+//! (`File::try_lock`, from Rust 1.89 on).
+//!
+//! A crash may leave the records of the last commit in part. What follows the whole records is cut off, and kept in `FILE.cut1`, or with the
+//! next free number. If a later record says that it was stored, the file is damaged: it is refused and stays as it was. A file whose end is
+//! gone or damaged, from any place on, can't be told from one that a crash left.
 
 use kip::{
     Account, CreateAccountResult, CreateTransferResult, Entry, Item, Ledger, Recorded, Refusal, Transfer, CREATE_ACCOUNTS, CREATE_TRANSFERS,
 };
+use std::collections::hash_map::RandomState;
 use std::fs::{File, TryLockError};
-use std::io::{stdout, Read, Seek, SeekFrom, Write};
-use std::path::Path;
+use std::hash::BuildHasher;
+use std::io::{stdout, Error, Read, Seek, SeekFrom, Write};
+use std::os::unix::fs::MetadataExt;
+use std::path::{Path, PathBuf};
 use std::process::ExitCode;
 
 type Failure = Box<dyn std::error::Error>;
 
-/// How the file begins: with the settings that the ledger has at each start.
-const HEADER: &[u8] = b"kip journal 1: clock 0, limit 8190, submitters 1\n";
-/// How a record begins.
-const MARK: [u8; 4] = *b"kipe";
+/// How a record begins: 16 digits that the file's header has.
+type Mark = [u8; 16];
+
+/// How the file begins: with the settings that the ledger has at each start. The mark follows, twice, and the end of the line.
+const HEADER: &[u8] = b"kip journal 2: clock 0, limit 8190, submitters 1, mark ";
 /// How many calls a sync is for.
 const GROUP: u64 = 4;
 /// What a pulse's record has for an operation.
@@ -43,14 +50,31 @@ fn sum_of(body: &[u8]) -> u64 {
     body.iter().fold(0xcbf2_9ce4_8422_2325, |sum, byte| (sum ^ u64::from(*byte)).wrapping_mul(0x100_0000_01b3))
 }
 
-fn record_of(entry: &Entry, stored: u64) -> Vec<u8> {
+fn header_of(mark: &[u8]) -> Vec<u8> {
+    [HEADER, mark, b" ", mark, b"\n"].concat()
+}
+
+/// Returns the mark in the header of a file, if that is whole.
+fn mark_in(bytes: &[u8]) -> Option<Mark> {
+    let mark: &Mark = bytes.strip_prefix(HEADER)?.first_chunk()?;
+    (bytes.starts_with(&header_of(mark)) && mark.iter().all(u8::is_ascii_hexdigit)).then_some(*mark)
+}
+
+/// Returns whether a new file may have this after a crash: a part of a header, and zeros.
+fn is_new(bytes: &[u8]) -> bool {
+    let whole = header_of(&[0; 16]);
+    let fits = |(byte, its): (&u8, &u8)| *byte == 0 || byte == its || *its == 0 && byte.is_ascii_hexdigit();
+    bytes.len() <= whole.len() && bytes.iter().zip(&whole).all(fits)
+}
+
+fn record_of(mark: &Mark, entry: &Entry, stored: u64) -> Vec<u8> {
     let (number, submitter, operation, events) = match &entry.item {
         Item::Packet { submitter, number, operation, events } => (*number, *submitter, *operation, &events[..]),
         Item::Pulse { moment } => (*moment, 0, PULSE, &[][..]),
     };
     let words = [stored, entry.place, number].map(u64::to_le_bytes).concat();
     let body = [&words, &submitter.to_le_bytes()[..], &[operation], events].concat();
-    [&MARK[..], &(body.len() as u32).to_le_bytes(), &sum_of(&body).to_le_bytes(), &body].concat()
+    [&mark[..], &(body.len() as u32).to_le_bytes(), &sum_of(&body).to_le_bytes(), &body].concat()
 }
 
 /// Cuts a field off the start of what is left.
@@ -61,8 +85,8 @@ fn cut<const SIZE: usize>(rest: &mut &[u8]) -> Option<[u8; SIZE]> {
 }
 
 /// Returns the record at the start of these bytes, if there is a whole one.
-fn record_at(bytes: &[u8]) -> Option<Record> {
-    let mut rest = bytes.strip_prefix(&MARK)?;
+fn record_at(mark: &Mark, bytes: &[u8]) -> Option<Record> {
+    let mut rest = bytes.strip_prefix(mark)?;
     let size = u32::from_le_bytes(cut(&mut rest)?) as usize;
     let sum = u64::from_le_bytes(cut(&mut rest)?);
     let mut body = rest.get(..size)?;
@@ -81,24 +105,52 @@ fn record_at(bytes: &[u8]) -> Option<Record> {
     Some(Record { size, stored, entry: Entry { place, item } })
 }
 
-/// Restores all whole records, and returns how many bytes of the file they end at.
-fn restore_all(ledger: &mut Ledger<Recorded>, bytes: &[u8]) -> Result<usize, Failure> {
-    let mut end = HEADER.len();
-    while let Some(record) = record_at(&bytes[end..]) {
-        ledger.restore(&record.entry).map_err(|why| format!("the record at byte {end} is no entry of this journal: {why}"))?;
+/// Restores all whole records. Returns where those of the last commit begin in the file, and where they end.
+fn restore_all(ledger: &mut Ledger<Recorded>, mark: &Mark, bytes: &[u8]) -> Result<(usize, usize), Failure> {
+    let (mut last, mut end) = (0, header_of(mark).len());
+    while let Some(record) = record_at(mark, &bytes[end..]) {
+        ledger.restore(&record.entry).map_err(|why| match why {
+            Refusal::NoMemory => format!("there isn't enough memory to restore the record at byte {end}"),
+            why => format!("the record at byte {end} is no entry of this journal: {why}"),
+        })?;
+        if record.stored == record.entry.place {
+            last = end;
+        }
         end += record.size;
     }
     // What follows was never acknowledged, unless a later record says that the place of this one was stored.
     let place = ledger.places();
-    if (end..bytes.len()).any(|at| record_at(&bytes[at..]).is_some_and(|later| later.stored > place)) {
+    if (end..bytes.len()).any(|at| record_at(mark, &bytes[at..]).is_some_and(|later| later.stored > place)) {
         return Err(format!("the file is damaged at byte {end}: put a copy back").into());
     }
-    Ok(end)
+    Ok((last, end))
+}
+
+/// Keeps bytes that are cut off in a new file next to this one, and returns its name.
+fn keep_cut(path: &Path, bytes: &[u8]) -> std::io::Result<PathBuf> {
+    let named = |number: u64| {
+        let mut name = path.as_os_str().to_owned();
+        name.push(format!(".cut{number}"));
+        PathBuf::from(name)
+    };
+    let mut number = 1;
+    while named(number).exists() {
+        number += 1;
+    }
+    let mut kept = File::create_new(named(number))?;
+    kept.write_all(bytes)?;
+    kept.sync_all()?;
+    sync_name(&named(number))?;
+    Ok(named(number))
 }
 
 /// The file, which ends with a whole record.
 struct Journal {
+    path: PathBuf,
     file: File,
+    mark: Mark,
+    /// How long the file is.
+    size: u64,
     /// The place below which all is stored.
     stored: u64,
 }
@@ -107,46 +159,59 @@ impl Journal {
     /// Opens the file for this process only, and restores what it has. A new one gets its header.
     fn open(path: &Path, ledger: &mut Ledger<Recorded>) -> Result<Journal, Failure> {
         let mut file = File::options().read(true).write(true).create(true).truncate(false).open(path)?;
+        if !file.metadata()?.is_file() {
+            return Err("FILE isn't a plain file: give another".into());
+        }
         file.try_lock().map_err(|why| match why {
             TryLockError::WouldBlock => "another process has the file open".to_string(),
             TryLockError::Error(why) => format!("the file can't be locked: {why}"),
         })?;
         let mut bytes = Vec::new();
         file.read_to_end(&mut bytes)?;
-        if bytes.len() < HEADER.len() && HEADER.starts_with(&bytes) {
-            bytes = HEADER.to_vec();
-            file.seek(SeekFrom::Start(0))?;
-            file.write_all(HEADER)?;
+        if mark_in(&bytes).is_none() && is_new(&bytes) {
+            bytes = header_of(format!("{:016x}", RandomState::new().hash_one(0)).as_bytes());
         }
-        if !bytes.starts_with(HEADER) {
-            return Err("the file is another program's: give another".into());
-        }
-        let end = restore_all(ledger, &bytes)?;
+        let mark = mark_in(&bytes).ok_or("the file is another program's, or its header is damaged: give another")?;
+        let (last, end) = restore_all(ledger, &mark, &bytes)?;
         if end < bytes.len() {
-            eprintln!("journaled: the last {} bytes, which a crash left, are cut off", bytes.len() - end);
+            let kept = keep_cut(path, &bytes[end..]).map_err(|why| format!("the file's end, which isn't whole, can't be kept in another: {why}"))?;
+            eprintln!("journaled: the last {} bytes aren't whole: they are cut off, and kept in {}", bytes.len() - end, kept.display());
         }
         file.set_len(end as u64)?;
-        file.seek(SeekFrom::Start(end as u64))?;
-        // (a run that was killed may have written records, or made the file, without a sync)
+        // (a run that was killed or whose sync failed may have left this in the computer's memory only, so it is written again)
+        file.seek(SeekFrom::Start(last as u64))?;
+        file.write_all(&bytes[last..end])?;
         file.sync_all()?;
         sync_name(path)?;
-        Ok(Journal { file, stored: ledger.places() })
+        Ok(Journal { path: path.to_owned(), file, mark, size: end as u64, stored: ledger.places() })
     }
 
     /// Appends entries, and returns once they are on the disk.
     fn append(&mut self, entries: &[Entry]) -> std::io::Result<()> {
-        let records: Vec<u8> = entries.iter().flat_map(|entry| record_of(entry, self.stored)).collect();
+        let records: Vec<u8> = entries.iter().flat_map(|entry| record_of(&self.mark, entry, self.stored)).collect();
+        self.must_be_there()?;
         self.file.write_all(&records)?;
         self.file.sync_data()?;
         self.stored += entries.len() as u64;
+        self.size += records.len() as u64;
+        self.must_be_there()
+    }
+
+    /// Fails if the file isn't where it was, or isn't as long as this process made it.
+    fn must_be_there(&self) -> std::io::Result<()> {
+        let open = self.file.metadata()?;
+        let is_named = std::fs::metadata(&self.path).is_ok_and(|it| (it.dev(), it.ino()) == (open.dev(), open.ino()));
+        if !is_named || open.len() != self.size {
+            return Err(Error::other("the file isn't where it was, or another program changed it"));
+        }
         Ok(())
     }
 }
 
-/// Has the disk keep the name of the file too.
+/// Has the disk keep the name of the file too, which may be linked to from another folder.
 fn sync_name(path: &Path) -> std::io::Result<()> {
-    let folder = path.parent().filter(|it| !it.as_os_str().is_empty());
-    File::open(folder.unwrap_or(Path::new(".")))?.sync_all()
+    let real = std::fs::canonicalize(path)?;
+    File::open(real.parent().unwrap_or(&real))?.sync_all()
 }
 
 /// Queues call `number` of the bank. A transfer's id is its number, so that none is posted twice.

@@ -15,6 +15,7 @@ const PULSE: u8 = 0;
 const NO_OPERATION: u32 = 256;
 
 /// An entry of the journal: a packet or a pulse that is committed, at its place among all of them.
+#[must_use = "the store needs each entry"]
 #[derive(Clone, Debug, PartialEq, Eq)]
 pub struct Entry {
     pub place: u64,
@@ -81,10 +82,11 @@ pub struct Recorded {
 /// Why a call that stores failed.
 #[derive(Clone, Copy, Debug, PartialEq, Eq)]
 pub enum StoreError<E> {
-    /// The ledger's error. Nothing was given to the store, or it stored all that it was given.
+    /// The ledger's error. Nothing was given to the store, or it stored all that it was given. What waits stays: see `Error::Refused`.
     Ledger(Error),
     /// The store's error. The packets are committed in memory, their replies can't be read, and only the store can say what of them a crash
-    /// would leave. So drop the ledger, open another one, and restore what is stored.
+    /// would leave. So drop the ledger, open another one, and restore what is stored. Look-ups of this ledger show the packets all the same.
+    /// Before you say that a transfer failed, look its id up in the other ledger, or post it there with the same id.
     Store(E),
 }
 
@@ -109,13 +111,13 @@ impl<E: fmt::Display> fmt::Display for StoreError<E> {
     }
 }
 
-impl<E: std::error::Error + 'static> std::error::Error for StoreError<E> {
-    fn source(&self) -> Option<&(dyn std::error::Error + 'static)> {
-        match self {
-            StoreError::Ledger(_) => None,
-            StoreError::Store(error) => Some(error),
-        }
-    }
+// (of any store's error, such as a `String` or a boxed one, so none is a source: `Display` has it)
+impl<E: fmt::Debug + fmt::Display> std::error::Error for StoreError<E> {}
+
+/// Returns two numbers that nobody can foresee.
+fn random_seed() -> [u64; 2] {
+    let random = RandomState::new();
+    [random.hash_one(0), random.hash_one(1)]
 }
 
 /// A host keeps the journal in a store of its own, and so has the ledger again after a crash. No reply can be read before its packet's entry
@@ -159,10 +161,10 @@ impl<E: std::error::Error + 'static> std::error::Error for StoreError<E> {
 // SAFETY, of each call below: as for those of any ledger.
 impl Ledger<Recorded> {
     /// Opens a ledger as `open` does, for a host that keeps the journal. After a crash the host opens with the same clock, limit and
-    /// submitters, and then restores what it stored. Ids are hashed with a random seed, on which replies don't depend.
+    /// submitters, and then restores what it stored. So keep these three with the entries. A host that forgets to restore stores entries at
+    /// places that are taken, and its store can't be restored. Ids are hashed with a random seed, on which replies don't depend.
     pub fn open_recorded(clock: u64, limit: u32, submitters: u32) -> Result<Ledger<Recorded>, Refusal> {
-        let random = RandomState::new();
-        Ledger::open_recorded_seeded(clock, limit, submitters, [random.hash_one(0), random.hash_one(1)])
+        Ledger::open_recorded_seeded(clock, limit, submitters, random_seed())
     }
 
     /// Opens a ledger as `open_recorded` does, and hashes ids with this seed, as `open_seeded` does.
@@ -178,7 +180,8 @@ impl Ledger<Recorded> {
         Ok(Ledger::over(handle, Recorded { handed: 0, durable: 0 }))
     }
 
-    /// Commits an entry again, by itself and at the next place. Its reply isn't given, its packet has its old number, and it isn't handed out.
+    /// Commits an entry again, by itself and at the next place. Its reply never comes again, its packet has its old number, and it isn't handed
+    /// out.
     /// Entries are restored in the order of places, ahead of the ledger's own packets.
     ///
     /// The refusals are `InUse`, those of `submit` or `pulse`, and `NotNext`. The ledger is then as it was.
@@ -195,7 +198,8 @@ impl Ledger<Recorded> {
     }
 
     /// Hands out the next entry of the journal: first what was committed first. `None` says that all that is committed was handed out;
-    /// packets that wait are committed by `flush`. The host stores each entry, and then calls `set_durable`.
+    /// packets that wait are committed by `flush`. The host stores each entry, and then calls `set_durable`. The compiler doesn't warn of
+    /// `next_entry()?;`, which drops an entry that isn't handed out again.
     ///
     /// The only refusal is `NoMemory`: the entry stays the next one.
     pub fn next_entry(&mut self) -> Result<Option<Entry>, Refusal> {
@@ -238,12 +242,15 @@ impl Ledger<Recorded> {
     ///
     /// It is refused as `NotStored`, and nothing has changed, if entries that were handed out before aren't stored: the store failed, or
     /// `next_entry` took them and `set_durable` doesn't say that they are. After `NoMemory` what was handed out is stored, and the rest is
-    /// committed and stored by the next `commit`.
+    /// committed and stored by the next `commit`. So call it again, and submit nothing again.
     pub fn commit<E>(&mut self, store: impl FnOnce(&[Entry]) -> Result<(), E>) -> Result<(), StoreError<E>> {
         self.must_have_stored()?;
         self.flush()?;
         let mut entries = Vec::new();
         let end = loop {
+            if entries.try_reserve(1).is_err() {
+                break Err(Refusal::NoMemory);
+            }
             match self.next_entry() {
                 Ok(Some(entry)) => entries.push(entry),
                 Ok(None) => break Ok(()),
@@ -260,7 +267,7 @@ impl Ledger<Recorded> {
     /// Reads the next reply as `reply` of any ledger does: its packet is stored, or isn't committed.
     ///
     /// It is refused as `NotStored` if no reply can be read while something that is committed isn't stored. `None` says that nothing is left
-    /// to be stored; packets that wait have a reply after `commit`.
+    /// to be stored; packets that wait have a reply after `commit`. The compiler doesn't warn of `reply(&mut buffer)?;`, which drops a reply.
     pub fn reply<'a>(&mut self, buffer: &'a mut Vec<u8>) -> Result<Option<Reply<'a>>, Refusal> {
         let reply = self.next_reply(buffer);
         if reply.is_none() && self.journal.durable < self.places() {
@@ -307,5 +314,14 @@ impl Ledger<Recorded> {
     ) -> Result<Failures<CreateTransfersResult>, StoreError<E>> {
         let results = self.stored(CREATE_TRANSFERS, &bytes_of_transfers(transfers), store)?;
         Ok(transfer_failures(&results))
+    }
+}
+
+#[cfg(test)]
+mod tests {
+    #[test]
+    fn both_halves_of_a_random_seed_differ_each_time() {
+        let (first, second) = (super::random_seed(), super::random_seed());
+        assert!(first[0] != second[0] && first[1] != second[1] && first[0] != first[1], "{first:?} {second:?}");
     }
 }

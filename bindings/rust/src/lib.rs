@@ -50,7 +50,7 @@ pub const CREATE_ACCOUNTS: u8 = 129;
 pub const CREATE_TRANSFERS: u8 = 130;
 pub const LOOKUP_ACCOUNTS: u8 = 131;
 
-/// Why a call was refused. The ledger is as it was.
+/// Why a call was refused. The ledger is as it was, except after `NoMemory` of `commit`: see `Error::Refused`.
 #[derive(Clone, Copy, Debug, PartialEq, Eq)]
 pub enum Refusal {
     InvalidOperation,
@@ -108,7 +108,8 @@ pub enum NotCommitted {
 /// Why events weren't committed, or which of them failed.
 #[derive(Clone, Copy, Debug, PartialEq, Eq)]
 pub enum Error {
-    /// The packet wasn't queued, and nothing has changed.
+    /// Of `create_accounts` and `create_transfers`: the packet wasn't queued, and nothing has changed. Of `commit` it is so of all but
+    /// `NoMemory`: then a part may be stored, and what waits stays. So call `commit` again, and don't submit a packet again.
     Refused(Refusal),
     /// Memory ran out as the packet was committed. It stays queued, with this number: `flush` commits it once memory is there, and
     /// `reply` has its results. If the host keeps the journal, `commit` takes the place of `flush`.

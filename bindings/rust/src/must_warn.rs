@@ -1,4 +1,6 @@
 //! Calls whose results must be looked at: the compiler warns of each that isn't. Only doc tests.
+//!
+//! It doesn't look into an `Option`. So nothing warns of `reply(buffer)?;` and `next_entry()?;` of a `Ledger<Recorded>`, and their docs say so.
 
 macro_rules! must_warn {
     ($($name:ident $call:literal)*) => {$(
@@ -46,4 +48,8 @@ must_warn! {
     Commit "recorded.commit(store)"
     Restore "recorded.restore(&kip::Entry { place: 0, item: kip::Item::Pulse { moment: 0 } })"
     StoredReply "recorded.reply(buffer)?.unwrap()"
+    StoredReplyOrNone "recorded.reply(buffer)"
+    NextEntry "recorded.next_entry()?.unwrap()"
+    NextEntryOrNone "recorded.next_entry()"
+    SetDurable "recorded.set_durable(0)"
 }

@@ -4,7 +4,7 @@ use kip::{
     StoreError, Transfer, TransferFlags, CREATE_ACCOUNTS, CREATE_TRANSFERS, LOOKUP_ACCOUNTS,
 };
 use std::convert::Infallible;
-use std::error::Error as _;
+use std::time::{Duration, Instant};
 
 type Failed = Box<dyn std::error::Error>;
 
@@ -363,8 +363,6 @@ impl std::fmt::Display for DiskFull {
     }
 }
 
-impl std::error::Error for DiskFull {}
-
 /// After a store has failed, nothing that it was given is acknowledged, and nothing is stored behind it.
 #[test]
 fn a_store_that_fails_gives_no_reply() -> Result<(), Failed> {
@@ -373,7 +371,6 @@ fn a_store_that_fails_gives_no_reply() -> Result<(), Failed> {
     ledger.create_accounts(&[account(1), account(2)], keeping(&mut journal))?.all_created()?;
     let error = ledger.create_transfers(&[transfer(1, 1, 2)], |_| Err(DiskFull)).expect_err("the store fails");
     assert_eq!((error, error.to_string()), (StoreError::Store(DiskFull), "the journal isn't stored: the disk is full".to_string()));
-    assert!(error.source().is_some_and(|why| why.is::<DiskFull>()));
     assert_eq!(ledger.reply(&mut Vec::new()), Err(Refusal::NotStored));
     let before = state(&mut ledger);
     let unused = |_: &[Entry]| -> Result<(), DiskFull> { panic!("what is behind a gap is given to the store") };
@@ -389,6 +386,67 @@ fn a_store_that_fails_gives_no_reply() -> Result<(), Failed> {
     ledger.set_durable(2)?;
     ledger.commit(keeping(&mut journal))?;
     assert_eq!((next_place(&mut ledger), journal.len(), journal[1].place), (1, 2, 2));
+    Ok(())
+}
+
+/// A store's error may be text, or boxed, which is no error of its own: `?` takes it all the same.
+#[test]
+fn any_error_of_a_store_is_boxed() {
+    fn called<E: std::fmt::Debug + std::fmt::Display + 'static>(why: E) -> Result<(), Failed> {
+        let mut ledger = Ledger::open_recorded(0, 8190, 1)?;
+        ledger.create_accounts(&[account(1)], |_| Err(why))?.all_created()?;
+        Ok(())
+    }
+    let said = |called: Result<(), Failed>| called.expect_err("the store fails").to_string();
+    let boxed: Failed = DiskFull.to_string().into();
+    for found in [said(called(DiskFull)), said(called("the disk is full")), said(called(DiskFull.to_string())), said(called(boxed))] {
+        assert_eq!(found, "the journal isn't stored: the disk is full");
+    }
+}
+
+/// Replies that were kept come first, and in their order.
+#[test]
+fn kept_replies_come_in_the_order_of_places() -> Result<(), Failed> {
+    let mut ledger = Ledger::open_recorded(0, 8190, 1)?;
+    let store = |_: &[Entry]| -> Result<(), Infallible> { Ok(()) };
+    ledger.submit(0, CREATE_ACCOUNTS, &accounts([1]), 0)?;
+    ledger.submit(0, CREATE_ACCOUNTS, &accounts([0]), 0)?;
+    ledger.create_accounts(&[account(2)], store)?.all_created()?;
+    ledger.submit(0, CREATE_ACCOUNTS, &accounts([1]), 0)?;
+    ledger.commit(store)?;
+    // id_must_not_be_zero is 6, and exists is 21.
+    assert_eq!(answers(&mut ledger)?, [(0, 0, 0, Vec::new()), (0, 1, 1, failures(&[(0, 6)])), (0, 3, 3, failures(&[(0, 21)]))]);
+    Ok(())
+}
+
+/// Returns how long it takes to commit 2,000 accounts, with what an id has in its lower or its upper half and a number in the other one.
+fn time_of(open: impl Fn() -> Result<Ledger<Recorded>, Refusal>, half: u64, is_upper: bool) -> Result<Duration, Failed> {
+    let id = |it: u128| if is_upper { u128::from(half) << 64 | it } else { it << 64 | u128::from(half) };
+    let made = accounts((1..=2000).map(id));
+    let mut best = Duration::MAX;
+    for _ in 0..3 {
+        let mut ledger = open()?;
+        ledger.submit(0, CREATE_ACCOUNTS, &made, 0)?;
+        let start = Instant::now();
+        ledger.flush()?;
+        best = best.min(start.elapsed());
+        assert_eq!(ledger.counts().accounts, 2000);
+    }
+    Ok(best)
+}
+
+/// All ids whose lower half is the seed's with `LOW`, or whose upper half is the seed's with `HIGH`, have one hash, which takes longer. So it
+/// is seen that both halves of a seed are used, and that `open_recorded` uses random ones.
+#[test]
+fn ids_that_collide_under_a_seed_do_not_under_a_random_one() -> Result<(), Failed> {
+    const LOW: u64 = 0x243f_6a88_85a3_08e3;
+    const HIGH: u64 = 0x9e37_79b9_7f4a_7c15;
+    let (seed, of_seed) = ([3, 5], || Ledger::open_recorded_seeded(0, 8190, 1, [3, 5]));
+    for (is_upper, constant, half) in [(false, LOW, seed[0]), (true, HIGH, seed[1])] {
+        let slow = time_of(of_seed, constant ^ half, is_upper)?;
+        let fast = time_of(|| Ledger::open_recorded(0, 8190, 1), constant, is_upper)?;
+        assert!(slow > 4 * fast, "upper half {is_upper}: {slow:?} with ids that collide, {fast:?} with a random seed");
+    }
     Ok(())
 }
 

@@ -1,4 +1,5 @@
-//! Memory that runs out as a packet is committed, or as its entry is handed out. In a file of its own, since the limit is the whole process's.
+//! Memory that runs out as a packet is committed, or as its entry is handed out, and memory that a ledger frees. In a file of its own, since
+//! the limit is the whole process's.
 use kip::{Account, Counts, Entry, Error, Ledger, Recorded, Refusal, StoreError, Transfer, CREATE_TRANSFERS};
 use std::convert::Infallible;
 use std::sync::{Mutex, MutexGuard, PoisonError};
@@ -140,4 +141,36 @@ fn entries_without_memory_to_hand_them_out_stay() {
     assert_eq!(ledger.reply(&mut buffer), Err(Refusal::NotStored));
     assert_eq!(ledger.commit(keeping(&mut places)), Ok(()));
     assert!(places.iter().copied().eq(1..=64));
+}
+
+/// So does a list of entries for which there isn't memory, whatever each of them takes.
+#[test]
+fn entries_without_memory_for_their_list_stay() {
+    let _only = only();
+    // (the list takes more than malloc keeps of what others freed)
+    let (mut ledger, mut stored) = (recorded(), 1);
+    for moment in 0..1_100_000 {
+        ledger.pulse(moment).expect("memory is there");
+    }
+    let mut store = |entries: &[Entry]| -> Result<(), Infallible> {
+        assert!(entries.iter().map(|entry| entry.place).eq(stored..stored + entries.len() as u64));
+        stored += entries.len() as u64;
+        Ok(())
+    };
+    assert_eq!(limited(8 << 20, || ledger.commit(&mut store)), Err(Refusal::NoMemory.into()));
+    assert_eq!(ledger.reply(&mut Vec::new()), Err(Refusal::NotStored));
+    assert_eq!(ledger.commit(&mut store), Ok(()));
+    assert_eq!((stored, ledger.reply(&mut Vec::new())), (1_100_001, Ok(None)));
+}
+
+/// Each ledger that is dropped gives its memory back.
+#[test]
+fn ledgers_are_closed_as_they_are_dropped() {
+    let _only = only();
+    limited(64 << 20, || {
+        for _ in 0..100 {
+            let mut ledger = Ledger::open_recorded(0, 8190, 1).expect("it opens");
+            assert_eq!(ledger.reserve(0, 100_000), Ok(()));
+        }
+    });
 }
