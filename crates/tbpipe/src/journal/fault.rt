@@ -13,6 +13,12 @@ use tb_program_text::ProgramFault;
 /// What is known of a path that the system doesn't open.
 const CANNOT_OPEN: OpenFault = OpenFault::File(SqliteError::SqliteFailure(ErrorCode::CannotOpen));
 
+/// A page that isn't as it was written.
+const DAMAGED: OpenFault = OpenFault::File(SqliteError::SqliteFailure(ErrorCode::DatabaseCorrupt));
+
+/// A file that isn't a database, or one that no ledger is in.
+const NO_DATABASE: OpenFault = OpenFault::File(SqliteError::SqliteFailure(ErrorCode::NotADatabase));
+
 /// Why a script or a file wasn't taken, or not to its end.
 #[derive(Clone, Copy, Debug, PartialEq, Eq)]
 pub(crate) enum JournalFault {
@@ -63,7 +69,13 @@ impl fmt::Display for JournalFault {
                 "the file has no ledger; if its log, whose name ends in -wal, was moved away, put it back",
             ),
             JournalFault::Open(CANNOT_OPEN) => f.write_str(
-                "the file isn't opened: it must be a plain file with one name, in a folder that is there, and you must be allowed to write both; if a file with its name and -journal is there too, a program was ended as it wrote: let sqlite3 read the file once",
+                "the file isn't opened: it must be a plain file with one name, in a folder that is there, and you must be allowed to write both; if a file with its name and -journal is there too, a program was ended as it wrote: run sqlite3 FILE 'select count(*) from sqlite_master'",
+            ),
+            JournalFault::Open(DAMAGED) => f.write_str(
+                "the file isn't opened: a page of it is damaged, or another SQLite wrote it without its sum: put a copy back, or copy its rows as docs/DURABLE.md says",
+            ),
+            JournalFault::Open(NO_DATABASE) => f.write_str(
+                "the file isn't opened: it isn't an SQLite database as a ledger's is: give a ledger's file",
             ),
             JournalFault::Open(fault) => write!(f, "the file isn't opened: {fault}"),
             JournalFault::OtherSettings(kept) => {
@@ -74,7 +86,7 @@ impl fmt::Display for JournalFault {
                 } = kept;
                 write!(
                     f,
-                    "the file's ledger was opened with clock {clock}, limit {limit} and submitters {submitters}, which the script's settings, or without `submitters` two, don't fit"
+                    "the file's ledger was opened with clock {clock}, limit {limit} and submitters {submitters}, and the script's settings don't fit: change them (a script without `submitters` has two)"
                 )
             }
             JournalFault::Read => f.write_str("standard input can't be read to its end"),
@@ -109,15 +121,15 @@ fn put_stop<W: fmt::Write>(
     fault: &Option<StoreError>,
     in_doubt: bool,
 ) -> fmt::Result {
-    f.write_str(if in_doubt {
-        "the ledger stopped; the first batch or pulse that isn't printed as committed may be in the file, whole, as `replay` shows, and nothing after it is committed"
-    } else {
-        "the ledger stopped, and nothing that is printed as stopped is committed"
-    })?;
-    match fault {
-        Some(fault) => write!(f, ": {fault}"),
-        None => Ok(()),
+    f.write_str("the ledger stopped")?;
+    if let Some(fault) = fault {
+        write!(f, ": {fault}")?;
     }
+    f.write_str(if in_doubt {
+        "; the first batch or pulse that isn't printed as committed may be in the file, whole, and `replay` shows it; nothing after it is committed"
+    } else {
+        "; nothing that is printed as stopped is committed"
+    })
 }
 
 impl Error for JournalFault {}
