@@ -532,6 +532,16 @@ class OtherPrograms(InFolder):
                     pathlib.Path(f"{lost}.moved").rename(lost)
                     self.assertEqual(self.rows()[1], (0, CREATE_ACCOUNTS, 0, stub(), 128))
 
+    def test_a_file_that_still_has_its_log_uses_no_shared_memory(self):
+        self.run_python("client = DurableClient(path)\nmake(1)\nsys.stdout.flush()\nos.kill(os.getpid(), signal.SIGKILL)")
+        left = ["ledger.db", "ledger.db-wal"]
+        self.assertEqual(sorted(os.listdir(self.path.parent)), left)
+        with DurableClient(self.path) as client:
+            self.assertEqual(sorted(os.listdir(self.path.parent)), left)
+            client.create_accounts([Account(id=2, ledger=1, code=1)])
+            self.assertEqual(sorted(os.listdir(self.path.parent)), left)
+        self.assertEqual(self.ids(), [1, 2])
+
     def test_a_file_with_another_name_is_refused(self):
         self.run_python("client = DurableClient(path)\nmake(1)\nsys.stdout.flush()\nos.kill(os.getpid(), signal.SIGKILL)")
         other = f"{self.path}.other"

@@ -118,7 +118,8 @@ def _naming(path):
 
 def _lock(path, database, settings):
     """Locks a ledger's file until it is closed, and makes the table of a new one, with these settings."""
-    for setting in "auto_vacuum = none", "page_size = 4096", "locking_mode = exclusive", "synchronous = full":  # (the first two of a new file)
+    # (the mode is first: a setting that reads a file with a log would use memory that is shared with others; the last two are of a new file)
+    for setting in "locking_mode = exclusive", "synchronous = full", "auto_vacuum = none", "page_size = 4096":
         database.execute(f"pragma {setting}")
     database.execute("begin exclusive")
     if _is_new(path, database):
