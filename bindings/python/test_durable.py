@@ -621,9 +621,22 @@ class BadFiles(InFolder):
             self.refused(setting)
 
     def test_no_database(self):
-        for data in b"no database, but a text of some length" * 20, bytes(4096):
+        for data in b"a text of 50 bytes, which is no database at all..\n" * 100, b"a text of 21 bytes..\n", b"short", bytes(4096):
             self.path.write_bytes(data)
-            self.refused("not a database|sums")
+            self.refused(f"^{self.path}: it is no SQLite database: give another file$")
+        self.path.write_bytes(b"SQLite format 3\0")
+        self.refused("not a database")
+
+    def test_a_file_that_was_being_made_as_the_power_failed_is_emptied(self):
+        # (the head of a journal: no page to be put back, a file of no pages before, sectors of 512 bytes and pages of 4096)
+        journal = pathlib.Path(f"{self.path}-journal")
+        journal.write_bytes(struct.pack(">8s5I", bytes.fromhex("d9d505f920a163d7"), 0, 7, 0, 512, 4096).ljust(512, b"\0"))
+        self.path.write_bytes(bytes(4096))
+        with DurableClient(self.path) as client:
+            self.assertEqual((client.places(), journal.exists()), (0, False))
+        journal.touch()
+        self.path.write_bytes(b"a text of 21 bytes..\n")
+        self.refused("not a database")
 
     def test_a_damaged_page(self):
         with DurableClient(self.path) as client:

@@ -60,8 +60,9 @@ def _identity(path):
 
 
 def _refuse_other_files(path):
-    """Refuses a file that another client of this process has open, and one that this SQLite would spoil: one with another name, by which
-    its log may be named, one whose pages end in sums, as `tb_durable` makes it, and a log without its file."""
+    """Refuses a file that another client of this process has open, one that isn't SQLite's, unless it was being made, and one that this
+    SQLite would spoil: one with another name, by which its log may be named, one whose pages end in sums, as `tb_durable` makes it, and a
+    log without its file."""
     file, log = _stat(path), _stat(f"{path}-wal")
     # (looked at ahead of `open`: when a process closes a file, it loses all its locks of it, also those of another client)
     if file and (file.st_dev, file.st_ino) in _open_files:
@@ -71,7 +72,11 @@ def _refuse_other_files(path):
     if file and file.st_nlink > 1 and os.path.isfile(path):
         raise BadFile(f"{path}: it has another name, by which its log may be named: remove that hard link")
     with contextlib.suppress(FileNotFoundError), open(path, "rb") as file:
-        if file.read(21)[20:] not in (b"", b"\0"):
+        head = file.read(21)
+        if head and not head.startswith(b"SQLite format 3\0"):
+            if not _stat(f"{path}-journal"):  # (by which SQLite empties a file that was being made)
+                raise BadFile(f"{path}: it is no SQLite database: give another file")
+        elif head[20:] not in (b"", b"\0"):
             raise BadFile(f"{path}: its pages have sums, which Python's SQLite doesn't write: continue it by tbpipe or tb_durable")
 
 
