@@ -371,7 +371,7 @@ class Failing(InFolder):
         client = DurableClient(self.path)
         resource.setrlimit(resource.RLIMIT_FSIZE, (64 << 10, soft[1]))
         try:
-            with self.assertRaises(sqlite3.Error):
+            with self.assertRaisesRegex(sqlite3.OperationalError, f"^{self.path}: "):
                 for made in range(1000):
                     client.create_accounts([Account(id=made + 1, ledger=1, code=1)])
             with self.assertRaises(KipError):

@@ -329,15 +329,23 @@ class DurableClient(ClientSync):
                 raise
             raise MemoryError(f"{self._path}: {why}") from None
 
+    def _write(self, rows):
+        """Writes rows in one transaction. An error of SQLite names the file, and keeps its type."""
+        try:
+            self._database.execute("begin")
+            self._database.executemany("insert into entry values (?, ?, ?, ?, ?)", rows)
+            self._database.execute("commit")
+        except sqlite3.Error as why:
+            why.args = f"{self._path}: {why}",
+            raise
+
     def _store(self):
         """Stores what is committed and isn't in the file yet, in one transaction. Then its replies can be read."""
         self._is_behind = True  # (until what was taken is in the file: no later call may return as if it were)
         rows = self._rows()
         if rows:
             self._must_be_mine(self._look() == self._seen)
-            self._database.execute("begin")
-            self._database.executemany("insert into entry values (?, ?, ?, ?, ?)", rows)
-            self._database.execute("commit")
+            self._write(rows)
             look = self._look()
             self._must_be_mine(self._is_same(look))
             self._seen = look
