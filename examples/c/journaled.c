@@ -151,16 +151,30 @@ static void recover(void) {
 
 /* Makes call `number` of the bank. */
 static void go_on(uint64_t call) {
-    uint64_t number = 0;
+    uint64_t number = 0; /* (the reply has the call as its user data) */
     if (call == 0) {
         const kip_account accounts[] = {{.id = {1, 0}, .ledger = 1, .code = 1}, {.id = {2, 0}, .ledger = 1, .code = 1}};
-        must(kip_submit(&kip, 0, KIP_OPERATION_CREATE_ACCOUNTS, accounts, sizeof accounts, 0, &number) == KIP_OK, "submit");
+        must(kip_submit(&kip, 0, KIP_OPERATION_CREATE_ACCOUNTS, accounts, sizeof accounts, call, &number) == KIP_OK, "submit");
     } else if (call % 10 != 0) {
         const kip_transfer transfer = {.id = {call, 0}, .debit_account_id = {1, 0}, .credit_account_id = {2, 0}, .amount = {call, 0},
                                        .ledger = 1, .code = 1};
-        must(kip_submit(&kip, 0, KIP_OPERATION_CREATE_TRANSFERS, &transfer, sizeof transfer, 0, &number) == KIP_OK, "submit");
+        must(kip_submit(&kip, 0, KIP_OPERATION_CREATE_TRANSFERS, &transfer, sizeof transfer, call, &number) == KIP_OK, "submit");
     } else {
         must(kip_pulse(&kip, call * 1000000000) == KIP_OK, "pulse");
+    }
+}
+
+/* Ends the run if a call isn't committed, or if an event of it failed. One that `exists` was committed before, so it isn't made twice. */
+static void must_be_made(const kip_reply_t *reply, const char *results) {
+    must(kip_committed(reply), "a packet isn't committed");
+    for (uint64_t at = 0; at < reply->size; at += sizeof(kip_failure)) {
+        kip_failure failure;
+        memcpy(&failure, results + at, sizeof failure);
+        int is_account = reply->operation == KIP_OPERATION_CREATE_ACCOUNTS;
+        const char *name = is_account ? kip_account_result_name(failure.result) : kip_transfer_result_name(failure.result);
+        if (strcmp(name, "exists") == 0) continue;
+        fprintf(stderr, "journaled: call %llu: %s\n", (unsigned long long)reply->user_data, name);
+        exit(2);
     }
 }
 
@@ -180,7 +194,7 @@ static void store(void) {
     must(status == KIP_NO_ENTRY, kip_status_name(status));
     sql("commit"); /* what is committed is on the disk, so it may be printed */
     must(kip_durable(&kip, places) == KIP_OK, "durable");
-    while ((status = kip_reply(&kip, &reply, data, sizeof data)) == KIP_OK) must(kip_committed(&reply), "a packet isn't committed");
+    while ((status = kip_reply(&kip, &reply, data, sizeof data)) == KIP_OK) must_be_made(&reply, data);
     must(status == KIP_NO_REPLY, kip_status_name(status));
 }
 

@@ -41,20 +41,30 @@ static uint64_t sum_of(const call_t *call) {
     return sum;
 }
 
-static void make(const call_t *call) {
+/* Makes call `place` of the bank, which is its reply's user data. */
+static void make(const call_t *call, uint64_t place) {
     uint64_t number = 0;
     uint32_t status = call->operation == PULSE ? kip_pulse(&kip, call->moment)
-                                               : kip_submit(&kip, 0, call->operation, call->data, call->size, 0, &number);
+                                               : kip_submit(&kip, 0, call->operation, call->data, call->size, place, &number);
     must(status == KIP_OK, kip_status_name(status)); /* (a call that is refused would have to be taken out of the file) */
 }
 
-/* Commits what waits, and reads all replies. */
+/* Commits what waits, and reads all replies. Ends the run if an event failed, unless it `exists`: that was committed before. */
 static void read_replies(void) {
-    kip_failure failures[DATA_MAX / 128];
+    kip_failure failures[DATA_MAX / 128]; /* (no call looks up) */
     kip_reply_t reply;
     uint32_t status;
     must(kip_flush(&kip) == KIP_OK, "flush");
-    while ((status = kip_reply(&kip, &reply, failures, sizeof failures)) == KIP_OK) must(kip_committed(&reply), "a packet isn't committed");
+    while ((status = kip_reply(&kip, &reply, failures, sizeof failures)) == KIP_OK) {
+        must(kip_committed(&reply), "a packet isn't committed");
+        for (uint64_t i = 0; i < reply.size / sizeof *failures; i++) {
+            int is_account = reply.operation == KIP_OPERATION_CREATE_ACCOUNTS;
+            const char *name = is_account ? kip_account_result_name(failures[i].result) : kip_transfer_result_name(failures[i].result);
+            if (strcmp(name, "exists") == 0) continue;
+            fprintf(stderr, "logged: call %llu: %s\n", (unsigned long long)reply.user_data, name);
+            exit(2);
+        }
+    }
     must(status == KIP_NO_REPLY, kip_status_name(status));
 }
 
@@ -66,7 +76,7 @@ static uint64_t recover(void) {
     off_t end = lseek(file, 0, SEEK_END);
     must(end >= 0 && lseek(file, 0, SEEK_SET) == 0, "the file can't be read");
     while (read(file, &call, sizeof call) == sizeof call && call.sum == sum_of(&call)) {
-        make(&call);
+        make(&call, calls);
         if (calls++ % 1000 == 999) read_replies();
     }
     read_replies();
@@ -113,7 +123,7 @@ int main(int count, char **words) {
         for (uint64_t number = place; number < end; number++) {
             call_t call = call_of(number);
             must(write(file, &call, sizeof call) == sizeof call, "the file can't be written");
-            make(&call);
+            make(&call, number);
         }
         must(fdatasync(file) == 0, "the disk failed: what of these calls is in the file is known at the next start");
         read_replies();
