@@ -6,6 +6,7 @@
  * Makes the calls of the little bank of journaled.c, and prints the same lines. The file is synced once for four calls. It is a log of this
  * program alone: to keep what is committed, in a table that others read, see journaled.c. */
 #define _DEFAULT_SOURCE /* flock, fdatasync */
+#include <errno.h>
 #include <fcntl.h>
 #include <kip.h>
 #include <libgen.h>
@@ -85,6 +86,14 @@ static uint64_t recover(void) {
     return calls;
 }
 
+/* Opens the file for this process only. */
+static void open_file(const char *path) {
+    file = open(path, O_RDWR | O_CREAT, 0600);
+    if (file >= 0 && flock(file, LOCK_EX | LOCK_NB) == 0) return;
+    fprintf(stderr, "logged: %s: %s\n", path, errno == EWOULDBLOCK ? "another process has it open" : strerror(errno));
+    exit(2);
+}
+
 /* Has the disk keep the name of a new file too. */
 static void sync_folder(char *path) {
     int folder = open(dirname(path), O_RDONLY);
@@ -112,8 +121,7 @@ int main(int count, char **words) {
     uint64_t calls = count == 3 ? strtoull(words[2], &rest, 10) : 0, place = 0, clock = 0;
     must(rest && *rest == 0 && words[2][0] >= '0' && words[2][0] <= '9', "usage: logged FILE CALLS");
     setvbuf(stdout, NULL, _IOLBF, 0); /* each line at once, also into a pipe */
-    file = open(words[1], O_RDWR | O_CREAT, 0600);
-    must(file >= 0 && flock(file, LOCK_EX | LOCK_NB) == 0, "the file can't be opened, or another process has it");
+    open_file(words[1]);
     sync_folder(words[1]);
     must(kip_open(&kip, 0, KIP_BATCH_MAX, 1) == KIP_OK, "kip_open");
     place = recover();
