@@ -371,7 +371,7 @@ class Failing(InFolder):
         client = DurableClient(self.path)
         resource.setrlimit(resource.RLIMIT_FSIZE, (64 << 10, soft[1]))
         try:
-            with self.assertRaises(sqlite3.Error):
+            with self.assertRaisesRegex(sqlite3.OperationalError, f"^{self.path}: "):
                 for made in range(1000):
                     client.create_accounts([Account(id=made + 1, ledger=1, code=1)])
             with self.assertRaises(KipError):
@@ -532,6 +532,16 @@ class OtherPrograms(InFolder):
                     pathlib.Path(f"{lost}.moved").rename(lost)
                     self.assertEqual(self.rows()[1], (0, CREATE_ACCOUNTS, 0, stub(), 128))
 
+    def test_a_file_that_still_has_its_log_uses_no_shared_memory(self):
+        self.run_python("client = DurableClient(path)\nmake(1)\nsys.stdout.flush()\nos.kill(os.getpid(), signal.SIGKILL)")
+        left = ["ledger.db", "ledger.db-wal"]
+        self.assertEqual(sorted(os.listdir(self.path.parent)), left)
+        with DurableClient(self.path) as client:
+            self.assertEqual(sorted(os.listdir(self.path.parent)), left)
+            client.create_accounts([Account(id=2, ledger=1, code=1)])
+            self.assertEqual(sorted(os.listdir(self.path.parent)), left)
+        self.assertEqual(self.ids(), [1, 2])
+
     def test_a_file_with_another_name_is_refused(self):
         self.run_python("client = DurableClient(path)\nmake(1)\nsys.stdout.flush()\nos.kill(os.getpid(), signal.SIGKILL)")
         other = f"{self.path}.other"
@@ -611,9 +621,22 @@ class BadFiles(InFolder):
             self.refused(setting)
 
     def test_no_database(self):
-        for data in b"no database, but a text of some length" * 20, bytes(4096):
+        for data in b"a text of 50 bytes, which is no database at all..\n" * 100, b"a text of 21 bytes..\n", b"short", bytes(4096):
             self.path.write_bytes(data)
-            self.refused("not a database|sums")
+            self.refused(f"^{self.path}: it is no SQLite database: give another file$")
+        self.path.write_bytes(b"SQLite format 3\0")
+        self.refused("not a database")
+
+    def test_a_file_that_was_being_made_as_the_power_failed_is_emptied(self):
+        # (the head of a journal: no page to be put back, a file of no pages before, sectors of 512 bytes and pages of 4096)
+        journal = pathlib.Path(f"{self.path}-journal")
+        journal.write_bytes(struct.pack(">8s5I", bytes.fromhex("d9d505f920a163d7"), 0, 7, 0, 512, 4096).ljust(512, b"\0"))
+        self.path.write_bytes(bytes(4096))
+        with DurableClient(self.path) as client:
+            self.assertEqual((client.places(), journal.exists()), (0, False))
+        journal.touch()
+        self.path.write_bytes(b"a text of 21 bytes..\n")
+        self.refused("not a database")
 
     def test_a_damaged_page(self):
         with DurableClient(self.path) as client:

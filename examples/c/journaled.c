@@ -26,18 +26,19 @@ typedef struct {
 KIP_STATIC_ASSERT(sizeof(stub_t) == 16, "a stub has 16 bytes");
 
 static kip_t kip;
+static const char *path;
 static sqlite3 *file;
 static sqlite3_stmt *insert;
 static uint64_t first_numbers[KIP_SUBMITTERS_MAX]; /* of each submitter's packets in this run: as many are in the file */
 static uint64_t following[KIP_SUBMITTERS_MAX];     /* of each submitter the number in a row that would be the next of its run */
 
+/* Ends the run if something doesn't hold: with what SQLite says of the file if it failed, or else with a sentence. */
 static void must(int holds, const char *what) {
-    if (!holds) {
-        int code = file ? sqlite3_errcode(file) : SQLITE_OK;
-        int failed = code != SQLITE_OK && code != SQLITE_ROW && code != SQLITE_DONE;
-        fprintf(stderr, "journaled: %s%s%s\n", what, failed ? ": " : "", failed ? sqlite3_errmsg(file) : "");
-        exit(2);
-    }
+    if (holds) return;
+    int code = file ? sqlite3_errcode(file) : SQLITE_OK;
+    if (code == SQLITE_OK || code == SQLITE_ROW || code == SQLITE_DONE) fprintf(stderr, "journaled: %s\n", what);
+    else fprintf(stderr, "journaled: %s: %s\n", path, code == SQLITE_BUSY ? "another process has it open" : sqlite3_errmsg(file));
+    exit(2);
 }
 
 static void sql(const char *text) { must(sqlite3_exec(file, text, NULL, NULL, NULL) == SQLITE_OK, text); }
@@ -55,21 +56,25 @@ static void put(sqlite3_int64 place, int operation, sqlite3_int64 moment, const 
 /* Refuses a file whose log isn't beside it: one with another name, by which its log may be named, and a log without its file, which SQLite
  * would delete. A database in memory has no name, and would be lost. */
 static void look_at_log(void) {
-    const char *path = sqlite3_db_filename(file, "main");
+    const char *name = sqlite3_db_filename(file, "main");
     struct stat found, log;
-    must(path && *path, "the file needs a name");
-    must(stat(path, &found) == 0 && found.st_nlink == 1, "the file has another name, by which its log may be named: remove that hard link");
-    must(found.st_size > 0 || stat(sqlite3_filename_wal(path), &log) != 0 || log.st_size == 0,
+    must(name && *name, "the file needs a name");
+    must(stat(name, &found) == 0 && found.st_nlink == 1, "the file has another name, by which its log may be named: remove that hard link");
+    must(found.st_size > 0 || stat(sqlite3_filename_wal(name), &log) != 0 || log.st_size == 0,
          "there is no file, but its log has pages: put the file back, or move the log away");
 }
 
-/* Returns whether the file may be written here: pages with sums, as tb_durable makes them, would lose these. */
-static int has_no_sums(const char *path) {
+/* Refuses a file that isn't SQLite's, unless it was being made, and pages with sums of tb_durable, which would be lost here. */
+static void look_at_head(void) {
+    const char *name = sqlite3_db_filename(file, "main");
     unsigned char head[21] = {0};
-    FILE *read = fopen(path, "rb");
+    struct stat journal;
+    FILE *read = fopen(name, "rb"); /* (ahead of a lock, since it would be lost as this is closed) */
     size_t count = read ? fread(head, 1, sizeof head, read) : 0;
     if (read) fclose(read);
-    return count < sizeof head || head[20] == 0;
+    if (count == 0 || memcmp(head, "SQLite format 3", 16) == 0)
+        must(head[20] == 0, "the pages of the file have sums, which this SQLite doesn't write: continue it by tbpipe");
+    else must(stat(sqlite3_filename_journal(name), &journal) == 0, "the file is no SQLite database: give another file");
 }
 
 /* Returns whether the file has a ledger's table and nothing else. */
@@ -81,11 +86,11 @@ static int is_ledger(void) {
 }
 
 /* Opens the file for this process only, and makes the table of a new one. `begin exclusive` fails if another process has it. */
-static void open_file(const char *path) {
+static void open_file(void) {
     const stub_t settings = {0, 1, KIP_BATCH_MAX};
-    must(has_no_sums(path), "the pages of the file have sums, which this SQLite doesn't write: continue it by tbpipe");
-    must(sqlite3_open(path, &file) == SQLITE_OK, path);
+    must(sqlite3_open(path, &file) == SQLITE_OK, "out of memory");
     look_at_log();
+    look_at_head();
     sql("pragma locking_mode=exclusive; pragma synchronous=full; begin exclusive");
     int is_new = sqlite3_exec(file, "select 1 from entry", NULL, NULL, NULL) != SQLITE_OK;
     if (is_new) sql(TABLE);
@@ -151,16 +156,30 @@ static void recover(void) {
 
 /* Makes call `number` of the bank. */
 static void go_on(uint64_t call) {
-    uint64_t number = 0;
+    uint64_t number = 0; /* (the reply has the call as its user data) */
     if (call == 0) {
         const kip_account accounts[] = {{.id = {1, 0}, .ledger = 1, .code = 1}, {.id = {2, 0}, .ledger = 1, .code = 1}};
-        must(kip_submit(&kip, 0, KIP_OPERATION_CREATE_ACCOUNTS, accounts, sizeof accounts, 0, &number) == KIP_OK, "submit");
+        must(kip_submit(&kip, 0, KIP_OPERATION_CREATE_ACCOUNTS, accounts, sizeof accounts, call, &number) == KIP_OK, "submit");
     } else if (call % 10 != 0) {
         const kip_transfer transfer = {.id = {call, 0}, .debit_account_id = {1, 0}, .credit_account_id = {2, 0}, .amount = {call, 0},
                                        .ledger = 1, .code = 1};
-        must(kip_submit(&kip, 0, KIP_OPERATION_CREATE_TRANSFERS, &transfer, sizeof transfer, 0, &number) == KIP_OK, "submit");
+        must(kip_submit(&kip, 0, KIP_OPERATION_CREATE_TRANSFERS, &transfer, sizeof transfer, call, &number) == KIP_OK, "submit");
     } else {
         must(kip_pulse(&kip, call * 1000000000) == KIP_OK, "pulse");
+    }
+}
+
+/* Ends the run if a call isn't committed, or if an event of it failed. One that `exists` was committed before, so it isn't made twice. */
+static void must_be_made(const kip_reply_t *reply, const char *results) {
+    must(kip_committed(reply), "a packet isn't committed");
+    for (uint64_t at = 0; at < reply->size; at += sizeof(kip_failure)) {
+        kip_failure failure;
+        memcpy(&failure, results + at, sizeof failure);
+        int is_account = reply->operation == KIP_OPERATION_CREATE_ACCOUNTS;
+        const char *name = is_account ? kip_account_result_name(failure.result) : kip_transfer_result_name(failure.result);
+        if (strcmp(name, "exists") == 0) continue;
+        fprintf(stderr, "journaled: call %llu: %s\n", (unsigned long long)reply->user_data, name);
+        exit(2);
     }
 }
 
@@ -180,7 +199,7 @@ static void store(void) {
     must(status == KIP_NO_ENTRY, kip_status_name(status));
     sql("commit"); /* what is committed is on the disk, so it may be printed */
     must(kip_durable(&kip, places) == KIP_OK, "durable");
-    while ((status = kip_reply(&kip, &reply, data, sizeof data)) == KIP_OK) must(kip_committed(&reply), "a packet isn't committed");
+    while ((status = kip_reply(&kip, &reply, data, sizeof data)) == KIP_OK) must_be_made(&reply, data);
     must(status == KIP_NO_REPLY, kip_status_name(status));
 }
 
@@ -189,7 +208,8 @@ int main(int count, char **words) {
     uint64_t calls = count == 3 ? strtoull(words[2], &rest, 10) : 0, place = 0;
     must(rest && *rest == 0 && words[2][0] >= '0' && words[2][0] <= '9', "usage: journaled FILE CALLS");
     setvbuf(stdout, NULL, _IOLBF, 0); /* each line at once, also into a pipe */
-    open_file(words[1]);
+    path = words[1];
+    open_file();
     recover();
     must(kip_places(&kip, &place) == KIP_OK, "kip_places");
     printf("recovered %llu\n", (unsigned long long)place);

@@ -6,6 +6,7 @@
  * Makes the calls of the little bank of journaled.c, and prints the same lines. The file is synced once for four calls. It is a log of this
  * program alone: to keep what is committed, in a table that others read, see journaled.c. */
 #define _DEFAULT_SOURCE /* flock, fdatasync */
+#include <errno.h>
 #include <fcntl.h>
 #include <kip.h>
 #include <libgen.h>
@@ -41,20 +42,30 @@ static uint64_t sum_of(const call_t *call) {
     return sum;
 }
 
-static void make(const call_t *call) {
+/* Makes call `place` of the bank, which is its reply's user data. */
+static void make(const call_t *call, uint64_t place) {
     uint64_t number = 0;
     uint32_t status = call->operation == PULSE ? kip_pulse(&kip, call->moment)
-                                               : kip_submit(&kip, 0, call->operation, call->data, call->size, 0, &number);
+                                               : kip_submit(&kip, 0, call->operation, call->data, call->size, place, &number);
     must(status == KIP_OK, kip_status_name(status)); /* (a call that is refused would have to be taken out of the file) */
 }
 
-/* Commits what waits, and reads all replies. */
+/* Commits what waits, and reads all replies. Ends the run if an event failed, unless it `exists`: that was committed before. */
 static void read_replies(void) {
-    kip_failure failures[DATA_MAX / 128];
+    kip_failure failures[DATA_MAX / 128]; /* (no call looks up) */
     kip_reply_t reply;
     uint32_t status;
     must(kip_flush(&kip) == KIP_OK, "flush");
-    while ((status = kip_reply(&kip, &reply, failures, sizeof failures)) == KIP_OK) must(kip_committed(&reply), "a packet isn't committed");
+    while ((status = kip_reply(&kip, &reply, failures, sizeof failures)) == KIP_OK) {
+        must(kip_committed(&reply), "a packet isn't committed");
+        for (uint64_t i = 0; i < reply.size / sizeof *failures; i++) {
+            int is_account = reply.operation == KIP_OPERATION_CREATE_ACCOUNTS;
+            const char *name = is_account ? kip_account_result_name(failures[i].result) : kip_transfer_result_name(failures[i].result);
+            if (strcmp(name, "exists") == 0) continue;
+            fprintf(stderr, "logged: call %llu: %s\n", (unsigned long long)reply.user_data, name);
+            exit(2);
+        }
+    }
     must(status == KIP_NO_REPLY, kip_status_name(status));
 }
 
@@ -66,13 +77,21 @@ static uint64_t recover(void) {
     off_t end = lseek(file, 0, SEEK_END);
     must(end >= 0 && lseek(file, 0, SEEK_SET) == 0, "the file can't be read");
     while (read(file, &call, sizeof call) == sizeof call && call.sum == sum_of(&call)) {
-        make(&call);
+        make(&call, calls);
         if (calls++ % 1000 == 999) read_replies();
     }
     read_replies();
     must(end - (off_t)(calls * sizeof call) <= (off_t)(GROUP * sizeof call), "the file is damaged, or another program's: put a copy back");
     must(ftruncate(file, (off_t)(calls * sizeof call)) == 0 && lseek(file, 0, SEEK_END) >= 0, "the file can't be cut");
     return calls;
+}
+
+/* Opens the file for this process only. */
+static void open_file(const char *path) {
+    file = open(path, O_RDWR | O_CREAT, 0600);
+    if (file >= 0 && flock(file, LOCK_EX | LOCK_NB) == 0) return;
+    fprintf(stderr, "logged: %s: %s\n", path, errno == EWOULDBLOCK ? "another process has it open" : strerror(errno));
+    exit(2);
 }
 
 /* Has the disk keep the name of a new file too. */
@@ -102,8 +121,7 @@ int main(int count, char **words) {
     uint64_t calls = count == 3 ? strtoull(words[2], &rest, 10) : 0, place = 0, clock = 0;
     must(rest && *rest == 0 && words[2][0] >= '0' && words[2][0] <= '9', "usage: logged FILE CALLS");
     setvbuf(stdout, NULL, _IOLBF, 0); /* each line at once, also into a pipe */
-    file = open(words[1], O_RDWR | O_CREAT, 0600);
-    must(file >= 0 && flock(file, LOCK_EX | LOCK_NB) == 0, "the file can't be opened, or another process has it");
+    open_file(words[1]);
     sync_folder(words[1]);
     must(kip_open(&kip, 0, KIP_BATCH_MAX, 1) == KIP_OK, "kip_open");
     place = recover();
@@ -113,7 +131,7 @@ int main(int count, char **words) {
         for (uint64_t number = place; number < end; number++) {
             call_t call = call_of(number);
             must(write(file, &call, sizeof call) == sizeof call, "the file can't be written");
-            make(&call);
+            make(&call, number);
         }
         must(fdatasync(file) == 0, "the disk failed: what of these calls is in the file is known at the next start");
         read_replies();

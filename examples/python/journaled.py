@@ -17,29 +17,38 @@ from kip.durable import DurableClient
 
 
 def go_on(bank, number):
-    """Makes call `number` of the bank."""
+    """Makes call `number` of the bank. An event that fails as `exists` was committed before, so it isn't made twice."""
+    failures = []
     if number == 0:
-        bank.create_accounts([tb.Account(id=1, ledger=1, code=1), tb.Account(id=2, ledger=1, code=1)])
+        failures = bank.create_accounts([tb.Account(id=1, ledger=1, code=1), tb.Account(id=2, ledger=1, code=1)])
     elif number % 10 == 0:
         bank.pulse(number * 10**9)
     else:
-        bank.create_transfers([tb.Transfer(id=number, debit_account_id=1, credit_account_id=2, amount=number, ledger=1, code=1)])
+        transfer = tb.Transfer(id=number, debit_account_id=1, credit_account_id=2, amount=number, ledger=1, code=1)
+        failures = bank.create_transfers([transfer])
+    for failed in failures:
+        if failed.result.name != "EXISTS":
+            raise ValueError(f"call {number}: {failed.result.name.lower()}")
     print(f"committed {number}", flush=True)
 
 
 def main():
-    if len(sys.argv) != 3 or not sys.argv[2].isdecimal():
-        sys.exit(__doc__.splitlines()[0])
-    path, calls = sys.argv[1], int(sys.argv[2])
     try:
+        if len(sys.argv) != 3 or not sys.argv[2].isdecimal():
+            raise ValueError("usage: journaled.py FILE CALLS")
+        path, calls = sys.argv[1], int(sys.argv[2])
         with DurableClient(path) as bank:
             print(f"recovered {bank.places()}", flush=True)
             for number in range(bank.places(), calls):
                 go_on(bank, number)
             print(f"debits {sum(it.debits_posted for it in bank.lookup_accounts([1]))}, clock {bank.clock()}")
-    except (ValueError, OSError, sqlite3.Error, tb.KipError) as why:
-        sys.exit(f"journaled: {why}")
+    except (ValueError, OSError, MemoryError, sqlite3.Error, tb.KipError, tb.NotCommitted) as why:
+        print(f"journaled: {why}", file=sys.stderr)
+        return 2
+    except KeyboardInterrupt:
+        print("journaled: interrupted: what was printed as committed is in the file", file=sys.stderr)
+        return 130
 
 
 if __name__ == "__main__":
-    main()
+    sys.exit(main())

@@ -60,8 +60,9 @@ def _identity(path):
 
 
 def _refuse_other_files(path):
-    """Refuses a file that another client of this process has open, and one that this SQLite would spoil: one with another name, by which
-    its log may be named, one whose pages end in sums, as `tb_durable` makes it, and a log without its file."""
+    """Refuses a file that another client of this process has open, one that isn't SQLite's, unless it was being made, and one that this
+    SQLite would spoil: one with another name, by which its log may be named, one whose pages end in sums, as `tb_durable` makes it, and a
+    log without its file."""
     file, log = _stat(path), _stat(f"{path}-wal")
     # (looked at ahead of `open`: when a process closes a file, it loses all its locks of it, also those of another client)
     if file and (file.st_dev, file.st_ino) in _open_files:
@@ -71,7 +72,11 @@ def _refuse_other_files(path):
     if file and file.st_nlink > 1 and os.path.isfile(path):
         raise BadFile(f"{path}: it has another name, by which its log may be named: remove that hard link")
     with contextlib.suppress(FileNotFoundError), open(path, "rb") as file:
-        if file.read(21)[20:] not in (b"", b"\0"):
+        head = file.read(21)
+        if head and not head.startswith(b"SQLite format 3\0"):
+            if not _stat(f"{path}-journal"):  # (by which SQLite empties a file that was being made)
+                raise BadFile(f"{path}: it is no SQLite database: give another file")
+        elif head[20:] not in (b"", b"\0"):
             raise BadFile(f"{path}: its pages have sums, which Python's SQLite doesn't write: continue it by tbpipe or tb_durable")
 
 
@@ -118,7 +123,8 @@ def _naming(path):
 
 def _lock(path, database, settings):
     """Locks a ledger's file until it is closed, and makes the table of a new one, with these settings."""
-    for setting in "auto_vacuum = none", "page_size = 4096", "locking_mode = exclusive", "synchronous = full":  # (the first two of a new file)
+    # (the mode is first: a setting that reads a file with a log would use memory that is shared with others; the last two are of a new file)
+    for setting in "locking_mode = exclusive", "synchronous = full", "auto_vacuum = none", "page_size = 4096":
         database.execute(f"pragma {setting}")
     database.execute("begin exclusive")
     if _is_new(path, database):
@@ -323,15 +329,23 @@ class DurableClient(ClientSync):
                 raise
             raise MemoryError(f"{self._path}: {why}") from None
 
+    def _write(self, rows):
+        """Writes rows in one transaction. An error of SQLite names the file, and keeps its type."""
+        try:
+            self._database.execute("begin")
+            self._database.executemany("insert into entry values (?, ?, ?, ?, ?)", rows)
+            self._database.execute("commit")
+        except sqlite3.Error as why:
+            why.args = f"{self._path}: {why}",
+            raise
+
     def _store(self):
         """Stores what is committed and isn't in the file yet, in one transaction. Then its replies can be read."""
         self._is_behind = True  # (until what was taken is in the file: no later call may return as if it were)
         rows = self._rows()
         if rows:
             self._must_be_mine(self._look() == self._seen)
-            self._database.execute("begin")
-            self._database.executemany("insert into entry values (?, ?, ?, ?, ?)", rows)
-            self._database.execute("commit")
+            self._write(rows)
             look = self._look()
             self._must_be_mine(self._is_same(look))
             self._seen = look
