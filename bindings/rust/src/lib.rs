@@ -152,7 +152,7 @@ impl fmt::Display for Refusal {
             Refusal::InUse => "the ledger is in use: restore into one that was just opened",
             Refusal::NotHandedOut => "the place is above what was handed out: call `next_entry` and store its entry first",
             Refusal::NotStored => {
-                "what is committed isn't stored: call `commit`; if a store failed, drop the ledger, open another and restore"
+                "what is committed isn't stored: store it first, as `commit` does; if that failed, drop the ledger, open another and restore"
             }
         })
     }

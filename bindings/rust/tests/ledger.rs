@@ -198,7 +198,7 @@ fn errors_are_sentences() {
         let said = Error::NotCommitted(why).to_string();
         assert!(said == why.to_string() && said.starts_with("the packet isn't committed: "), "{said}");
     }
-    let not_stored = "what is committed isn't stored: call `commit`; if a store failed, drop the ledger, open another and restore";
+    let not_stored = "what is committed isn't stored: store it first, as `commit` does; if that failed, drop the ledger, open another and restore";
     assert_eq!(Refusal::NotStored.to_string(), not_stored);
     let queued = "memory ran out, and packet 7 stays queued: `flush` or `commit` it, and don't make the call again";
     assert_eq!(Error::Queued { number: 7 }.to_string(), queued);
