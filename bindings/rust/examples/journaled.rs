@@ -20,7 +20,7 @@ use kip::{
 use std::collections::hash_map::RandomState;
 use std::fs::{File, TryLockError};
 use std::hash::BuildHasher;
-use std::io::{stdout, Error, Read, Seek, SeekFrom, Write};
+use std::io::{stdout, Error, ErrorKind, Read, Seek, SeekFrom, Write};
 use std::os::unix::fs::MetadataExt;
 use std::path::{Path, PathBuf};
 use std::process::ExitCode;
@@ -126,8 +126,8 @@ fn restore_all(ledger: &mut Ledger<Recorded>, mark: &Mark, bytes: &[u8]) -> Resu
     Ok((last, end))
 }
 
-/// Keeps bytes that are cut off in a new file next to this one, and returns its name.
-fn keep_cut(path: &Path, bytes: &[u8]) -> std::io::Result<PathBuf> {
+/// Keeps bytes that are cut off in a new file next to this one, and returns its name. If they can't be kept, no new file is left.
+fn keep_cut(path: &Path, bytes: &[u8]) -> Result<PathBuf, Failure> {
     let named = |number: u64| {
         let mut name = path.as_os_str().to_owned();
         name.push(format!(".cut{number}"));
@@ -137,11 +137,17 @@ fn keep_cut(path: &Path, bytes: &[u8]) -> std::io::Result<PathBuf> {
     while named(number).exists() {
         number += 1;
     }
-    let mut kept = File::create_new(named(number))?;
-    kept.write_all(bytes)?;
-    kept.sync_all()?;
-    sync_name(&named(number))?;
-    Ok(named(number))
+    let name = named(number);
+    let kept = File::create_new(&name).and_then(|mut kept| {
+        let stored = kept.write_all(bytes).and_then(|()| kept.sync_all()).and_then(|()| sync_name(&name));
+        stored.inspect_err(|_| drop(std::fs::remove_file(&name)))
+    });
+    kept.map_err(|why| {
+        let is_full = matches!(why.kind(), ErrorKind::StorageFull | ErrorKind::QuotaExceeded | ErrorKind::FileTooLarge);
+        let advice = if is_full { ": free some space and start again" } else { "" };
+        format!("the file's end, which isn't whole, can't be kept in {}: {why}{advice}", name.display())
+    })?;
+    Ok(name)
 }
 
 /// The file, which ends with a whole record.
@@ -160,7 +166,7 @@ impl Journal {
     fn open(path: &Path, ledger: &mut Ledger<Recorded>) -> Result<Journal, Failure> {
         let mut file = File::options().read(true).write(true).create(true).truncate(false).open(path)?;
         if !file.metadata()?.is_file() {
-            return Err("FILE isn't a plain file: give another".into());
+            return Err("it isn't a plain file: give another".into());
         }
         file.try_lock().map_err(|why| match why {
             TryLockError::WouldBlock => "another process has the file open".to_string(),
@@ -174,7 +180,7 @@ impl Journal {
         let mark = mark_in(&bytes).ok_or("the file is another program's, or its header is damaged: give another")?;
         let (last, end) = restore_all(ledger, &mark, &bytes)?;
         if end < bytes.len() {
-            let kept = keep_cut(path, &bytes[end..]).map_err(|why| format!("the file's end, which isn't whole, can't be kept in another: {why}"))?;
+            let kept = keep_cut(path, &bytes[end..])?;
             eprintln!("journaled: the last {} bytes aren't whole: they are cut off, and kept in {}", bytes.len() - end, kept.display());
         }
         file.set_len(end as u64)?;
@@ -249,7 +255,7 @@ fn read_replies(ledger: &mut Ledger<Recorded>) -> Result<(), Failure> {
 
 fn run(path: &Path, calls: u64) -> Result<(), Failure> {
     let mut ledger = Ledger::open_recorded(0, 8190, 1)?;
-    let mut journal = Journal::open(path, &mut ledger)?;
+    let mut journal = Journal::open(path, &mut ledger).map_err(|why| format!("{}: {why}", path.display()))?;
     let mut place = ledger.places();
     writeln!(stdout(), "recovered {place}")?;
     while place < calls {

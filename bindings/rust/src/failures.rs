@@ -113,13 +113,15 @@ impl<T> Failed<T> {
     }
 }
 
+/// Shows how many events failed, and the first of them.
+pub(crate) fn show(out: &mut fmt::Formatter<'_>, count: usize, first: &impl fmt::Display) -> fmt::Result {
+    let more = if count > 1 { ", .." } else { "" };
+    write!(out, "{count} failed: {first}{more}")
+}
+
 impl<T: fmt::Display> fmt::Display for Failed<T> {
     fn fmt(&self, out: &mut fmt::Formatter<'_>) -> fmt::Result {
-        write!(out, "{} failed: {}", self.0.len(), self.0[0])?;
-        if self.0.len() > 1 {
-            write!(out, ", ..")?;
-        }
-        Ok(())
+        show(out, self.0.len(), &self.0[0])
     }
 }
 

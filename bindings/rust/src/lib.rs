@@ -135,19 +135,56 @@ impl From<NotCommitted> for Error {
     }
 }
 
-macro_rules! shown_as_debug {
-    ($($name:ident)*) => {$(
-        impl fmt::Display for $name {
-            fn fmt(&self, out: &mut fmt::Formatter<'_>) -> fmt::Result {
-                fmt::Debug::fmt(self, out)
+impl fmt::Display for Refusal {
+    fn fmt(&self, out: &mut fmt::Formatter<'_>) -> fmt::Result {
+        out.write_str(match self {
+            Refusal::InvalidOperation => "there is no such operation: take CREATE_ACCOUNTS, CREATE_TRANSFERS or LOOKUP_ACCOUNTS",
+            Refusal::InvalidDataSize => "the packet's data isn't a whole number of events",
+            Refusal::TooMuchData => "the packet has more events than the ledger's limit: make several packets",
+            Refusal::Full => "the submitter has no number left: take another submitter",
+            Refusal::NoMemory => "memory ran out: make the call again once there is more",
+            Refusal::Shutdown => "`shut` was called: nothing after it is committed",
+            Refusal::Stopped => "the ledger stopped: its places are used up",
+            Refusal::BadLimit => "the limit isn't 1 to 8190",
+            Refusal::BadSubmitters => "there is no such submitter: a ledger has 1 to 16, counted from 0",
+            Refusal::MomentTooLarge => "the moment is above 2^62 nanoseconds",
+            Refusal::NotNext => "the entry isn't the next one: restore all entries, in the order of places",
+            Refusal::InUse => "the ledger is in use: restore into one that was just opened",
+            Refusal::NotHandedOut => "the place is above what was handed out: call `next_entry` and store its entry first",
+            Refusal::NotStored => {
+                "what is committed isn't stored: store it first, as `commit` does; if that failed, drop the ledger, open another and restore"
             }
-        }
-
-        impl std::error::Error for $name {}
-    )*};
+        })
+    }
 }
 
-shown_as_debug! { Refusal NotCommitted Error }
+impl fmt::Display for NotCommitted {
+    fn fmt(&self, out: &mut fmt::Formatter<'_>) -> fmt::Result {
+        out.write_str(match self {
+            NotCommitted::Shutdown => "the packet isn't committed: it was queued after `shut`",
+            NotCommitted::Stopped => "the packet isn't committed: the ledger stopped, since its places are used up",
+        })
+    }
+}
+
+impl fmt::Display for Error {
+    fn fmt(&self, out: &mut fmt::Formatter<'_>) -> fmt::Result {
+        match self {
+            Error::Refused(refusal) => refusal.fmt(out),
+            Error::Queued { number } => {
+                write!(out, "memory ran out, and packet {number} stays queued: `flush` or `commit` it, and don't make the call again")
+            }
+            Error::NotCommitted(why) => why.fmt(out),
+            Error::AccountsFailed { count, first } => failures::show(out, *count, first),
+            Error::TransfersFailed { count, first } => failures::show(out, *count, first),
+            Error::EventsFailed { count, first } => failures::show(out, *count, first),
+        }
+    }
+}
+
+impl std::error::Error for Refusal {}
+impl std::error::Error for NotCommitted {}
+impl std::error::Error for Error {}
 
 fn done(status: u32) -> Result<(), Refusal> {
     if status == 0 {

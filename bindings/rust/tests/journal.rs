@@ -377,7 +377,7 @@ fn a_store_that_fails_gives_no_reply() -> Result<(), Failed> {
     assert_eq!(ledger.create_transfers(&[transfer(2, 1, 2)], unused), Err(not_stored));
     assert_eq!(ledger.create_accounts(&[account(3)], unused), Err(not_stored));
     assert_eq!(ledger.commit(unused), Err(not_stored));
-    assert_eq!((state(&mut ledger), not_stored.to_string()), (before, "Refused(NotStored)".to_string()));
+    assert_eq!((state(&mut ledger), not_stored.to_string()), (before, Refusal::NotStored.to_string()));
     // What was refused wasn't queued: the transfer's packet had number 1, and this one has the next.
     assert_eq!(ledger.submit(0, CREATE_ACCOUNTS, &[], 0), Ok(2));
     // What is stored gives the ledger without it.

@@ -149,7 +149,7 @@ fn refusals_have_names() {
     assert_eq!(ledger.pulse(8), Ok(()));
     assert_eq!((ledger.clock(), ledger.places()), (8, 1));
     assert_eq!(ledger.shut(), Ok(()));
-    assert_eq!(ledger.shut().unwrap_err().to_string(), "Shutdown");
+    assert_eq!(ledger.shut(), Err(Refusal::Shutdown));
     assert_eq!(ledger.submit(0, CREATE_ACCOUNTS, &[], 3), Ok(0));
     let mut buffer = vec![1, 2, 3];
     assert_eq!(ledger.reply(&mut buffer).unwrap().outcome, Outcome::Shutdown);
@@ -175,10 +175,33 @@ fn failures_become_errors() -> Result<(), Error> {
     assert_eq!(failed.failures(), [CreateTransfersResult { index: 0, result: CreateTransferResult::DebitAccountNotFound }]);
     assert_eq!(failed.to_string(), "1 failed: transfer 0: debit_account_not_found");
     assert_eq!(Error::from(failed.clone()), Error::TransfersFailed { count: 1, first: failed.failures()[0] });
+    assert_eq!(Error::from(failed.clone()).to_string(), failed.to_string());
     let again = ledger.create_accounts(&[Account { id: 2, ..ACCOUNT }])?;
     assert_eq!((again.len(), again[0].to_string()), (1, "account 0: exists".to_string()));
     assert!(matches!(again.all_created().map_err(Error::from), Err(Error::AccountsFailed { count: 1, .. })));
     Ok(())
+}
+
+/// Each error is shown as a sentence, and not by its name.
+#[test]
+fn errors_are_sentences() {
+    let refusals = [
+        Refusal::InvalidOperation, Refusal::InvalidDataSize, Refusal::TooMuchData, Refusal::Full, Refusal::NoMemory, Refusal::Shutdown,
+        Refusal::Stopped, Refusal::BadLimit, Refusal::BadSubmitters, Refusal::MomentTooLarge, Refusal::NotNext, Refusal::InUse,
+        Refusal::NotHandedOut, Refusal::NotStored,
+    ];
+    for refusal in refusals {
+        let (said, name) = (Error::Refused(refusal).to_string(), format!("{refusal:?}"));
+        assert!(said == refusal.to_string() && said.contains(' ') && !said.contains(&name), "{said}");
+    }
+    for why in [NotCommitted::Shutdown, NotCommitted::Stopped] {
+        let said = Error::NotCommitted(why).to_string();
+        assert!(said == why.to_string() && said.starts_with("the packet isn't committed: "), "{said}");
+    }
+    let not_stored = "what is committed isn't stored: store it first, as `commit` does; if that failed, drop the ledger, open another and restore";
+    assert_eq!(Refusal::NotStored.to_string(), not_stored);
+    let queued = "memory ran out, and packet 7 stays queued: `flush` or `commit` it, and don't make the call again";
+    assert_eq!(Error::Queued { number: 7 }.to_string(), queued);
 }
 
 /// Only a packet that is committed and whose events all succeeded has succeeded. A look-up has no failures, whatever it finds.
