@@ -109,7 +109,7 @@ typedef enum KIP_STATUS {
     KIP_NULL_POINTER = 105, /* null data or results of a size above 0 */
     KIP_BUSY = 106,         /* another thread is in a call with this handle */
     KIP_NO_ENTRY = 107,     /* all that is committed was handed out */
-    KIP_NOT_NEXT = 108,     /* an entry isn't at the next place, or its number isn't its submitter's next */
+    KIP_NOT_NEXT = 108,     /* an entry isn't at the next place, no place is left, or its number isn't its submitter's next */
     KIP_IN_USE = 109,       /* packets wait, replies are unread, entries aren't handed out, or kip_shut was called */
     KIP_NOT_RECORDED = 110, /* the handle wasn't opened by kip_open_recorded */
     KIP_NOT_HANDED_OUT = 111, /* an entry below the place is still to be handed out */
