@@ -12,5 +12,6 @@ mod BatchLemmas
 mod EntryLemmas
 mod FileLemmas
 mod Parcels
+mod Leaving
 mod Example
 mod OpenedFiles
