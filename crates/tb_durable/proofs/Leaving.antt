@@ -1,6 +1,6 @@
 -- What a crash leaves of a ledger's journal.
 use Rattle.std.proofs.Common.{◌≡◌, ◌⊎◌, ◌∙◌, inl, inr, ℕ, Bool, true, false, List, [], ◌∷◌, ◌++◌, Option, IsTrue, refl, sym, ap, subst, arith, append-nil, map}
-use Rattle.tb_durable.proofs.Words.{Row, Trees, View, IsClean, Input, Outcomes, LedgerState, apply_result, apply_step, BareLedgerState, group_in, jobs_row, pulse_row, map-append, groups_of, rows_of, HasGroups, IsInFile, IsKept, LeavesJournal}
+use Rattle.tb_durable.proofs.Words.{Row, Trees, View, IsClean, Input, Outcomes, LedgerState, apply_result, apply_step, BareLedgerState, group_in, jobs_row, pulse_row, map-append, groups_of, rows_of, HasGroups, IsInFile, IsKept, LeavesJournal, MayHave}
 use Rattle.sqlite_trees.specs.declared.error.StoreError.{StoreError}
 use Rattle.tb_core.specs.declared.parcel.Parcel.{Parcel}
 use Rattle.tb_core.specs.declared.parcel.Parcel.TheVariants as parcel
@@ -41,18 +41,17 @@ leaves_rows {ledger} in_doubt kept goes_on settled clean db left =
     (sym (settled db (kept.stored clean goes_on).0.is_open left)) (has_groups kept clean goes_on))
 
 -- the rows with those of a parcel after them, which is in doubt
-in_doubt_with : {rows grown : List Row} {opening : ℕ} {groups : List (List Input)} {in_doubt : Bool} (place : ℕ) (handed : Parcel)
-    → HasGroups rows opening groups → grown ≡ rows ++ rows_of place handed → in_doubt ≡ true
-    → HasGroups grown opening groups
-    ⊎ ((in_doubt ≡ true) × (last : List Input) × HasGroups grown opening (groups ++ last ∷ []))
-in_doubt_with place (parcel.Batch jobs) has is doubt =
+in_doubt_with : {rows grown : List Row} {in_doubt : Bool} (ledger : LedgerState) (place : ℕ) (handed : Parcel)
+    → HasGroups rows ledger.opening ledger.groups → grown ≡ rows ++ rows_of place handed → in_doubt ≡ true
+    → MayHave in_doubt ledger grown
+in_doubt_with ledger place (parcel.Batch jobs) has is doubt =
     inr (doubt, group_in (jobs_row place jobs), one_group_more (jobs_row place jobs) has is)
-in_doubt_with place (parcel.Pulse moment) has is doubt =
+in_doubt_with ledger place (parcel.Pulse moment) has is doubt =
     inr (doubt, group_in (pulse_row place moment), one_group_more (pulse_row place moment) has is)
-in_doubt_with {rows} {opening} {groups} place (parcel.Return job cause) has is doubt =
-    inl (subst (λ all. HasGroups all opening groups) (sym (is ∙ append-nil rows)) has)
-in_doubt_with {rows} {opening} {groups} place parcel.Last has is doubt =
-    inl (subst (λ all. HasGroups all opening groups) (sym (is ∙ append-nil rows)) has)
+in_doubt_with {rows} ledger place (parcel.Return job cause) has is doubt =
+    inl (subst (λ all. HasGroups all ledger.opening ledger.groups) (sym (is ∙ append-nil rows)) has)
+in_doubt_with {rows} ledger place parcel.Last has is doubt =
+    inl (subst (λ all. HasGroups all ledger.opening ledger.groups) (sym (is ∙ append-nil rows)) has)
 
 -- a ledger with the same journal
 same_journal : {recovers : Trees → Type 0} {in_doubt : Bool} (old new : LedgerState)
@@ -91,7 +90,7 @@ module _ {S : Type 0} {view : S → View} {recovers : S → Trees → Type 0} {b
         by true doubt = λ db left.
             elim (said.crash was.kept.stored db left) [
               | inl there ↦ inl (was_there db there)
-              | inr more ↦ in_doubt_with before.bare.places handed (has_groups was.kept clean_before went) more doubt
+              | inr more ↦ in_doubt_with old before.bare.places handed (has_groups was.kept clean_before went) more doubt
             ]
 
     -- what a parcel leaves has the journal of the ledger after it

@@ -7,6 +7,7 @@ mod Applied
 mod Journals
 mod Recovered
 pub mod RunLemmas
+mod StoppedRuns
 mod StubLemmas
 mod BatchLemmas
 mod EntryLemmas

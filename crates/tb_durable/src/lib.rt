@@ -21,6 +21,6 @@ mod table;
 
 pub use fault::OpenFault;
 pub use file::{LedgerFile, copy_log, open_file, open_file_from};
-pub use laws::runs_follow;
+pub use laws::{runs_follow, stopped_runs_follow};
 pub use ledger::DurableLedger;
 pub use settings::Settings;

@@ -128,11 +128,15 @@ pub record HasGroups (rows : List Row) (opening : ℕ) (groups : List (List Inpu
   pub opened : opening ≡ clock_in first
   pub has : map group_in entries ≡ groups
 
--- Whatever a crash leaves has a ledger's journal. Only if the ledger is in doubt, it may have one group more, the one at which it stopped.
+-- Rows have a ledger's journal. Only if the ledger is in doubt, they may have one group more, the one at which it stopped.
+abbrev pub MayHave : Bool → LedgerState → List Row → Type 0
+MayHave in_doubt ledger rows =
+    HasGroups rows ledger.opening ledger.groups
+    ⊎ ((in_doubt ≡ true) × (last : List Input) × HasGroups rows ledger.opening (ledger.groups ++ last ∷ []))
+
+-- whatever a crash leaves has a ledger's journal, or also the group in doubt
 abbrev pub LeavesJournal : (Trees → Type 0) → Bool → LedgerState → Type 0
-LeavesJournal recovers in_doubt ledger =
-    (db : Trees) → recovers db → HasGroups (db 0) ledger.opening ledger.groups
-    ⊎ ((in_doubt ≡ true) × (last : List Input) × HasGroups (db 0) ledger.opening (ledger.groups ++ last ∷ []))
+LeavesJournal recovers in_doubt ledger = (db : Trees) → recovers db → MayHave in_doubt ledger (db 0)
 
 -- a crash leaves nothing that it couldn't leave before
 abbrev pub LeavesNothingNew : (Trees → Type 0) → (Trees → Type 0) → Type 0
