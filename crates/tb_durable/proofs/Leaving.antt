@@ -1,5 +1,5 @@
 -- What a crash leaves of a ledger's journal.
-use Rattle.std.proofs.Common.{◌≡◌, ◌⊎◌, ◌∙◌, inl, inr, ℕ, Bool, true, false, List, [], ◌∷◌, ◌++◌, Option, IsTrue, refl, sym, ap, subst, arith, append-nil, map}
+use Rattle.std.proofs.Common.{◌≡◌, ◌∙◌, inl, inr, ℕ, Bool, true, false, List, [], ◌∷◌, ◌++◌, Option, IsTrue, refl, sym, ap, subst, arith, append-nil}
 use Rattle.tb_durable.proofs.Words.{Row, Trees, View, IsClean, Input, Outcomes, LedgerState, apply_result, apply_step, BareLedgerState, group_in, jobs_row, pulse_row, map-append, groups_of, rows_of, HasGroups, IsInFile, IsKept, LeavesJournal, MayHave}
 use Rattle.sqlite_trees.specs.declared.error.StoreError.{StoreError}
 use Rattle.tb_core.specs.declared.parcel.Parcel.{Parcel}

@@ -1,11 +1,11 @@
 -- A run over what a crash leaves of a ledger that stopped.
-use Rattle.std.proofs.Common.{◌≡◌, ◌∙◌, inl, inr, refl, ap, subst, sym, ℕ, zero, suc, Bool, true, Some, List, [], ◌∷◌, ◌++◌, take, length, append_assoc, append-nil}
+use Rattle.std.proofs.Common.{◌≡◌, ◌∙◌, inl, inr, refl, ap, subst, sym, ℕ, zero, suc, Bool, Some, List, [], ◌∷◌, ◌++◌, take, length, append_assoc, append-nil}
 use Rattle.tb_durable.proofs.Words.{flat_map, flat_map-append, events_in, input_of, View, BareLedgerState, Input, LedgerState, inputs, groups_of, HasGroups, MayHave}
 use Rattle.std.specs.Prelude.{slice_get}
 use Rattle.tb_machine.specs.claim.Replay.{replay, answer_of}
-use Rattle.tb_core.specs.claim.EndedRun.{Run, IsPrefix}
+use Rattle.tb_core.specs.claim.EndedRun.{Run}
 use Rattle.tb_core.specs.claim.Headline.{Headline, IsTrueOf}
-use Rattle.tb_core.specs.claim.TwoRuns.{AnswersStand, FollowsOn}
+use Rattle.tb_core.specs.claim.TwoRuns.{AnswersStand}
 use Rattle.tb_core.proofs.Since.{get-drop}
 use Rattle.tb_durable.specs.clauses.Runs.{GoesOnAfter, ShowsJournal, StoppedRunsFollow, with_group}
 use Rattle.tb_durable.proofs.RunLemmas.{opening_of, shown_opening}
