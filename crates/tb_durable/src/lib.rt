@@ -20,7 +20,7 @@ mod settings;
 mod table;
 
 pub use fault::OpenFault;
-pub use file::{LedgerFile, copy_log, open_file, open_file_from};
-pub use laws::runs_follow;
+pub use file::{LedgerFile, PAGE_SIZE, copy_log, entry_table, has_log, open_file, open_file_from};
+pub use laws::{runs_follow, stopped_runs_follow};
 pub use ledger::DurableLedger;
 pub use settings::Settings;
