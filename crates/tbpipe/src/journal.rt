@@ -10,9 +10,11 @@ mod committing;
 mod door;
 mod fault;
 mod noting;
+mod opening;
 mod running;
 
 use crate::journal::committing::Committing;
+use crate::journal::opening::open_at;
 use crate::journal::running::run_journaled;
 pub(crate) use fault::RunFault;
 use sqlite_trees::store::Store;
@@ -55,6 +57,12 @@ impl<S: Store + Drop> Drop for Journaled<S> {
 }
 
 impl<S: Store + Drop> Journaled<S> {
+    /// Returns it with a remark for people.
+    fn with_remark(mut self, alloc: Global, remark: &str) -> Result<Journaled<S>, RunFault> {
+        self.output.remark = format!(in alloc; "{remark}")?;
+        Ok(self)
+    }
+
     /// Returns the parts, of which the first is written.
     pub(crate) fn into_parts(self) -> (Output, Option<RunFault>, Option<S>) {
         let Journaled {
@@ -154,7 +162,10 @@ fn read_script(rt: &HostRuntime) -> Result<Result<ScriptParts, Journaled<LedgerF
 /// Reads a script and commits it to the ledger at a path, in its order. Returns what is written of it, as `tb_program::list_output` does.
 pub(crate) fn list_into(rt: &HostRuntime, path: &str) -> Result<Journaled<LedgerFile>, RunFault> {
     match read_script(rt)? {
-        Ok(script) => list_script(rt.alloc(), open_file(rt, path)?, script),
+        Ok(script) => {
+            let (store, opening) = open_at(rt, path)?;
+            opening.finish(rt, list_script(rt.alloc(), store, script)?)
+        }
         Err(faulty) => Ok(faulty),
     }
 }
@@ -166,7 +177,10 @@ pub(crate) fn run_into<T: Threads + Wait + Clock + Sync>(
     path: &str,
 ) -> Result<Journaled<LedgerFile>, RunFault> {
     match read_script(rt)? {
-        Ok(script) => run_journaled(threads, rt.alloc(), open_file(rt, path)?, script),
+        Ok(script) => {
+            let (store, opening) = open_at(rt, path)?;
+            opening.finish(rt, run_journaled(threads, rt.alloc(), store, script)?)
+        }
         Err(faulty) => Ok(faulty),
     }
 }

@@ -51,8 +51,10 @@ fn write_text(rt: &HostRuntime, options: &Options, output: &Output) -> Result<()
 /// Returns how the program ends after a script whose output is written. Under `--strict`, it says how much isn't committed and how much
 /// failed, if anything did.
 fn judge(rt: &HostRuntime, options: &Options, output: &Output) -> Ending {
-    if !output.faultless {
+    if !output.remark.is_empty() {
         tell(rt, &output.remark);
+    }
+    if !output.faultless {
         return Ending::FaultyScript;
     }
     if !options.strict {

@@ -13,11 +13,14 @@ use tb_program_text::ProgramFault;
 /// What is known of a path that the system doesn't open.
 const CANNOT_OPEN: OpenFault = OpenFault::File(SqliteError::SqliteFailure(ErrorCode::CannotOpen));
 
+/// A file that another process has open.
+const IS_OPEN: OpenFault = OpenFault::File(SqliteError::SqliteFailure(ErrorCode::DatabaseBusy));
+
 /// A page that isn't as it was written.
 const DAMAGED: OpenFault = OpenFault::File(SqliteError::SqliteFailure(ErrorCode::DatabaseCorrupt));
 
 /// A file that isn't a database, or one that no ledger is in.
-const NO_DATABASE: OpenFault = OpenFault::File(SqliteError::SqliteFailure(ErrorCode::NotADatabase));
+pub(crate) const NO_DATABASE: OpenFault = OpenFault::File(SqliteError::SqliteFailure(ErrorCode::NotADatabase));
 
 /// Why a script or a file wasn't taken, or not to its end.
 #[derive(Clone, Copy, Debug, PartialEq, Eq)]
@@ -30,6 +33,8 @@ pub(crate) enum RunFault {
     NoLedger,
     /// The file isn't opened as a ledger.
     Open(OpenFault),
+    /// The file or its log isn't where it was opened, so what the script committed isn't in the file at the path.
+    Moved,
     /// The script gives settings, and the file's ledger has these.
     OtherSettings(Settings),
     /// Standard input can't be read.
@@ -68,16 +73,10 @@ impl fmt::Display for RunFault {
             RunFault::NoLedger => f.write_str(
                 "the file has no ledger; if its log, whose name ends in -wal, was moved away, put it back",
             ),
-            RunFault::Open(CANNOT_OPEN) => f.write_str(
-                "the file isn't opened: it must be a plain file with one name, in a folder that is there, and you must be allowed to write both; if a file with its name and -journal is there too, a program was ended as it wrote: run sqlite3 FILE 'select count(*) from sqlite_master'",
+            RunFault::Open(fault) => put_opening(f, fault),
+            RunFault::Moved => f.write_str(
+                "the file or its log was moved or deleted meanwhile, so nothing is printed: what the script committed isn't in the file at this path; put both back together, if you have them",
             ),
-            RunFault::Open(DAMAGED) => f.write_str(
-                "the file isn't opened: a page of it is damaged, or another SQLite wrote it without its sum: put a copy back, or copy its rows as docs/DURABLE.md says",
-            ),
-            RunFault::Open(NO_DATABASE) => f.write_str(
-                "the file isn't opened: it isn't an SQLite database as a ledger's is: give a ledger's file",
-            ),
-            RunFault::Open(fault) => write!(f, "the file isn't opened: {fault}"),
             RunFault::OtherSettings(kept) => {
                 let Settings {
                     clock,
@@ -100,6 +99,33 @@ impl fmt::Display for RunFault {
             ),
             RunFault::Stopped { fault, in_doubt } => put_stop(f, fault, *in_doubt),
         }
+    }
+}
+
+/// Says why a file isn't opened as a ledger, and what to do.
+fn put_opening<W: fmt::Write>(f: &mut fmt::Formatter<W>, fault: &OpenFault) -> fmt::Result {
+    f.write_str("the file isn't opened: ")?;
+    match fault {
+        CANNOT_OPEN => f.write_str(
+            "it must be a plain file with one name, in a folder that is there, and you must be allowed to write both; if a file with its name and -journal is there too, a program was ended as it wrote: run sqlite3 FILE 'select count(*) from sqlite_master'",
+        ),
+        IS_OPEN => f.write_str("another process has it open: wait until that has ended"),
+        DAMAGED => f.write_str(
+            "a page of it is damaged: put a copy back; only if you know that another SQLite wrote to it, copy its rows as docs/DURABLE.md says",
+        ),
+        NO_DATABASE => {
+            f.write_str("it isn't an SQLite database as a ledger's is: give a ledger's file")
+        }
+        OpenFault::NotALedger => {
+            f.write_str("it has other tables than a ledger's: give a ledger's file")
+        }
+        OpenFault::OtherVersion(_) => {
+            write!(f, "{fault}, and this program reads version 1: use the one that wrote it")
+        }
+        OpenFault::BadSettings | OpenFault::OutOfPlace(_) | OpenFault::BadEntry(_) => {
+            write!(f, "{fault}, so its rows were changed: put a copy back")
+        }
+        _ => write!(f, "{fault}"),
     }
 }
 
