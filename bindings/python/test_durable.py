@@ -542,6 +542,25 @@ class OtherPrograms(InFolder):
             self.assertEqual(sorted(os.listdir(self.path.parent)), left)
         self.assertEqual(self.ids(), [1, 2])
 
+    def test_a_file_that_is_refused_keeps_its_log(self):
+        row = "client._database.execute(\"insert into entry values (7, 0, 3, x'', x'')\")\n"
+        cases = {"clock": ({"clock": 5}, ""), "next place": ({}, row), "another program": ({}, "client._database.execute('create table other (id)')\n")}
+        for word, (settings, more) in cases.items():
+            with self.subTest(word):
+                files = [pathlib.Path(f"{self.path}{end}") for end in ("", "-wal")]
+                for file in files:
+                    file.unlink(missing_ok=True)
+                self.run_python("client = DurableClient(path)\nmake(1)\n" + more + "os._exit(0)")
+                before = [file.read_bytes() for file in files]
+                for _ in range(2):
+                    with self.assertRaisesRegex(BadFile, word):
+                        DurableClient(self.path, **settings)
+                    self.assertEqual([file.read_bytes() for file in files if file.exists()], before)
+                self.assertEqual(sorted(os.listdir(self.path.parent)), ["ledger.db", "ledger.db-wal"])
+                if settings:
+                    self.assertEqual(self.ids(), [1])
+                    self.assertEqual(os.listdir(self.path.parent), ["ledger.db"])
+
     def test_a_file_with_another_name_is_refused(self):
         self.run_python("client = DurableClient(path)\nmake(1)\nsys.stdout.flush()\nos.kill(os.getpid(), signal.SIGKILL)")
         other = f"{self.path}.other"

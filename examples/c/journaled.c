@@ -29,6 +29,7 @@ static kip_t kip;
 static const char *path;
 static sqlite3 *file;
 static sqlite3_stmt *insert;
+static struct stat opened[2]; /* the file and its log. The first write makes the log: its inode is 0 before. */
 static uint64_t first_numbers[KIP_SUBMITTERS_MAX]; /* of each submitter's packets in this run: as many are in the file */
 static uint64_t following[KIP_SUBMITTERS_MAX];     /* of each submitter the number in a row that would be the next of its run */
 
@@ -40,6 +41,9 @@ static void must(int holds, const char *what) {
     else fprintf(stderr, "journaled: %s: %s\n", path, code == SQLITE_BUSY ? "another process has it open" : sqlite3_errmsg(file));
     exit(2);
 }
+
+/* Ends the run if what was printed can't be read by anybody. */
+static void must_be_printed(void) { must(fflush(stdout) == 0 && !ferror(stdout), "standard output can't be written"); }
 
 static void sql(const char *text) { must(sqlite3_exec(file, text, NULL, NULL, NULL) == SQLITE_OK, text); }
 
@@ -85,6 +89,19 @@ static int is_ledger(void) {
     return sqlite3_finalize(tables) == SQLITE_OK && same;
 }
 
+/* Looks which files are at the names of the file and its log; one that is there must be the one that was there before. SQLite doesn't look,
+ * and what it writes to a file that was moved or deleted isn't there at the next start. */
+static void must_be_there(void) {
+    const char *name = sqlite3_db_filename(file, "main"), *names[] = {name, sqlite3_filename_wal(name)};
+    for (int i = 0; i < 2; i++) {
+        struct stat found = {0}, *was = &opened[i];
+        int is_there = stat(names[i], &found) == 0;
+        must(was->st_ino == 0 || (is_there && found.st_dev == was->st_dev && found.st_ino == was->st_ino),
+             "the file or its log isn't where it was: put both back, and start again");
+        *was = found;
+    }
+}
+
 /* Opens the file for this process only, and makes the table of a new one. `begin exclusive` fails if another process has it. */
 static void open_file(void) {
     const stub_t settings = {0, 1, KIP_BATCH_MAX};
@@ -98,6 +115,7 @@ static void open_file(void) {
     must(sqlite3_prepare_v2(file, "insert into entry values (?, ?, ?, ?, ?)", -1, &insert, NULL) == SQLITE_OK, "insert");
     if (is_new) put(SETTINGS_PLACE, FORMAT_VERSION, 0, &settings, "", 0);
     sql("commit");
+    must_be_there();
 }
 
 static int event_size(uint32_t operation) { return operation == KIP_OPERATION_LOOKUP_ACCOUNTS ? 16 : 128; }
@@ -191,6 +209,7 @@ static void store(void) {
     uint64_t places = 0;
     uint32_t status;
     must(kip_flush(&kip) == KIP_OK && kip_places(&kip, &places) == KIP_OK, "flush");
+    must_be_there();
     sql("begin");
     while ((status = kip_entry(&kip, &entry, data, sizeof data)) == KIP_OK) {
         stub_t stub = {entry.number - first_numbers[entry.submitter], entry.submitter, entry.size / event_size(entry.operation)};
@@ -198,6 +217,7 @@ static void store(void) {
     }
     must(status == KIP_NO_ENTRY, kip_status_name(status));
     sql("commit"); /* what is committed is on the disk, so it may be printed */
+    must_be_there();
     must(kip_durable(&kip, places) == KIP_OK, "durable");
     while ((status = kip_reply(&kip, &reply, data, sizeof data)) == KIP_OK) must_be_made(&reply, data);
     must(status == KIP_NO_REPLY, kip_status_name(status));
@@ -213,11 +233,13 @@ int main(int count, char **words) {
     recover();
     must(kip_places(&kip, &place) == KIP_OK, "kip_places");
     printf("recovered %llu\n", (unsigned long long)place);
+    must_be_printed();
     while (place < calls) {
         uint64_t end = place + GROUP < calls ? place + GROUP : calls;
         for (uint64_t call = place; call < end; call++) go_on(call);
         store();
         for (; place < end; place++) printf("committed %llu\n", (unsigned long long)place);
+        must_be_printed();
     }
 
     kip_account account = {0};
@@ -225,6 +247,8 @@ int main(int count, char **words) {
     must(kip_lookup_account(&kip, 1, 0, &account) == KIP_OK || calls == 0, "account 1");
     must(kip_clock(&kip, &clock) == KIP_OK && kip_close(&kip) == KIP_OK, "kip_close");
     printf("debits %llu, clock %llu\n", (unsigned long long)account.debits_posted.low, (unsigned long long)clock);
+    must_be_printed();
+    must_be_there(); /* (as SQLite closes the file, it copies the log into it, and deletes the log) */
     sqlite3_finalize(insert);
     sqlite3_close(file);
     return 0;

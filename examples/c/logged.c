@@ -4,8 +4,9 @@
  *   logged FILE CALLS
  *
  * Makes the calls of the little bank of journaled.c, and prints the same lines. The file is synced once for four calls. It is a log of this
- * program alone: to keep what is committed, in a table that others read, see journaled.c. */
-#define _DEFAULT_SOURCE /* flock, fdatasync */
+ * program alone: to keep what is committed, in a table that others read, see journaled.c. What isn't whole at the file's end is cut off, and
+ * kept in FILE.cut1, or with the next free number. */
+#define _DEFAULT_SOURCE /* flock, fdatasync, strdup */
 #include <errno.h>
 #include <fcntl.h>
 #include <kip.h>
@@ -17,6 +18,9 @@
 
 enum { PULSE = 0, GROUP = 4, DATA_MAX = 2 * 128 };
 
+/* How the file begins. */
+static const char header[] = "kip's calls, 1\n";
+
 /* A call, and its data. */
 typedef struct {
     uint64_t sum; /* of the rest */
@@ -26,6 +30,7 @@ typedef struct {
 } call_t;
 
 static kip_t kip;
+static const char *path;
 static int file;
 
 static void must(int holds, const char *what) {
@@ -69,35 +74,67 @@ static void read_replies(void) {
     must(status == KIP_NO_REPLY, kip_status_name(status));
 }
 
-/* Makes the file's calls again, up to one that isn't whole. The file was synced up to the last four calls at most, so those that follow were
- * never acknowledged; if there are more, the file is damaged. Returns how many calls were made. */
+/* Ends the run if what was printed can't be read by anybody. */
+static void must_be_printed(void) { must(fflush(stdout) == 0 && !ferror(stdout), "standard output can't be written"); }
+
+/* Has the disk keep the name of a new file next to ours, or of ours. */
+static void sync_folder(void) {
+    char *name = strdup(path);
+    int folder = name ? open(dirname(name), O_RDONLY) : -1;
+    must(folder >= 0 && fsync(folder) == 0 && close(folder) == 0, "the file's folder can't be synced");
+    free(name);
+}
+
+/* Opens the file for this process only, and gives a new one its header: one whose header a crash left in part is new. */
+static void open_file(void) {
+    char found[sizeof header] = {0};
+    file = open(path, O_RDWR | O_CREAT, 0600);
+    if (file < 0 || flock(file, LOCK_EX | LOCK_NB) != 0) {
+        fprintf(stderr, "logged: %s: %s\n", path, errno == EWOULDBLOCK ? "another process has it open" : strerror(errno));
+        exit(2);
+    }
+    ssize_t size = pread(file, found, sizeof found, 0);
+    int is_new = size >= 0 && lseek(file, 0, SEEK_END) == size;
+    for (ssize_t i = 0; i < size; i++) is_new &= found[i] == header[i] || found[i] == 0;
+    must(is_new || memcmp(found, header, sizeof header) == 0, "the file is another program's: give another file");
+    if (is_new) must(pwrite(file, header, sizeof header, 0) == sizeof header, "the file can't be written");
+    sync_folder();
+}
+
+/* Cuts the file at its last whole call, and keeps what follows in another. */
+static void cut_off(off_t end, size_t size) {
+    static char bytes[GROUP * sizeof(call_t)];
+    char name[4096];
+    int kept = -1;
+    for (int number = 1; kept < 0 && (number == 1 || errno == EEXIST); number++) {
+        must(snprintf(name, sizeof name, "%s.cut%d", path, number) < (int)sizeof name, "the file's name is too long");
+        kept = open(name, O_WRONLY | O_CREAT | O_EXCL, 0600);
+    }
+    must(pread(file, bytes, size, end) == (ssize_t)size, "the file can't be read");
+    int is_kept = kept >= 0 && write(kept, bytes, size) == (ssize_t)size && fsync(kept) == 0 && close(kept) == 0;
+    if (kept >= 0 && !is_kept) unlink(name);
+    must(is_kept, "the file's end, which isn't whole, can't be kept in another file");
+    sync_folder();
+    fprintf(stderr, "logged: the last %zu bytes aren't whole calls: they are cut off, and kept in %s\n", size, name);
+    must(ftruncate(file, end) == 0, "the file can't be cut");
+}
+
+/* Makes the file's calls again, up to one that isn't whole. A crash leaves at most the last four so, which weren't acknowledged. Damage to
+ * these looks the same, so what is cut off is kept. If more follow, the file is damaged. Returns how many calls were made. */
 static uint64_t recover(void) {
     call_t call;
     uint64_t calls = 0;
-    off_t end = lseek(file, 0, SEEK_END);
-    must(end >= 0 && lseek(file, 0, SEEK_SET) == 0, "the file can't be read");
-    while (read(file, &call, sizeof call) == sizeof call && call.sum == sum_of(&call)) {
+    off_t size = lseek(file, 0, SEEK_END), end = lseek(file, sizeof header, SEEK_SET);
+    must(size >= end && end > 0, "the file can't be read");
+    for (; read(file, &call, sizeof call) == sizeof call && call.sum == sum_of(&call); end += sizeof call) {
         make(&call, calls);
         if (calls++ % 1000 == 999) read_replies();
     }
     read_replies();
-    must(end - (off_t)(calls * sizeof call) <= (off_t)(GROUP * sizeof call), "the file is damaged, or another program's: put a copy back");
-    must(ftruncate(file, (off_t)(calls * sizeof call)) == 0 && lseek(file, 0, SEEK_END) >= 0, "the file can't be cut");
+    must(size - end <= (off_t)(GROUP * sizeof call), "the file is damaged: put a copy back");
+    if (size > end) cut_off(end, size - end);
+    must(fsync(file) == 0 && lseek(file, end, SEEK_SET) == end, "the file can't be synced");
     return calls;
-}
-
-/* Opens the file for this process only. */
-static void open_file(const char *path) {
-    file = open(path, O_RDWR | O_CREAT, 0600);
-    if (file >= 0 && flock(file, LOCK_EX | LOCK_NB) == 0) return;
-    fprintf(stderr, "logged: %s: %s\n", path, errno == EWOULDBLOCK ? "another process has it open" : strerror(errno));
-    exit(2);
-}
-
-/* Has the disk keep the name of a new file too. */
-static void sync_folder(char *path) {
-    int folder = open(dirname(path), O_RDONLY);
-    must(folder >= 0 && fsync(folder) == 0 && close(folder) == 0, "the file's folder can't be synced");
 }
 
 /* Returns call `number` of the bank. */
@@ -121,11 +158,12 @@ int main(int count, char **words) {
     uint64_t calls = count == 3 ? strtoull(words[2], &rest, 10) : 0, place = 0, clock = 0;
     must(rest && *rest == 0 && words[2][0] >= '0' && words[2][0] <= '9', "usage: logged FILE CALLS");
     setvbuf(stdout, NULL, _IOLBF, 0); /* each line at once, also into a pipe */
-    open_file(words[1]);
-    sync_folder(words[1]);
+    path = words[1];
+    open_file();
     must(kip_open(&kip, 0, KIP_BATCH_MAX, 1) == KIP_OK, "kip_open");
     place = recover();
     printf("recovered %llu\n", (unsigned long long)place);
+    must_be_printed();
     while (place < calls) {
         uint64_t end = place + GROUP < calls ? place + GROUP : calls;
         for (uint64_t number = place; number < end; number++) {
@@ -136,11 +174,13 @@ int main(int count, char **words) {
         must(fdatasync(file) == 0, "the disk failed: what of these calls is in the file is known at the next start");
         read_replies();
         for (; place < end; place++) printf("committed %llu\n", (unsigned long long)place);
+        must_be_printed();
     }
 
     kip_account account = {0};
     must(kip_lookup_account(&kip, 1, 0, &account) == KIP_OK || place == 0, "account 1");
     must(kip_clock(&kip, &clock) == KIP_OK && kip_close(&kip) == KIP_OK, "kip_close");
     printf("debits %llu, clock %llu\n", (unsigned long long)account.debits_posted.low, (unsigned long long)clock);
+    must_be_printed();
     return 0;
 }

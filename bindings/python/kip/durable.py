@@ -10,6 +10,9 @@ The file has one table, `entry`: a row with the settings, and one for each packe
 (docs/DURABLE.md has the columns). `tbpipe replay FILE` and `tbpipe list --journal FILE` open it too, and so do programs over `tb_durable`.
 
 The file and its log, `ledger.db-wal`, are the ledger together: copy or move both, while no client has them open.
+
+The pages of the file have no sums: a bit that flipped in it isn't noticed, and one that flipped in the log ends the log there, without a word.
+Keep copies. Or have `tbpipe list --journal` make the file, whose pages then have sums, and which only `tbpipe` and `tb_durable` continue.
 """
 import collections
 import contextlib
@@ -37,7 +40,7 @@ _clients, _open_files, _opening = weakref.WeakSet(), set(), threading.RLock()
 
 
 class BadFile(ValueError):
-    """The file isn't a ledger's, or its rows aren't a journal. It stays as it was."""
+    """The file isn't a ledger's, or its rows aren't a journal. It and its log stay as they were."""
 
 
 def _event_size(operation):
@@ -94,6 +97,15 @@ def _is_new(path, database):
 def _never_close(database):
     """Keeps a connection for ever, also at the end of the process: as SQLite closes one, it copies the log into the file and deletes it."""
     ctypes.pythonapi.Py_IncRef(ctypes.py_object(database))
+
+
+def _close_beside_log(database):
+    """Closes a connection without copying the log into the file. Before Python 3.12 there is no setting for it: SQLite ends the copy at the
+    interrupt, but deletes a log in which it finds no whole transaction."""
+    if hasattr(database, "setconfig"):
+        database.setconfig(sqlite3.SQLITE_DBCONFIG_NO_CKPT_ON_CLOSE)
+    database.interrupt()
+    database.close()
 
 
 def _leave_to_parent():
@@ -163,7 +175,7 @@ class DurableClient(ClientSync):
     _is_recorded = True
 
     def __init__(self, path, clock=None, limit=None, submitters=None, **more):
-        self._is_open = self._is_writing = self._is_behind = False
+        self._is_open = self._is_writing = self._is_behind = self._keeps_log = False
         self._database = self._seen = self._key = None
         if sqlite3.sqlite_version_info < (3, 37):
             raise RuntimeError(f"SQLite {sqlite3.sqlite_version} has no strict tables: Python needs one with SQLite 3.37 or newer")
@@ -185,6 +197,7 @@ class DurableClient(ClientSync):
                 self._restore_all(path)
                 self._database.execute("pragma journal_mode = wal")
                 self._seen = self._look()
+                self._keeps_log = False
             except BaseException:
                 self._end()
                 raise
@@ -192,6 +205,8 @@ class DurableClient(ClientSync):
     def _open_file(self, settings):
         with _opening:
             _refuse_other_files(self._path)
+            log = _stat(f"{self._path}-wal")
+            self._keeps_log = bool(log and log.st_size)  # (until the client is open: a file that is refused stays as it was)
             self._database = sqlite3.connect(self._path, isolation_level=None, timeout=0, check_same_thread=False)
             _lock(self._path, self._database, settings)
             self._key = _identity(self._path)
@@ -286,7 +301,10 @@ class DurableClient(ClientSync):
         """Closes the client. It can be called again if it fails in the middle."""
         if (database := self._database) is not None:
             if self._is_mine():
-                database.close()
+                if self._keeps_log:
+                    _close_beside_log(database)
+                else:
+                    database.close()
                 _open_files.discard(self._key)
             else:
                 _never_close(database)

@@ -208,8 +208,8 @@ impl Ledger<Recorded> {
             let (at, size) = (events.as_mut_ptr(), events.capacity());
             match unsafe { raw::kip_entry_bytes(&mut *self.handle, &mut head, at, size) } {
                 0 => break,
-                103 => events.try_reserve_exact(head.size as usize).map_err(|_| Refusal::NoMemory)?,
-                107 => return Ok(None),
+                raw::TOO_SMALL => events.try_reserve_exact(head.size as usize).map_err(|_| Refusal::NoMemory)?,
+                raw::NO_ENTRY => return Ok(None),
                 other => return Err(Refusal::of(other)),
             }
         }

@@ -65,6 +65,7 @@ pub enum Refusal {
     Stopped,
     BadLimit,
     BadSubmitters,
+    /// The moment of a pulse is above 2^62 nanoseconds, or the clock at opening above 2^63 - 1.
     MomentTooLarge,
     /// An entry that is to be restored isn't at the next place, or its number isn't its submitter's next.
     NotNext,
@@ -147,7 +148,7 @@ impl fmt::Display for Refusal {
             Refusal::Stopped => "the ledger stopped: its places are used up",
             Refusal::BadLimit => "the limit isn't 1 to 8190",
             Refusal::BadSubmitters => "there is no such submitter: a ledger has 1 to 16, counted from 0",
-            Refusal::MomentTooLarge => "the moment is above 2^62 nanoseconds",
+            Refusal::MomentTooLarge => "the moment of a pulse is above 2^62 nanoseconds, or the clock at opening above 2^63 - 1",
             Refusal::NotNext => "the entry isn't the next one: restore all entries, in the order of places",
             Refusal::InUse => "the ledger is in use: restore into one that was just opened",
             Refusal::NotHandedOut => "the place is above what was handed out: call `next_entry` and store its entry first",
@@ -291,11 +292,11 @@ fn reply_of<'a>(head: &raw::Head, results: &'a [u8]) -> Reply<'a> {
         operation: head.operation as u8,
         user_data: head.user_data,
         outcome: match head.outcome {
-            0 => Outcome::Committed {
+            raw::COMMITTED => Outcome::Committed {
                 place: head.place,
                 results,
             },
-            7 => Outcome::Shutdown,
+            raw::SHUTDOWN => Outcome::Shutdown,
             _ => Outcome::Stopped,
         },
     }
@@ -319,7 +320,7 @@ unsafe impl<J: Send> Send for Ledger<J> {}
 // SAFETY, of each call below: the handle was zeroed before it was opened, has one owner, and is changed only by these
 // calls; each slice passes its own pointer, which is never null, and its own length; the arguments don't overlap.
 impl Ledger {
-    /// Opens a ledger whose clock starts at `clock` nanoseconds, for packets of up to `limit` events (1 to 8190) and
+    /// Opens a ledger whose clock starts at `clock` nanoseconds (at most 2^63 - 1), for packets of up to `limit` events (1 to 8190) and
     /// 1 to 16 submitters.
     pub fn open(clock: u64, limit: u32, submitters: u32) -> Result<Ledger, Refusal> {
         let mut handle = Box::new(raw::Handle::closed());
@@ -443,8 +444,8 @@ impl<J> Ledger<J> {
                     unsafe { buffer.set_len(head.size as usize) };
                     return Some(head);
                 }
-                103 => buffer.reserve(head.size as usize),
-                102 => return None,
+                raw::TOO_SMALL => buffer.reserve(head.size as usize),
+                raw::NO_REPLY => return None,
                 other => unreachable!("status {other}"),
             }
         }
@@ -474,8 +475,8 @@ impl<J> Ledger<J> {
                 continue;
             }
             return match head.outcome {
-                0 => Ok(results),
-                7 => Err(NotCommitted::Shutdown),
+                raw::COMMITTED => Ok(results),
+                raw::SHUTDOWN => Err(NotCommitted::Shutdown),
                 _ => Err(NotCommitted::Stopped),
             };
         }
@@ -488,7 +489,7 @@ impl<J> Ledger<J> {
         let (low, high) = (id as u64, (id >> 64) as u64);
         match unsafe { raw::kip_lookup_account(&mut *self.handle, low, high, &mut bytes) } {
             0 => Some(Account::from_bytes(&bytes)),
-            104 => None,
+            raw::NOT_FOUND => None,
             other => unreachable!("status {other}"),
         }
     }
@@ -499,7 +500,7 @@ impl<J> Ledger<J> {
         let mut bytes = [0; 128];
         match unsafe { raw::kip_account_at(&mut *self.handle, index, &mut bytes) } {
             0 => Some(Account::from_bytes(&bytes)),
-            104 => None,
+            raw::NOT_FOUND => None,
             other => unreachable!("status {other}"),
         }
     }
@@ -509,7 +510,7 @@ impl<J> Ledger<J> {
         let (low, high) = (id as u64, (id >> 64) as u64);
         match unsafe { raw::kip_lookup_transfer(&mut *self.handle, low, high, &mut bytes, &mut pending) } {
             0 => Some((Transfer::from_bytes(&bytes), PendingStatus::of(pending))),
-            104 => None,
+            raw::NOT_FOUND => None,
             other => unreachable!("status {other}"),
         }
     }
@@ -532,7 +533,7 @@ impl<J> Ledger<J> {
         let (mut bytes, mut pending) = ([0; 128], 0);
         match unsafe { raw::kip_transfer_at(&mut *self.handle, index, &mut bytes, &mut pending) } {
             0 => Some((Transfer::from_bytes(&bytes), PendingStatus::of(pending))),
-            104 => None,
+            raw::NOT_FOUND => None,
             other => unreachable!("status {other}"),
         }
     }

@@ -2,6 +2,20 @@
 
 use std::ffi::c_void;
 
+/// All replies are read, or none is there yet.
+pub(crate) const NO_REPLY: u32 = 102;
+/// The buffer is too small for the results, or for an entry's data.
+pub(crate) const TOO_SMALL: u32 = 103;
+/// There is no such account or transfer.
+pub(crate) const NOT_FOUND: u32 = 104;
+/// All that is committed was handed out.
+pub(crate) const NO_ENTRY: u32 = 107;
+
+/// The outcome of a packet that is committed.
+pub(crate) const COMMITTED: u32 = 0;
+/// The outcome of a packet that was queued after the Close. The only other one is that of a ledger that stopped.
+pub(crate) const SHUTDOWN: u32 = 7;
+
 #[repr(C)]
 pub(crate) struct Handle {
     engine: *mut c_void,

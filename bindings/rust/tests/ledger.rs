@@ -135,6 +135,18 @@ fn a_call_returns_its_own_reply() -> Result<(), Error> {
     Ok(())
 }
 
+/// The bounds are those in the refusal's sentence.
+#[test]
+fn moments_and_clocks_have_a_greatest() {
+    assert_eq!(Ledger::open(1 << 63, 1, 1).err(), Some(Refusal::MomentTooLarge));
+    assert_eq!(Ledger::open((1 << 63) - 1, 1, 1).unwrap().clock(), (1 << 63) - 1);
+    let mut ledger = Ledger::open(0, 1, 1).unwrap();
+    assert_eq!(ledger.pulse((1 << 62) + 1), Err(Refusal::MomentTooLarge));
+    assert_eq!(ledger.pulse(1 << 62), Ok(()));
+    let said = Refusal::MomentTooLarge.to_string();
+    assert!(said.contains("of a pulse is above 2^62 nanoseconds") && said.contains("clock at opening above 2^63 - 1"), "{said}");
+}
+
 #[test]
 fn refusals_have_names() {
     assert_eq!(Ledger::open(0, 0, 1).err(), Some(Refusal::BadLimit));

@@ -24,7 +24,7 @@ const NO_ENTRY: u32 = 107;
 /// An entry isn't the next by its place, or by its number among its submitter's.
 const NOT_NEXT: u32 = 108;
 
-/// The engine holds a packet, has an unread reply or is shut, or something is still to be stored.
+/// A packet is held, a reply is unread, a pulse isn't handed out, or the engine is shut.
 const IN_USE: u32 = 109;
 
 /// The host doesn't keep the journal.

@@ -12,7 +12,7 @@ abbrev pub IsNext : ℕ → ℕ → Item → Type 0
 IsNext sender next (item.Packet job) = (job.submitter ≡ sender) × (job.number ≡ next)
 IsNext sender next x = Unit {0}
 
-packets_in-push : (items : List Item) (x : Item) → packets_in (items ++ x ∷ []) ≡ packets_in items + packets_in (x ∷ [])
+pub packets_in-push : (items : List Item) (x : Item) → packets_in (items ++ x ∷ []) ≡ packets_in items + packets_in (x ∷ [])
 packets_in-push [] x = omega arith
 packets_in-push (item.Packet job ∷ items) x = omega (arith, packets_in-push items x)
 packets_in-push (item.Pulse moment ∷ items) x = packets_in-push items x

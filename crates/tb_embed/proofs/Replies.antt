@@ -1,10 +1,11 @@
 -- Reading an engine to the end.
-use Rattle.std.proofs.Common.{◌≡◌, refl, sym, ap, ◌∙◌, subst, arith, ℕ, ◌+◌, List, [], ◌∷◌, ◌++◌, map, length, length-append, append-nil, append_assoc, Option, Some, None}
-use Rattle.tb_embed.proofs.Words.{nil_from_length, Input, ReplyValue, items_in, Item, Ticket, all_due_from, Place, Ahead, next_place, FrontState, LedgerState, inputs, EngineState, Serves, IsReply, AreReplies, HaveAllCome, RepliesCome, ServingIsLawful, packets_in}
+use Rattle.std.proofs.Common.{◌≡◌, refl, sym, ap, ◌∙◌, subst, arith, ℕ, ◌+◌, List, [], ◌∷◌, ◌++◌, map, length, length-append, append-nil, append_assoc, Option, Some, None, IfSome, IfNone}
+use Rattle.tb_embed.specs.clauses.Engine.{Reads}
+use Rattle.tb_embed.proofs.Words.{nil_from_length, option_to_list, Input, ReplyValue, items_in, Item, Ticket, all_due_from, Place, Ahead, next_place, FrontState, LedgerState, inputs, EngineState, Serves, IsReply, AreReplies, HaveAllCome, RepliesCome, ServingIsLawful, packets_in}
 use Rattle.tb_work.specs.declared.item.Item.TheVariants as item
 
 -- a reply is due to each packet
-due_counted : (clock : ℕ) (journal : List Input) (place : Place) (items : List Item)
+pub due_counted : (clock : ℕ) (journal : List Input) (place : Place) (items : List Item)
     → length (all_due_from clock journal place items) ≡ packets_in items
 due_counted clock journal place [] = refl
 due_counted clock journal place (item.Packet job ∷ items) =
@@ -13,6 +14,12 @@ due_counted clock journal place (item.Pulse moment ∷ items) =
     due_counted clock journal (next_place place (item.Pulse moment)) items
 due_counted clock journal place (item.End ∷ items) = due_counted clock journal (next_place place item.End) items
 due_counted clock journal place (item.Close ∷ items) = due_counted clock journal (next_place place item.Close) items
+
+-- what a call of `reply` returned, by its clauses
+pub is_reply : (old new : EngineState) (result : Option ReplyValue) → IfSome result (λ reply. Reads old reply new)
+    → old.unread ≡ option_to_list result ++ new.unread → IfNone result ((old.unread ≡ []) × (new ≡ old)) → IsReply old result new
+is_reply old new None some unread none = none
+is_reply old new (Some reply) some unread none = (some, unread)
 
 record AllCome (start : LedgerState) (queue : List Ticket) (read : List ReplyValue) (engine : EngineState)
     (results : List (Option ReplyValue)) (last : EngineState) : Type 0 where

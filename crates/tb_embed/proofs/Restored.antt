@@ -1,12 +1,12 @@
 -- A packet that is committed by itself while nothing is held.
-use Rattle.std.proofs.Common.{◌≡◌, if◌then◌else◌, nat_lt, None, Some, Option, IfSome, IfNone, refl, sym, ap, ◌∙◌, subst, arith, ℕ, ◌+◌, ◌<◌, ◌≤◌, Bool, true, false, ◌&&◌, ◌||◌, List, [], ◌∷◌, ◌++◌, length, get_or, append-nil, ◌-◌, ◌^◌}
-use Rattle.tb_embed.proofs.Words.{◌==◌, not, nat_tests, slice_set, places_max, Numbered, Ticket, Packet, ReplyValue, FrontState, IsFront, group_as_batch, take_result, take_step, with_group, Pulse, Decision, BareLedgerState, HasSent, halts, EngineState, Continues, Queues, Serves, packet_ticket, ticket_of, places_in}
+use Rattle.std.proofs.Common.{◌≡◌, if◌then◌else◌, nat_lt, None, Some, Option, refl, sym, ap, ◌∙◌, subst, arith, ℕ, ◌+◌, ◌<◌, ◌≤◌, Bool, true, false, ◌&&◌, ◌||◌, List, [], ◌∷◌, ◌++◌, length, get_or, append-nil, length-append, ◌-◌, ◌^◌}
+use Rattle.tb_embed.proofs.Words.{map-append, nil_from_length, Ahead, LedgerState, ServingIsLawful, IsReply, inputs, items_in, packets_in, ◌==◌, not, nat_tests, slice_set, places_max, Numbered, Ticket, Packet, ReplyValue, FrontState, IsFront, group_as_batch, take_result, take_step, with_group, Pulse, Decision, BareLedgerState, HasSent, halts, EngineState, Continues, Queues, Serves, packet_ticket, ticket_of, places_in}
 use Rattle.tb_batch.specs.claim.Grouping.{is_taken}
 use Rattle.tb_core.specs.claim.Front.{step_of_packet}
 use Rattle.tb_work.specs.claim.Job.{numbered_packet}
 use Rattle.tb_work.specs.declared.item.Item.TheVariants as item
 use Rattle.tb_work.specs.declared.refusal.Refusal.{Refusal}
-use Rattle.tb_embed.specs.clauses.Engine.{Reads, has_stopped, pulse_refusal, submit_refusal}
+use Rattle.tb_embed.specs.clauses.Engine.{has_stopped, pulse_refusal, submit_refusal}
 use Rattle.tb_embed.specs.clauses.Restoring.{RestoresPacket, RestoresTicket, RestoresUnseen, fault_of, is_idle, is_next_place, packet_fault}
 use Rattle.tb_embed.specs.declared.restoring.PlacedPacket.{PlacedPacket}
 use Rattle.tb_embed.specs.declared.restoring.RestoreFault.TheVariants.{InUse}
@@ -14,6 +14,8 @@ use Rattle.tb_work.specs.declared.refusal.Refusal.TheVariants.{MomentTooLarge, S
 use Rattle.tb_layout.specs.claim.Bounds.{moment_max}
 use Rattle.tb_embed.proofs.Parcels.{halts_at_none, nothing_held, ticket_taken}
 use Rattle.tb_embed.proofs.EngineRun.{Took, packet_serves}
+use Rattle.tb_embed.proofs.Queued.{packets_in-push}
+use Rattle.tb_embed.proofs.Replies.{due_counted}
 
 -- what an idle engine is
 record IsIdle (engine : EngineState) : Type 0 where
@@ -116,22 +118,51 @@ pub same_engine : (engine : EngineState) (front : FrontState) (ledger : BareLedg
 same_engine engine front ledger unread fronts ledgers unreads = rw (fronts, ledgers, unreads) refl
 
 -- its reply counts as read
-pub unseen : (old middle new : EngineState) (entry : PlacedPacket) (result : Option ReplyValue) → RestoresPacket old entry middle
-    → IfSome result (λ reply. Reads middle reply new) → IfNone result ((middle.unread ≡ []) × (new ≡ middle)) → RestoresUnseen old entry new
-unseen old middle new entry None restores some none = subst (RestoresUnseen old entry) (sym none.1) (record {
-  replies = [];
-  adds = λ start queue read serves. subst (λ read. Serves start (queue ++ packet_ticket entry.submitter entry.number entry.packet ∷ []) read middle)
-      (sym (append-nil read)) (restores.adds start queue read serves);
-  held = restores.held;
-  goes = restores.goes;
-})
-unseen old middle new entry (Some reply) restores some none = record {
-  replies = reply ∷ [];
-  adds = λ start queue read serves. some.adds start (queue ++ packet_ticket entry.submitter entry.number entry.packet ∷ []) read
-      (restores.adds start queue read serves);
-  held = ap (λ (front : FrontState). front.held) some.stays ∙ restores.held;
-  goes = ap (λ (ledger : BareLedgerState). ledger.stopped) some.same ∙ restores.goes;
-}
+module _ (lawful : ServingIsLawful) (old middle new : EngineState) (entry : PlacedPacket) where
+  abbrev Is : Type 0
+  Is = (is_idle old ≡ true) × RestoresPacket old entry middle
+
+  -- it is the only one
+  one_comes : (start : LedgerState) (queue : List Ticket) (read : List ReplyValue) → Is → Serves start queue read old
+      → length middle.unread ≡ 1
+  one_comes start queue read (idle, restores) serves =
+      let is = idle_is old idle in
+      let ticket = packet_ticket entry.submitter entry.number entry.packet in
+      let before = lawful start queue read old serves in
+      let after = lawful start (queue ++ ticket ∷ []) read middle (restores.adds start queue read serves) in
+      let place = Ahead (length (inputs start)) in
+      omega (
+        arith,
+        ap length is.unread,
+        length-append read old.unread,
+        ap length (before.replied is.empty),
+        due_counted start.opening (inputs before.ledger) place (items_in queue),
+        length-append read middle.unread,
+        ap length (after.replied restores.held),
+        due_counted start.opening (inputs after.ledger) place (items_in (queue ++ ticket ∷ [])),
+        ap packets_in (map-append (λ (t : Ticket). t.item) queue (ticket ∷ [])),
+        packets_in-push (items_in queue) ticket.item,
+      )
+
+  pub unseen : (result : Option ReplyValue) → Is → IsReply middle result new → RestoresUnseen old entry new
+  unseen None is reply = record {
+    replies = [];
+    adds = λ start queue read serves. subst (λ engine. Serves start (queue ++ packet_ticket entry.submitter entry.number entry.packet ∷ []) (read ++ []) engine)
+        (sym reply.1) (subst (λ read. Serves start (queue ++ packet_ticket entry.submitter entry.number entry.packet ∷ []) read middle)
+        (sym (append-nil read)) (is.1.adds start queue read serves));
+    held = ap (λ (engine : EngineState). engine.front.held) reply.1 ∙ is.1.held;
+    goes = ap has_stopped reply.1 ∙ is.1.goes;
+    unread = λ start queue read serves. ap (λ (engine : EngineState). engine.unread) reply.1 ∙ reply.0;
+  }
+  unseen (Some one) is reply = record {
+    replies = one ∷ [];
+    adds = λ start queue read serves. reply.0.adds start (queue ++ packet_ticket entry.submitter entry.number entry.packet ∷ []) read
+        (is.1.adds start queue read serves);
+    held = ap (λ (front : FrontState). front.held) reply.0.stays ∙ is.1.held;
+    goes = ap (λ (ledger : BareLedgerState). ledger.stopped) reply.0.same ∙ is.1.goes;
+    unread = λ start queue read serves.
+        nil_from_length new.unread (omega (arith, one_comes start queue read is serves, ap length reply.1));
+  }
 
 -- ---- why an entry isn't restored
 
@@ -149,6 +180,14 @@ no_fault true None false none = cc
 no_fault true (Some refusal) is_next none = cc
 no_fault false refused is_next none = cc
 
+pub is_idle_unless_refused : (engine : EngineState) (entry : PlacedPacket) → packet_fault engine entry ≡ None → is_idle engine ≡ true
+is_idle_unless_refused engine entry none = by (is_idle engine) _ _ none
+  where
+    by : (idle : Bool) (refused : Option Refusal) (is_next : Bool)
+        → (if not idle then Some InUse else fault_of refused is_next) ≡ None → idle ≡ true
+    by true refused is_next none = refl
+    by false refused is_next none = cc
+
 no_refusal : (idle : Bool) (refused : Option Refusal) (is_next : Bool)
     → (if not idle then Some InUse else fault_of refused is_next) ≡ None → refused ≡ None
 no_refusal true None is_next none = refl
@@ -159,15 +198,7 @@ no_refusal false refused is_next none = cc
 pub has_place : (engine : EngineState) (place : ℕ) → is_next_place engine place ≡ true → engine.ledger.places < places_max
 has_place engine place is = grind (arith, nat_tests, is)
 
--- without a fault there is one, and nothing has stopped
-pub can_go_on : (engine : EngineState) (entry : PlacedPacket) → packet_fault engine entry ≡ None
-    → (engine.ledger.places < places_max) × (has_stopped engine ≡ false)
-can_go_on engine entry none =
-    let is_next = no_fault (is_idle engine) (submit_refusal engine entry.submitter entry.packet) _ none in
-    let refused = no_refusal (is_idle engine) (submit_refusal engine entry.submitter entry.packet) _ none in
-    (has_place engine entry.place (grind (arith, is_next)), grind (arith, refused))
-
--- and the packet has its submitter's next number
+-- without a fault the packet has its submitter's next number
 pub has_next_number : (engine : EngineState) (entry : PlacedPacket) → packet_fault engine entry ≡ None
     → get_or engine.numbers entry.submitter 0 ≡ entry.number
 has_next_number engine entry none =

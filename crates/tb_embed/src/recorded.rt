@@ -1,16 +1,17 @@
 //! An engine whose host may keep its journal.
 
-ghost use Rattle.std.specs.Prelude.{◌≡◌, ◌<◌, ◌∷◌, ◌++◌, [], length, None, Some, IfOk, IfErr, IfNone, IfSome, OnOk, OnErr, drop, get_or, slice_get, true, false};
+ghost use Rattle.std.specs.Prelude.{◌≡◌, ◌<◌, [], length, None, Some, IfOk, IfErr, IfNone, IfSome, OnOk, OnErr, drop, get_or, slice_get, true, false};
 ghost use Rattle.std.specs.Option.{option_copied};
 ghost use Rattle.tb_work.specs.claim.Packet.{ReplyValue};
 ghost use Rattle.tb_work.specs.declared.item.Item.TheVariants as item;
 ghost use Rattle.tb_work.specs.declared.refusal.Refusal.TheVariants.{NoMemory as NoMemoryRefusal};
-ghost use Rattle.tb_embed.specs.clauses.Engine.{Continues, IsRefusal, Queues, has_stopped, pulse_refusal, shut_refusal, submit_refusal};
+ghost use Rattle.tb_embed.specs.clauses.Engine.{Continues, IsRefusal, Queues, pulse_refusal, shut_refusal, submit_refusal};
 ghost use Rattle.tb_embed.specs.clauses.Queued.{packet_ticket, ticket_of};
-ghost use Rattle.tb_embed.specs.clauses.Recorded.{ChangesEngine, HandsPacket, PulsesRecorded, ReadsRecorded, first_stored, handed_places, if_committed, if_uncommitted, is_below, is_committed, is_stored, next_packet, place_in, next_pulse, pulse_ahead, readable, recorded, recorded_packet_fault, recorded_pulse_fault, is_waiting, with_durable};
+ghost use Rattle.tb_embed.specs.clauses.Recorded.{ChangesEngine, HandsPacket, PulsesRecorded, ReadsRecorded, handed_places, is_below, is_committed, is_stored, next_packet, place_in, next_pulse, readable, recorded, recorded_packet_fault, recorded_pulse_fault, has_open_entries, with_durable};
 ghost use Rattle.tb_embed.specs.clauses.Restoring.{IsFault, RestoresPulse, RestoresUnseen};
 
 use crate::engine::Engine;
+use crate::laws::serving_is_lawful;
 use crate::restoring::{PlacedPacket, PlacedPulse, RestoreFault};
 use std::alloc::Global;
 use std::collections::VecDeque;
@@ -344,9 +345,10 @@ impl RecordedEngine {
         }
     }
 
-    /// Returns whether something that is committed is still to be stored.
-    fn is_waiting(&self) -> bool
-        ensures { result ≡ is_waiting self.now }
+    /// Returns whether a pulse isn't handed out yet, or the reply to a packet that was handed out isn't read. What else is committed has an
+    /// unread reply in the engine.
+    fn has_open_entries(&self) -> bool
+        ensures { result ≡ has_open_entries self.now }
     {
         !self.pulses.is_empty() || !self.handed.is_empty()
     }
@@ -355,7 +357,8 @@ impl RecordedEngine {
     ///
     /// # Errors
     ///
-    /// Those of `Engine::restore_packet`, with the packet. It is `InUse` too if something is still to be stored. Nothing has changed then.
+    /// Those of `Engine::restore_packet`, with the packet. It is `InUse` too if a pulse isn't handed out, or a reply isn't read.
+    /// Nothing has changed then.
     pub fn restore_packet(
         &mut self,
         alloc: Global,
@@ -367,10 +370,12 @@ impl RecordedEngine {
         ensures back { IfErr result (λ refused. (refused.0 ≡ entry) × (self.new ≡ self.old)) }
         ensures fault { IfErr result (λ refused. IsFault (recorded_packet_fault self.old entry) refused.1) }
     {
-        if self.is_waiting() {
+        if self.has_open_entries() {
             return Err((entry, RestoreFault::InUse));
         }
         self.engine.restore_packet(alloc, entry)?;
+        // The law that its reply is the only one.
+        serving_is_lawful();
         drop(self.engine.reply());
         Ok(())
     }
@@ -379,7 +384,8 @@ impl RecordedEngine {
     ///
     /// # Errors
     ///
-    /// Those of `Engine::restore_pulse`. It is `InUse` too if something is still to be stored. Nothing has changed then.
+    /// Those of `Engine::restore_pulse`. It is `InUse` too if a pulse isn't handed out, or a reply isn't read.
+    /// Nothing has changed then.
     pub fn restore_pulse(&mut self, entry: PlacedPulse) -> Result<(), RestoreFault>
         ensures ok { OnOk result (RestoresPulse self.old.engine entry self.new.engine) }
         ensures engine { ChangesEngine self.old self.new }
@@ -387,7 +393,7 @@ impl RecordedEngine {
         ensures same { OnErr result (self.new ≡ self.old) }
         ensures fault { IfErr result (λ fault. IsFault (recorded_pulse_fault self.old entry) fault) }
     {
-        if self.is_waiting() {
+        if self.has_open_entries() {
             return Err(RestoreFault::InUse);
         }
         self.engine.restore_pulse(entry)

@@ -69,7 +69,7 @@ no_entry = 107
 abbrev pub not_next : ℕ
 not_next = 108
 
--- the engine holds a packet, has an unread reply or is shut, or something is still to be stored
+-- a packet is held, a reply is unread, a pulse isn't handed out, or the engine is shut
 abbrev pub in_use : ℕ
 in_use = 109
 

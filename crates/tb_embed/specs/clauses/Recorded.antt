@@ -139,14 +139,15 @@ pub record ReadsRecorded (old : RecordedState) (reply : ReplyValue) (new : Recor
 
 -- ---- what is restored
 
--- something that was committed is still to be stored
-abbrev pub is_waiting : RecordedState → Bool
-is_waiting host = not (length host.pulses == 0) || not (length host.handed == 0)
+-- A pulse isn't handed out yet, or the reply to a packet that was handed out isn't read. What else is committed has an unread reply in
+-- the engine.
+abbrev pub has_open_entries : RecordedState → Bool
+has_open_entries host = not (length host.pulses == 0) || not (length host.handed == 0)
 
 -- why a packet isn't restored, if memory is there
 abbrev pub recorded_packet_fault : RecordedState → PlacedPacket → Option RestoreFault
-recorded_packet_fault host entry = if is_waiting host then Some InUse else packet_fault host.engine entry
+recorded_packet_fault host entry = if has_open_entries host then Some InUse else packet_fault host.engine entry
 
 -- why a pulse isn't
 abbrev pub recorded_pulse_fault : RecordedState → PlacedPulse → Option RestoreFault
-recorded_pulse_fault host entry = if is_waiting host then Some InUse else pulse_fault host.engine entry
+recorded_pulse_fault host entry = if has_open_entries host then Some InUse else pulse_fault host.engine entry

@@ -57,10 +57,11 @@ RestoresPacket old entry new = RestoresTicket old (packet_ticket entry.submitter
 abbrev pub RestoresPulse : EngineState → PlacedPulse → EngineState → Type 0
 RestoresPulse old entry new = RestoresTicket old (ticket_of old.front.submitters (item.Pulse entry.moment)) new
 
--- the same of a packet, whose reply counts as read
+-- The same of a packet, whose reply counts as read: none is unread. So `restore_packet` leaves nothing to be handed out.
 pub record RestoresUnseen (old : EngineState) (entry : PlacedPacket) (new : EngineState) : Type 0 where
   pub replies : List ReplyValue
   pub adds : (start : LedgerState) (queue : List Ticket) (read : List ReplyValue) → Serves start queue read old
       → Serves start (queue ++ packet_ticket entry.submitter entry.number entry.packet ∷ []) (read ++ replies) new
   pub held : new.front.held ≡ []
   pub goes : has_stopped new ≡ false
+  pub unread : (start : LedgerState) (queue : List Ticket) (read : List ReplyValue) → Serves start queue read old → new.unread ≡ []

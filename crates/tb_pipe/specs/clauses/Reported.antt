@@ -69,7 +69,8 @@ module _ {D C : Type 0} (has_seen has_ended : D → ℕ → List Numbered → Li
     (ended_with : C → List Item → Type 0) where
   -- What was opened was run from one ledger to another, and `finished` came back. The run's queue is what the batcher took. What
   -- it says was queued is in the senders' own ends, what was queued before the run first. `items` are those of the control's
-  -- driver. Each driver has seen what its submitter queued and read, and was asked until it ended.
+  -- driver, and what the control had learned of before the run is ahead of its Close. Each driver has seen what its submitter
+  -- queued and read, and was asked until it ended.
   pub record HasReported {L : Type 0} (opened : Opened L) (finished : Finished D C L) (start ledger : LedgerState) : Type 0 where
     pub run : Run
     pub items : List Item
@@ -87,6 +88,7 @@ module _ {D C : Type 0} (has_seen has_ended : D → ℕ → List Numbered → Li
         ≡ (slice_index_or finished.unsettled.value.items k d).origin.ring
     pub number : length finished.report.ends.items ≡ run.submitters
     pub controlled : run.queued run.submitters ≡ opened.control.queued ++ items
+    pub ahead : AllByRecursion (AreAheadOfClose run.queue) opened.control.learned
     pub control_ended : ended_with finished.control items
     pub driven : length finished.drivers.items ≡ run.submitters
     pub seen : HoldsOfEach has_seen opened.pipeline.intake.limit run finished.drivers.items finished.report.ends.items

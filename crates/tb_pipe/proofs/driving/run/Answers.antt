@@ -64,6 +64,7 @@ returns g c =
               rings = rw (← copied) settled.rings;
               number = settled.long;
               controlled = last_queued ∙ queued;
+              ahead = rw after at settled.ahead;
               control_ended = control.2;
               driven = said_joined.number ∙ long;
               seen = rw (← limit) (once_settled settled long g.D.Driver.has_seen drivers said_joined.seen);
