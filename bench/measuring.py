@@ -30,8 +30,7 @@ def run(command, source=os.devnull):
 
 
 # What installs the peers' compiler and crates, and valgrind.
-INSTALL = ("apt-get install --no-install-recommends cargo valgrind librust-indexmap-dev librust-memchr-dev librust-itoa-dev "
-           "librust-crossbeam-queue-dev librust-crossbeam-utils-dev")
+INSTALL = "tools/gate/needs --install cargo valgrind peer"
 
 
 def done(command, installed_by=INSTALL, **options):

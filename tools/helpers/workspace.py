@@ -22,7 +22,7 @@ TOP = pathlib.Path(__file__).resolve().parents[2]
 CRATES = TOP / "crates"
 SOURCES = ("src", "specs", "proofs")
 # The memory that one proof takes at most, in bytes.
-PROOF_MAX = 3 << 30
+PROOF_MAX = 4 << 30
 
 
 def named_crates(usage, how_many):

@@ -16,13 +16,12 @@ mod request;
 use crate::durable::load::{commit_all, line_of_state};
 use crate::durable::request::{Command, Request, request_of};
 use sqlite::MemStore;
-use sqlite_trees::schema::Object;
-use sqlite_trees::store::{Shape, Store};
+use sqlite_trees::store::Store;
 use std::env::Args;
 use std::process::ExitCode;
 use std::time::Instant;
 use tb_core::Seed;
-use tb_durable::{DurableLedger, OpenFault, Settings, open_file};
+use tb_durable::{DurableLedger, OpenFault, Settings, entry_table, open_file};
 
 const SETTINGS: Settings = Settings {
     clock: 1,
@@ -80,15 +79,7 @@ fn run_over<S: Store + Drop>(
 }
 
 fn run_in_memory(rt: &HostRuntime, request: &Request, start: Instant) -> Result<bool, OpenFault> {
-    let table = Object {
-        shape: Shape::Table,
-        kind: "table",
-        name: "entry",
-        table: "entry",
-        reals: 0,
-        sql: None,
-    };
-    match MemStore::new(rt.alloc(), &[table]) {
+    match MemStore::new(rt.alloc(), &[entry_table()]) {
         Ok(store) => run_over(rt, store, request, start),
         Err(_) => Err(OpenFault::NoMemory),
     }

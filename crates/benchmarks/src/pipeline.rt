@@ -224,7 +224,7 @@ pub(crate) fn measure<R: Threads + Wait + Clock + Sync>(
         }
     };
     let Some(line) = line else {
-        let _ = println!(rt; "refused, or memory or a thread was wanting");
+        let _ = println!(rt; "refused, or memory ran out or a thread could not be started");
         return Some(ExitCode::from(2));
     };
     let _ = println!(rt; "{line}");

@@ -23,7 +23,7 @@ use std::time::Clock;
 use tb_core::Ledger;
 use tb_drive::ControlPlan;
 use tb_layout::Account;
-use tb_pipe::{Finished, Report, drive_all, open, submit_ahead};
+use tb_pipe::{Finished, Options, Report, drive_all, submit_ahead};
 use tb_work::Packet;
 
 /// What a day leaves: the ledger, and how many events failed with each code.
@@ -80,7 +80,14 @@ fn run_day<R: Threads + Wait + Clock + Sync>(
         return None;
     }
     let tellers = tellers(alloc, day)?;
-    let Ok(mut opened) = open(alloc, 0, 100, 64, 32, 2) else {
+    let options = Options {
+        limit: 100,
+        capacity: 64,
+        credit: 32,
+        submitters: 2,
+        ..Options::default()
+    };
+    let Ok(mut opened) = options.open(alloc) else {
         return None;
     };
     opened.pipeline = opened.pipeline.with_ledger(ledger);
@@ -108,7 +115,7 @@ fn run_day<R: Threads + Wait + Clock + Sync>(
 /// Prints the accounts of a ledger.
 fn print_accounts<R: Print>(rt: &R, ledger: &Ledger) {
     let machine = ledger.machine();
-    for account in (0..machine.accounts()).filter_map(|place| machine.account_at(place)) {
+    for account in (0..machine.accounts()).filter_map(|index| machine.account_at(index)) {
         let (id, debits, credits) = (account.id, account.debits_posted, account.credits_posted);
         let _ = println!(rt; "  account {id}: debits {debits}, credits {credits}");
     }

@@ -12,7 +12,7 @@ use std::time::Clock;
 use tb_blocking::{Client, ControlClient};
 use tb_drive::Stop;
 use tb_layout::{Account, Transfer};
-use tb_pipe::{Open, Report, open, settle};
+use tb_pipe::{Open, Options, Report, settle};
 use tb_submit::Submitter;
 use tb_work::{Packet, Reply};
 
@@ -59,7 +59,14 @@ fn both(submitters: Vec<Submitter>) -> Option<(Submitter, Submitter)>
 /// Opens a pipeline, starts the tellers and the control, serves until all have ended, joins them and settles. If a
 /// thread can't be started the run is given up, so that the others end too.
 fn run<R: Threads + Wait + Clock + Sync>(rt: &R, alloc: Global) -> Option<Report> {
-    let Ok(opened) = open(alloc, 0, 100, 64, 8, 2) else {
+    let options = Options {
+        limit: 100,
+        capacity: 64,
+        credit: 8,
+        submitters: 2,
+        ..Options::default()
+    };
+    let Ok(opened) = options.open(alloc) else {
         return None;
     };
     let stop = &Stop::of(alloc, &opened.submitters).ok()?;

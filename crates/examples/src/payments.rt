@@ -30,7 +30,7 @@ use std::sync::Wait;
 use std::thread::Threads;
 use std::time::Clock;
 use tb_drive::{ControlPlan, PlanDriver};
-use tb_pipe::{Finished, Opened, drive_all, open, submit_ahead};
+use tb_pipe::{Finished, Opened, Options, drive_all, submit_ahead};
 use tb_work::Packet;
 
 /// How many desks there are.
@@ -132,7 +132,14 @@ fn new_desks<R: Wait>(rt: &R, alloc: Global, opened: &mut Opened) -> Option<Vec<
 fn open_for_desks(alloc: Global) -> Option<Opened>
     ensures { IfSome result IsReady }
 {
-    let Ok(opened) = open(alloc, 0, 100, 64, 4, DESKS) else {
+    let options = Options {
+        limit: 100,
+        capacity: 64,
+        credit: 4,
+        submitters: DESKS,
+        ..Options::default()
+    };
+    let Ok(opened) = options.open(alloc) else {
         return None;
     };
     Some(opened)

@@ -37,8 +37,8 @@ use tb_core::{AnyLedger, Seed};
 use tb_drive::ControlPlan;
 use tb_durable::{DurableLedger, LedgerFile, OpenFault, Settings, copy_log, open_file};
 use tb_figures::{CountedDriver, CountedLedger, Figures};
-use tb_layout::BATCH_MAX;
-use tb_pipe::{Finished, Report, drive_over, open};
+use tb_layout::{BATCH_MAX, SUBMITTERS_LENGTH};
+use tb_pipe::{Finished, Options, Report, drive_over};
 
 /// How many tills there are.
 const TILLS: u32 = 4;
@@ -131,7 +131,7 @@ fn counted_till(
 fn tills(
     rt: &HostRuntime,
     figures: &Figures,
-    stored: [u64; 16],
+    stored: [u64; SUBMITTERS_LENGTH],
     payments: u64,
 ) -> Option<Vec<CountedTill>>
     ensures { IfSome result (λ tills. length tills.items ≡ 4) }
@@ -149,7 +149,7 @@ fn tills(
 fn figures_and_tills(
     rt: &HostRuntime,
     figures: &Figures,
-    stored: [u64; 16],
+    stored: [u64; SUBMITTERS_LENGTH],
     payments: u64,
 ) -> Option<(Figures, Vec<CountedTill>)>
     ensures { IfSome result (λ both. length both.1.items ≡ 4) }
@@ -174,7 +174,13 @@ fn run_counted<R: Threads + Wait + Clock + Sync, L: AnyLedger + Send>(
 ) -> Option<(L, bool)>
     requires { length tills.items ≡ 4 }
 {
-    let Ok(opened) = open(alloc, 0, BATCH_MAX, 64, CREDIT, TILLS) else {
+    let options = Options {
+        capacity: 64,
+        credit: CREDIT,
+        submitters: TILLS,
+        ..Options::default()
+    };
+    let Ok(opened) = options.open(alloc) else {
         return None;
     };
     let Ok(opened) = opened.over(ledger) else {

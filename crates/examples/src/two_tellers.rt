@@ -106,7 +106,7 @@ fn run<R: Threads + Wait + Clock + Sync>(
 pub(crate) fn show<R: Threads + Wait + Clock + Sync + Print>(rt: &R, alloc: Global) -> Option<()> {
     let finished = run(rt, alloc)?;
     let machine = finished.report.ledger.machine();
-    for account in (0..machine.accounts()).filter_map(|place| machine.account_at(place)) {
+    for account in (0..machine.accounts()).filter_map(|index| machine.account_at(index)) {
         let (id, debits, credits) = (account.id, account.debits_posted, account.credits_posted);
         let _ = println!(rt; "account {id}: debits {debits}, credits {credits}");
     }

@@ -66,7 +66,9 @@ impl<'s> Client<'s> {
     /// Queues a packet as `Submitter::submit` does, with its cost and its refusals. While the queue is full it waits
     /// and tries again.
     ///
-    /// Errors: the packet with its refusal. `Full` means that the run is given up, or that this submitter has queued
+    /// # Errors
+    ///
+    /// The packet with its refusal. `Full` means that the run is given up, or that this submitter has queued
     /// 2^56 packets, and `queued` says which.
     pub fn submit<R: Wait + Clock>(
         &mut self,
@@ -130,7 +132,9 @@ impl<'s> Client<'s> {
     /// Queues a packet as `submit` does, and then waits for the next reply as `receive` does. The reply is the packet's own
     /// if no other packet was in flight. Returns `None` if the run is given up after the packet is queued.
     ///
-    /// Errors: those of `submit`.
+    /// # Errors
+    ///
+    /// Those of `submit`.
     pub fn exchange<R: Wait + Clock>(
         &mut self,
         rt: &R,
@@ -258,7 +262,9 @@ impl<'s> ControlClient<'s> {
     /// Queues a pulse with this moment in nanoseconds, at most 2^62. While the queue is full it waits and tries again.
     /// Takes no memory.
     ///
-    /// Errors: `MomentTooLarge`, or `Full` if the run is given up or the control has queued 2^56 pulses, and `queued` says
+    /// # Errors
+    ///
+    /// `MomentTooLarge`, or `Full` if the run is given up or the control has queued 2^56 pulses, and `queued` says
     /// which. Nothing is changed.
     pub fn pulse<R: Wait + Clock>(&mut self, rt: &R, moment: u64) -> Result<(), Refusal>
         ensures own { self.new.seat ≡ self.old.seat }

@@ -1,6 +1,6 @@
 -- A lawful report has all that the headline says.
 use Rattle.std.proofs.Common.{refl, sym, ap, subst, ◌∙◌, arith, ◌≡◌, ◌<◌, ℕ, zero, suc, ◌+◌, Bool, true, false, true≢false, List, [], ◌∷◌, ◌++◌, map, take, length, length-append, append_assoc, append-nil, Option, Some, None}
-use Rattle.tb_core.proofs.Words.{◌==◌, ◌≢◌, filter, slice_get, if◌then◌else◌, AllByRecursion, eq-eqb, filter-append, Input, Packet, Pulse, replay, Numbered, events_in, ReplyValue, input_of, ahead, items_in, IsQueueOf, Outcome, Item, outcome_at, outcome_with, all_due_from, due, replies_to, Place, Ahead, Behind, next_place, IsTrueOf, packets_queued, Run, committed_in, ahead_in, IsPrefix, inputs}
+use Rattle.tb_core.proofs.Words.{◌==◌, ◌≢◌, filter, slice_get, AllByRecursion, eq-eqb, filter-append, Input, Packet, Pulse, replay, Numbered, events_in, ReplyValue, input_of, ahead, items_in, IsQueueOf, Outcome, Item, outcome_at, outcome_with, all_due_from, due, replies_to, Place, Ahead, Behind, next_place, IsTrueOf, packets_queued, Run, committed_in, ahead_in, IsPrefix, inputs}
 use Rattle.tb_machine.specs.claim.AnswerAt.{answer_to}
 use Rattle.tb_work.specs.declared.item.Item.TheVariants as item
 use Rattle.tb_core.specs.claim.Report.{ReportsHeadline}

@@ -42,6 +42,7 @@ impl AnyLedger for Ledger {
     ghost is = { λ ledger state. state ≡ ledger };
 
     fn stopped(&self) -> bool {
+        // The law that a run may begin with it.
         let _ = self.begin();
         Ledger::stopped(self)
     }

@@ -1,6 +1,6 @@
 //! The ledger without its journal.
 
-ghost use Rattle.std.specs.Prelude.{◌≡◌, ◌<◌, ◌≤◌, ◌+◌, ◌++◌, ◌∷◌, [], ℕ, List, Bool, Option, false, true, length, map, OnOk, OnErr, IfOk, IfErr, None, Some};
+ghost use Rattle.std.specs.Prelude.{◌≡◌, ◌<◌, ◌≤◌, ◌+◌, ◌++◌, ◌∷◌, [], ℕ, List, Option, false, true, length, map, OnOk, OnErr, IfOk, IfErr, None, Some};
 ghost use Rattle.tb_layout.specs.claim.Events.{events_of, Input};
 ghost use Rattle.tb_layout.specs.claim.Limits.{clock_max};
 ghost use Rattle.tb_layout.specs.claim.Bounds.{places_max};

@@ -5,7 +5,7 @@
 //! of `tb_pipe` runs a pipeline with them, and a thread for each sender:
 //!
 //! ```
-//! let Ok(opened) = open(alloc, clock, limit, capacity, credit, 2) else { .. };
+//! let Ok(opened) = Options { submitters: 2, ..Options::default() }.open(alloc) else { .. };
 //! let drivers = vec![in alloc; Teller::new(1), Teller::new(2)]?;
 //! let finished = drive_all(&rt, alloc, opened, drivers, ControlPlan::none(alloc).driver())?;
 //! ```

@@ -40,6 +40,10 @@ impl Model for Stop {
 impl Stop {
     /// Returns a `Stop` for a run with these submitters, which isn't given up. Allocates a few words for each submitter
     /// at once, and nothing later.
+    ///
+    /// # Errors
+    ///
+    /// `NoMemory`, if memory runs out.
     pub fn of(alloc: Global, submitters: &[Submitter]) -> Result<Stop, NoMemory>
         ensures { IfOk result (λ stop. stop ≡ length submitters.now) }
     {

@@ -109,7 +109,7 @@ pub fn submit_once<R: Wait>(
     submitter.submit(rt, alloc, packet)
 }
 
-/// Hands the next reply to the driver. Answers whether there was one; with no packet in flight there is none.
+/// Hands the next reply to the driver. Returns whether there was one; with no packet in flight there is none.
 fn read<D: Driver>(submitter: &mut Submitter, driver: &mut D) -> bool
     ensures own { origin_of submitter.new ≡ origin_of submitter.old }
     ensures front { submitter.new.queued ≡ submitter.old.queued }

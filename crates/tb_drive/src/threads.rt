@@ -148,7 +148,9 @@ impl<D: Driver> SubmitterThreads<D> {
 
     /// Joins the threads in their order, and returns the submitters' ends and drivers.
     ///
-    /// Errors: `NoThread`, if the run was given up before a submitter ended.
+    /// # Errors
+    ///
+    /// `NoThread`, if the run was given up before a submitter ended.
     fn join<R: Threads>(self, rt: &R) -> Result<(Vec<Ended>, Vec<D>), DriveFault>
         requires { (self.ends.items ≡ []) × (self.drivers.items ≡ []) }
         ensures { IfOk result (λ left. HaveJoined D.share D.has_seen D.has_ended (map started_from self.handles.items)
@@ -214,7 +216,9 @@ impl<C: ControlDriver> ControlTask<C> {
 impl<D: Driver + Send, C: ControlDriver + Send> Tasks<D, C> {
     /// Gives each submitter the driver of its index, and the control its driver. Allocates for the submitters.
     ///
-    /// Errors: `NoMemory`, if memory ran out.
+    /// # Errors
+    ///
+    /// `NoMemory`, if memory ran out.
     pub fn of(
         alloc: Global,
         submitters: Vec<Submitter>,
@@ -244,7 +248,9 @@ impl<D: Driver + Send, C: ControlDriver + Send> Tasks<D, C> {
 
     /// Starts a thread for each sender, once there is memory for all handles and results.
     ///
-    /// Errors: `NoMemory`, or `NoThread` if a thread can't be started. Threads that run already continue until `stop` is
+    /// # Errors
+    ///
+    /// `NoMemory`, or `NoThread` if a thread can't be started. Threads that run already continue until `stop` is
     /// asked.
     pub fn start<'s, E, R: Wait + Clock + Sync>(
         self,
@@ -274,7 +280,9 @@ impl<D: Driver + Send, C: ControlDriver + Send> Tasks<D, C> {
 
 /// Joins a submitter's thread, and appends the end and the driver that it returned.
 ///
-/// Errors: `NoThread`, if the run was given up before the submitter ended.
+/// # Errors
+///
+/// `NoThread`, if the run was given up before the submitter ended.
 fn join_one<D: Driver, R: Threads>(
     rt: &R,
     handle: SubmitterThread<D>,
@@ -298,7 +306,9 @@ fn join_one<D: Driver, R: Threads>(
 impl<D: Driver, C: ControlDriver> Running<D, C> {
     /// Joins all threads, the submitters' in their order.
     ///
-    /// Errors: `NoThread`, if the run was given up before a sender ended.
+    /// # Errors
+    ///
+    /// `NoThread`, if the run was given up before a sender ended.
     pub fn join<R: Threads>(self, rt: &R) -> Result<Joined<D, C>, DriveFault>
         ensures submitters { IfOk result (λ joined. AreResultsOf self.submitters joined.ends.items
             (map D.share joined.drivers.items)) }

@@ -24,6 +24,14 @@ module _ (before after : LedgerState) (group : List Input) (outcomes refusal ans
   stops false true e is stop = ap (λ (a : Applied). a.outcomes) is
   stops false false e is stop = absurd (let same = ap (λ (a : Applied). a.ledger.stopped) is in cc)
 
+  -- and has the groups that it had
+  stands : (was rest : Bool) → before.stopped ≡ was → apply_result after outcomes
+      ≡ (if was || rest then apply_result (with_stop before) refusal else apply_result (with_entry before group) answers)
+      → after.stopped ≡ true → (after.groups ≡ before.groups) × (after.opening ≡ before.opening)
+  stands true rest e is stop = (ap (λ (a : Applied). a.ledger.groups) is, ap (λ (a : Applied). a.ledger.opening) is)
+  stands false true e is stop = (ap (λ (a : Applied). a.ledger.groups) is, ap (λ (a : Applied). a.ledger.opening) is)
+  stands false false e is stop = absurd (let same = ap (λ (a : Applied). a.ledger.stopped) is in cc)
+
 -- a ledger that applied a parcel and didn't stop has its groups
 pub grew : (handed : Parcel) (old new : LedgerState) (outcomes : Outcomes) (refused : Bool)
     → apply_result new outcomes ≡ apply_step refused old handed → new.stopped ≡ false
@@ -55,6 +63,25 @@ refuses (parcel.Pulse moment) old new outcomes refused is stop =
     old.stopped (refused || nat_lt places_max (length (inputs old) + 1)) refl is stop
 refuses (parcel.Return job cause) old new outcomes refused is stop = ap (λ (a : Applied). a.outcomes) is
 refuses parcel.Last old new outcomes refused is stop = ap (λ (a : Applied). a.outcomes) is
+
+-- and has the groups that it had
+pub stood : (handed : Parcel) (old new : LedgerState) (outcomes : Outcomes) (refused : Bool)
+    → apply_result new outcomes ≡ apply_step refused old handed → new.stopped ≡ true
+    → (new.groups ≡ old.groups) × (new.opening ≡ old.opening)
+stood (parcel.Batch jobs) old new outcomes refused is stop =
+    stands old new (map input_of jobs) outcomes (Cut (map (reply_with outcome.Stopped) jobs)) (step_of_batch old jobs).outcomes
+    old.stopped (refused || nat_lt places_max (length (inputs old) + length jobs)) refl is stop
+stood (parcel.Pulse moment) old new outcomes refused is stop =
+    stands old new (Pulse moment ∷ []) outcomes Nothing Nothing
+    old.stopped (refused || nat_lt places_max (length (inputs old) + 1)) refl is stop
+stood (parcel.Return job cause) old new outcomes refused is stop = (
+  ap (λ (a : Applied). a.ledger.groups) is,
+  ap (λ (a : Applied). a.ledger.opening) is,
+)
+stood parcel.Last old new outcomes refused is stop = (
+  ap (λ (a : Applied). a.ledger.groups) is,
+  ap (λ (a : Applied). a.ledger.opening) is,
+)
 
 -- the same of a bare ledger, whatever was committed before
 module _ {old new : BareLedgerState} {outcomes : Outcomes} (handed : Parcel) (applied : Applies handed old outcomes new) where

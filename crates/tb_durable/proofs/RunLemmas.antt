@@ -5,11 +5,11 @@ use Rattle.tb_core.specs.claim.EndedRun.{Run}
 use Rattle.tb_core.specs.claim.TwoRuns.{FollowsOn}
 use Rattle.tb_durable.specs.clauses.Runs.{RunsFollow, ShowsJournal}
 
-abbrev opening_of : List Row → ℕ
+abbrev pub opening_of : List Row → ℕ
 opening_of [] = 0
 opening_of (first ∷ entries) = clock_in first
 
-shown_opening : {view : View} {bare : BareLedgerState} {ledger : LedgerState} → ShowsJournal view bare ledger
+pub shown_opening : {view : View} {bare : BareLedgerState} {ledger : LedgerState} → ShowsJournal view bare ledger
     → ledger.opening ≡ opening_of (view.committed 0)
 shown_opening shows =
     let journal = (shows.kept.stored shows.clean shows.goes_on).1 in

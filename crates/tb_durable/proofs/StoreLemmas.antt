@@ -1,6 +1,6 @@
 -- One row put and committed.
 use Rattle.std.proofs.Common.{◌≡◌, ◌⊎◌, ◌≤◌, inl, inr, Bool, true, false, List, [], ◌∷◌, ◌++◌, refl, sym, ap, subst, ◌∙◌, arith, append-nil, append_assoc, Option, Some, IsTrue}
-use Rattle.tb_durable.proofs.Words.{unwrap_or, Err, Row, Table, Trees, put_row, from_key, order_of, sought, View, IsClean, doubt, SetsTree, Commits, Advances, IsRolledBack, with_cursor, IsSettled, IsReading, Adds, IsAdded, LeavesNothingNew}
+use Rattle.tb_durable.proofs.Words.{unwrap_or, Err, Row, Table, Trees, put_row, from_key, order_of, sought, View, IsClean, doubt, SetsTree, Advances, IsRolledBack, with_cursor, IsSettled, IsReading, IsAdded, LeavesNothingNew}
 use Rattle.sqlite_value.specs.declared.keys.Order.{Order}
 use Rattle.sqlite_trees.specs.View.{Tells}
 use Rattle.sqlite_trees.specs.declared.error.StoreError.{StoreError}
@@ -23,19 +23,6 @@ module _ (view : View) (shut : view.is_open ≡ false → IsTrue view.is_broken)
       go : (b : Bool) → view.is_clean ≡ b → IsTrue view.is_clean
       go true e = e
       go false e = absurd (let broken = shut (dirty e) in cc)
-
-pub adds : (old mid new : View) (row : Row) → (mid.is_open ≡ false → IsTrue mid.is_broken)
-    → SetsTree old mid 0 (put_row row) → Commits mid new → old.shape 0 ≡ Table → Adds old new row
-adds old mid new row shut set commit shape =
-    record {
-      rows = ap (λ (v : View). v.committed 0) commit.is ∙ ap (λ (v : View). v.trees 0) set.is;
-      settled = record {
-        is_open = ap (λ (v : View). v.is_open) commit.is ∙ open_if_sound mid shut commit.sound;
-        sound = ap (λ (v : View). v.is_broken) commit.is ∙ commit.sound;
-        same = ap (λ (v : View). v.trees) commit.is ∙ sym (ap (λ (v : View). v.committed) commit.is);
-        shape = ap (λ (v : View). v.shape 0) commit.is ∙ ap (λ (v : View). v.shape 0) set.is ∙ shape;
-      };
-    }
 
 -- if memory ran out first, nothing is stored, and no disk failed
 pub without_memory : {S : Type 0} {view : S → View} {recovers : S → Trees → Type 0} {blamed : S → Option StoreError} {store : S} {row : Row}

@@ -18,10 +18,10 @@ pub use Rattle.tb_core.specs.claim.BareLedger.{BareLedgerState, HasCommitted, Ap
 pub use Rattle.tb_core.specs.claim.Journal.{LedgerState, inputs}
 pub use Rattle.tb_core.specs.claim.Ledger.{Applied, apply_result, apply_step, must_stop, step_of_batch, with_entry, with_stop, size_of, batch_packets}
 pub use Rattle.tb_core.specs.declared.outcomes.Outcomes.{Outcomes}
-pub use Rattle.tb_durable.specs.claim.Durable.{AddsGroup, groups_of_parcel, IsJournal, IsReading, Adds, IsAdded, IsFirst, IsSettled, IsStored, opened_rows, IsBelow, LeavesNothingNew, LeavesWith, groups_of, HasJournal, IsKept, rows_of, IsReplaying}
+pub use Rattle.tb_durable.specs.claim.Durable.{AddsGroup, groups_of_parcel, IsJournal, IsReading, Adds, IsAdded, IsFirst, IsSettled, IsStored, opened_rows, IsBelow, LeavesNothingNew, LeavesWith, groups_of, HasGroups, HasJournal, IsKept, LeavesJournal, MayHave, rows_of, IsReplaying}
 pub use Rattle.tb_durable.specs.claim.Rows.{stub_at, batch_row, jobs_row, group_in, stubs_in, stubs_bytes, HasColumns, pulse_row, whole_number, settings_row, settings_stub, stub_bytes, clock_in, stub_in, word_of}
 pub use Rattle.tb_durable.specs.clauses.Counts.{counted, no_packets, follows}
-pub use Rattle.tb_durable.specs.clauses.Entries.{AreColumnsOf, BeginsWith, without_user, AreEntryRows, IsBatchRow, IsEntryRow, IsPulseRow, IsLedgerFile, CanBeOpened, HasEntries, HasReadFile, IsFailure, IsFirstRow, IsHalfway, LeavesSettings}
+pub use Rattle.tb_durable.specs.clauses.Entries.{AreColumnsOf, BeginsWith, without_user, AreEntryRows, IsBatchRow, IsEntryRow, IsPulseRow, IsLedgerFile, CanBeOpened, HasEntries, IsInFile, HasReadFile, IsFailure, IsFirstRow, IsHalfway, LeavesSettings}
 pub use Rattle.tb_durable.specs.clauses.Faults.{IsCause, IsRowFault}
 pub use Rattle.tb_durable.specs.declared.counts.PacketCounts.{PacketCounts}
 pub use Rattle.tb_durable.specs.declared.fault.OpenFault.{OpenFault}

@@ -4,15 +4,17 @@ ghost use Rattle.std.specs.Prelude.{◌≡◌, ◌⊎◌, ◌≤◌, [], ℕ, Li
 ghost use Rattle.sqlite_std_file.specs.File.{file_is_usable, IsFresh};
 ghost use Rattle.sqlite_store.specs.FileStore as file;
 ghost use Rattle.sqlite_trees.specs.View.{IsClean, doubt};
-ghost use Rattle.sqlite_trees.specs.Objects.{catalog_tree};
+ghost use Rattle.sqlite_trees.specs.Objects.{catalog_tree, description};
+ghost use Rattle.sqlite_trees.specs.declared.store.Shape.TheVariants.{Table as TableShape};
 ghost use Rattle.sqlite.specs.State.{HasCleanDisk};
 ghost use Rattle.sqlite.specs.Start.{FindsIn};
 ghost use Rattle.sqlite.specs.Files.{file_state, IsBlankAs, IsOpened};
 ghost use Rattle.tb_durable.specs.claim.Durable.{LeavesNothingNew};
-ghost use Rattle.tb_durable.specs.clauses.Opened.{IsLedger, IsOpenedOn, IsPrepared, IsRefusal, MakesTable, is_of_file, is_of_opening, is_of_table, objects_in};
+ghost use Rattle.tb_durable.specs.clauses.Opened.{IsLedger, IsOpenedOn, IsPrepared, IsRefusal, MakesTable, table_description, is_of_file, is_of_opening, is_of_table, objects_in};
 ghost use Rattle.tb_durable.specs.declared.fault.OpenFault.TheVariants.{NoMemory as NoMemoryFault};
 
 use crate::fault::OpenFault;
+use crate::table::ENTRIES;
 use sqlite::{Connection, Error, ErrorCode, File, FileFrom, FileStore, Options, Start, Unknown};
 use sqlite_std_file::OpenError;
 use sqlite_trees::error::StoreError;
@@ -23,6 +25,7 @@ use sqlite_value::value::ValueRef;
 use std::alloc::Global;
 use std::fs;
 use std::hash::{BuildHasher, RandomState};
+use tb_layout::NoMemory;
 
 /// The table of the ledger, in a file and its log.
 pub type LedgerFile = FileStore<File>;
@@ -30,8 +33,8 @@ pub type LedgerFile = FileStore<File>;
 const CREATE_TABLE: &str =
     "CREATE TABLE entry (place INTEGER PRIMARY KEY, operation INTEGER NOT NULL, moment INTEGER NOT NULL, stubs BLOB NOT NULL, body BLOB NOT NULL) STRICT";
 
-/// The bytes of a page. A shorter log has none.
-const PAGE: u64 = 4096;
+/// The bytes of a page of the file. A log has more if it has a page.
+pub const PAGE_SIZE: u64 = 4096;
 
 /// The log has this number of pages of 4 KiB, at most 400 MB, before it is copied into the file, which takes more syncs.
 const LOG_PAGES: usize = 100_000;
@@ -39,9 +42,6 @@ const LOG_PAGES: usize = 100_000;
 const CANNOT_OPEN: OpenFault = OpenFault::File(Error::SqliteFailure(ErrorCode::CannotOpen));
 
 const IS_OPEN: OpenFault = OpenFault::File(Error::SqliteFailure(ErrorCode::DatabaseBusy));
-
-/// The tree of the table.
-const ENTRIES: u32 = 0;
 
 /// Returns whether the database has a ledger's table, and nothing else.
 fn is_ledger(objects: &[Row]) -> bool
@@ -57,6 +57,21 @@ fn is_ledger(objects: &[Row]) -> bool
     }
 }
 
+/// Returns the ledger's table, the only object of a store that a ledger is opened on.
+pub fn entry_table() -> Object<'static>
+    ensures shape { result.shape ≡ TableShape }
+    ensures text { description result ≡ table_description }
+{
+    Object {
+        shape: Shape::Table,
+        kind: "table",
+        name: "entry",
+        table: "entry",
+        reals: 0,
+        sql: Some(CREATE_TABLE),
+    }
+}
+
 /// Makes the table in an empty database.
 fn make_table<S: Alter>(store: &mut S) -> Result<(), StoreError>
     requires numbered { IsClean (S.Store.view store.old) → IsTrue (S.Store.view store.old).is_numbered }
@@ -67,15 +82,7 @@ fn make_table<S: Alter>(store: &mut S) -> Result<(), StoreError>
     if store.shape(ENTRIES) != Shape::Absent {
         return Err(StoreError::Broken);
     }
-    let table = Object {
-        shape: Shape::Table,
-        kind: "table",
-        name: "entry",
-        table: "entry",
-        reals: 0,
-        sql: Some(CREATE_TABLE),
-    };
-    store.create(ENTRIES, &table)?;
+    store.create(ENTRIES, &entry_table())?;
     store.commit()
 }
 
@@ -93,6 +100,12 @@ fn log_options(rt: &HostRuntime) -> Result<Options, OpenFault>
     })
 }
 
+/// Returns whether there is a log with a page beside the file at a path.
+pub fn has_log(rt: &HostRuntime, path: &str) -> Result<bool, NoMemory> {
+    let log = format!(in rt.alloc(); "{path}-wal")?;
+    Ok(matches!(fs::metadata(rt, log.as_str()), Ok(log) if log.len() > PAGE_SIZE))
+}
+
 /// Refuses a path at which there is no file, but a log with a page: a file that was made there would take it for its own and write over
 /// it.
 fn refuse_lone_log(rt: &HostRuntime, path: &str) -> Result<(), OpenFault>
@@ -101,13 +114,11 @@ fn refuse_lone_log(rt: &HostRuntime, path: &str) -> Result<(), OpenFault>
     if !matches!(fs::exists(rt, path), Ok(false)) {
         return Ok(());
     }
-    let Ok(log) = format!(in rt.alloc(); "{path}-wal") else {
-        return Err(OpenFault::NoMemory);
-    };
-    if matches!(fs::metadata(rt, log.as_str()), Ok(log) if log.len() > PAGE) {
-        return Err(OpenFault::LogWithoutFile);
+    match has_log(rt, path) {
+        Ok(true) => Err(OpenFault::LogWithoutFile),
+        Ok(false) => Ok(()),
+        Err(NoMemory) => Err(OpenFault::NoMemory),
     }
-    Ok(())
 }
 
 /// Opens and locks the file at a path and its log.

@@ -139,8 +139,7 @@ impl<S: Store + Drop> DurableLedger<S> {
         ensures stored { IfOk result (λ ledger. IsStored (S.Store.view ledger.table.store) ledger.bare) }
         ensures rows { IfOk result (λ ledger. IsClean (S.Store.view ledger.table.store)
             → (S.Store.view ledger.table.store).committed 0 ≡ opened_rows settings ((S.Store.view store).committed 0)) }
-        ensures kept { IfOk result (λ ledger. (now : LedgerState) × IsInFile (S.Store.recovers ledger.table.store)
-            (S.Store.view ledger.table.store) ledger.bare ledger.counts now) }
+        ensures kept { IfOk result (λ ledger. (now : LedgerState) × IsInFile S.Store.view S.Store.recovers ledger now) }
         ensures goes_on { IfOk result (λ ledger. (ledger.bare.stopped ≡ false) × (ledger.in_doubt ≡ false) × (ledger.fault ≡ None)) }
         ensures settings { IfOk result (λ ledger. IsClean (S.Store.view ledger.table.store)
             → BeginsWithSettings ((S.Store.view ledger.table.store).committed 0) ledger.settings) }
@@ -373,8 +372,8 @@ impl<S: Store + Drop> DurableLedger<S> {
         ensures file { IsStored (S.Store.view self.now.table.store) self.now.bare
             → HasEntries (S.Store.view self.now.table.store) self.now.bare self.now.counts
             → IsClean (S.Store.view self.now.table.store) → self.now.bare.stopped ≡ false
-            → IsInFile (S.Store.recovers self.now.table.store) (S.Store.view self.now.table.store) self.now.bare self.now.counts
-            (with_journal self.now.bare (groups_of ((S.Store.view self.now.table.store).committed 0))) }
+            → IsInFile S.Store.view S.Store.recovers self.now (with_journal self.now.bare
+            (groups_of ((S.Store.view self.now.table.store).committed 0))) }
     {}
 
     /// Establishes that on whatever a crash leaves, opening finds a prefix of what was committed and being stored, with all
@@ -397,8 +396,7 @@ impl<S: Store + Drop> DurableLedger<S> {
 impl<S: Store + Drop> AnyLedger for DurableLedger<S> {
     ghost use Rattle.tb_durable.specs.clauses.Entries.{IsInFile};
 
-    ghost is = { λ durable ledger. IsInFile (S.Store.recovers durable.table.store) (S.Store.view durable.table.store)
-        durable.bare durable.counts ledger };
+    ghost is = { IsInFile S.Store.view S.Store.recovers };
 
     fn stopped(&self) -> bool {
         AnyLedger::stopped(&self.bare)

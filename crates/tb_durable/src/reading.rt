@@ -15,7 +15,7 @@ ghost use Rattle.sqlite_trees.specs.declared.error.StoreError.{StoreError as Fai
 use crate::counts::PacketCounts;
 use crate::fault::OpenFault;
 use crate::replaying::Replaying;
-use crate::rows::{FORMAT_VERSION, number_in, settings_in};
+use crate::rows::{FORMAT_VERSION, SETTINGS_PLACE, number_in, settings_in};
 use crate::settings::Settings;
 use crate::table::Table;
 use sqlite_trees::store::Store;
@@ -34,7 +34,7 @@ fn settings_of(row: &Row) -> Result<Settings, OpenFault>
     ensures opens { IsFirstRow row.now → IsOk result }
     ensures told { IfErr result (λ fault. (blamed : Option Failure) → TellsStore blamed fault) }
 {
-    let ValueRef::Int(-1) = row.get(0) else {
+    let ValueRef::Int(SETTINGS_PLACE) = row.get(0) else {
         return Err(OpenFault::BadSettings);
     };
     match number_in(row, 2) {

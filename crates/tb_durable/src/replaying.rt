@@ -22,7 +22,7 @@ ghost use Rattle.tb_durable.specs.declared.fault.OpenFault.TheVariants.{BadEntry
 
 use crate::counts::PacketCounts;
 use crate::fault::OpenFault;
-use crate::rows::{columns_in, number_in, stub_at};
+use crate::rows::{PULSE, STUB_SIZE, columns_in, number_in, stub_at};
 use sqlite_value::row::Row;
 use std::alloc::Global;
 use tb_batch::{Batch, Batcher, Offered};
@@ -177,7 +177,7 @@ impl Replaying {
             → AreColumnsOf jobs columns.entry.operation columns.entry.stubs.now columns.entry.body.now
             → IsSome (counted_all self.old.counts (map stub_of jobs)) → IfErr result (λ error. error ≡ NoMemoryFault) }
     {
-        let (chunks, rest) = columns.stubs.as_chunks::<16>();
+        let (chunks, rest) = columns.stubs.as_chunks::<STUB_SIZE>();
         let mut body = columns.body;
         let Ok(mut batcher) = Batcher::new(self.alloc, BATCH_MAX) else {
             return Err(self.bad_entry());
@@ -253,7 +253,7 @@ impl Replaying {
         let Some(columns) = columns_in(row) else {
             return Err(self.bad_entry());
         };
-        if columns.operation == 0 {
+        if columns.operation == PULSE {
             return self.pulse(columns.moment);
         }
         let Ok(operation) = u8::try_from(columns.operation) else {

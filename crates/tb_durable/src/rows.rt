@@ -28,7 +28,14 @@ use tb_work::{Moment, Stub};
 /// The version of the format, in the row with the settings.
 pub(crate) const FORMAT_VERSION: u64 = 1;
 
-pub(crate) const PULSE: i64 = 0;
+/// The place of that row, before all entries.
+pub(crate) const SETTINGS_PLACE: i64 = -1;
+
+/// The operation of a pulse's row.
+pub(crate) const PULSE: u64 = 0;
+
+/// The bytes of a stub.
+pub(crate) const STUB_SIZE: usize = 16;
 
 const U32_VALUES: u128 = 1 << 32;
 
@@ -53,8 +60,8 @@ fn stub_in(word: u128) -> Stub
     }
 }
 
-/// Returns the stub in 16 bytes.
-pub(crate) fn stub_at(chunk: &[u8; 16]) -> Stub
+/// Returns the stub in its bytes.
+pub(crate) fn stub_at(chunk: &[u8; STUB_SIZE]) -> Stub
     ensures { result ≡ stub_at chunk.now }
 {
     stub_in(read_id(chunk))
@@ -70,12 +77,12 @@ fn add_stub(bytes: &mut Vec<u8>, stub: Stub) -> Result<(), NoMemory>
     Ok(())
 }
 
-/// Returns stubs in turn, in 16 bytes each.
+/// Returns the bytes of stubs in turn.
 fn lay_stubs(alloc: Global, stubs: &[Stub]) -> Result<Vec<u8>, NoMemory>
     ensures bytes { IfOk result (λ bytes. bytes.items ≡ stubs_bytes stubs.now) }
     ensures read_back { IfOk result (λ bytes. stubs_in bytes.items ≡ stubs.now) }
 {
-    let mut bytes = Vec::with_capacity(alloc, stubs.len().saturating_mul(16))?;
+    let mut bytes = Vec::with_capacity(alloc, stubs.len().saturating_mul(STUB_SIZE))?;
     for stub in stubs {
         add_stub(&mut bytes, *stub)?;
     }
@@ -143,7 +150,7 @@ pub(crate) fn fill_pulse(row: &mut Row, place: u64, moment: Moment) -> Result<()
         row,
         Columns {
             place: place as i64,
-            operation: PULSE,
+            operation: PULSE as i64,
             moment: moment.get() as i64,
             stubs: &[],
             body: &[],
@@ -164,7 +171,7 @@ pub(crate) fn fill_settings(row: &mut Row, settings: Settings) -> Result<(), NoM
     fill(
         row,
         Columns {
-            place: -1,
+            place: SETTINGS_PLACE,
             operation: FORMAT_VERSION as i64,
             moment: settings.clock as i64,
             stubs: &write_id(word_of(stub)),
@@ -226,7 +233,7 @@ pub(crate) fn settings_in(row: &Row) -> Option<Settings>
     ensures none { IfNone result (IsFirstRow row.now → ⊥) }
 {
     let clock = number_in(row, 3)?;
-    let (chunks, _) = blob_in(row, 4)?.as_chunks::<16>();
+    let (chunks, _) = blob_in(row, 4)?.as_chunks::<STUB_SIZE>();
     let stub = stub_at(chunks.first()?);
     Some(Settings {
         clock,

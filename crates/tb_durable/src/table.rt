@@ -23,7 +23,10 @@ use tb_batch::Parts;
 use tb_work::Moment;
 
 /// The tree of the table, the only one.
-const ENTRIES: u32 = 0;
+pub(crate) const ENTRIES: u32 = 0;
+
+/// The cursor that reads it, the only one.
+const CURSOR: u16 = 0;
 
 /// Why a row isn't stored. If it is in doubt, a crash may leave it or not.
 #[derive(Clone, Copy)]
@@ -158,7 +161,8 @@ impl<S: Store> Table<S> {
             return Err(StoreError::Broken);
         }
         self.row.clear();
-        self.store.seek(0, ENTRIES, &self.row, Direction::Forward)?;
+        self.store
+            .seek(CURSOR, ENTRIES, &self.row, Direction::Forward)?;
         Ok(())
     }
 
@@ -172,6 +176,6 @@ impl<S: Store> Table<S> {
         ensures clean { doubt (S.Store.view self.old.store).is_clean ≤ doubt (S.Store.view self.new.store).is_clean }
         ensures told { IfErr result (Tells (S.Store.blamed self.new.store)) }
     {
-        self.store.next(0, &mut self.row)
+        self.store.next(CURSOR, &mut self.row)
     }
 }

@@ -182,6 +182,7 @@ impl<L: AnyLedger> AnyEngine<L> {
         ensures refusal { IfErr result (λ refused. opening_refusal limit submitters ≡ Some refused.1) }
         ensures back { IfErr result (λ refused. refused.0 ≡ ledger) }
     {
+        // The law that a run may begin with a ledger that hasn't stopped.
         let _ = ledger.stopped();
         let front = match Front::new(alloc, limit, submitters) {
             Ok(front) => front,

@@ -1,8 +1,7 @@
 //! The engine.
 
-ghost use Rattle.std.specs.Prelude.{◌≡◌, ◌<◌, ◌≤◌, ◌+◌, ◌-◌, ◌^◌, ◌++◌, ◌∷◌, [], ℕ, List, Some, None, true, false, ◌||◌, length, map, IfOk, IfErr, OnOk, OnErr, IfSome, IfNone, option_to_list, get_or, slice_get, slice_set};
+ghost use Rattle.std.specs.Prelude.{◌≡◌, ◌<◌, ◌≤◌, ◌+◌, ◌-◌, ◌^◌, ◌++◌, ◌∷◌, [], ℕ, List, Some, None, true, false, ◌||◌, length, map, IfOk, IfErr, OnOk, OnErr, IfSome, IfNone, option_to_list, get_or, slice_get};
 ghost use Rattle.std.specs.Option.{option_copied};
-ghost use Rattle.std.specs.List.{flat_map};
 ghost use Rattle.tb_layout.specs.claim.Bounds.{places_max};
 ghost use Rattle.tb_layout.specs.claim.Limits.{clock_max};
 ghost use Rattle.tb_tables.specs.clauses.Counts.{counts_of};
@@ -16,7 +15,7 @@ ghost use Rattle.tb_work.specs.declared.item.Item.TheVariants as item;
 ghost use Rattle.tb_work.specs.declared.refusal.Refusal.TheVariants.{NoMemory as NoMemoryRefusal};
 ghost use Rattle.tb_batch.specs.claim.Grouping.{IsGroup};
 ghost use Rattle.tb_core.specs.declared.parcel.Parcel.TheVariants.{Batch as BatchParcel};
-ghost use Rattle.tb_core.specs.claim.Front.{IsFront, opening_refusal, all_decisions_in, group_as_batch, take_result, take_step, takes_memory, with_group};
+ghost use Rattle.tb_core.specs.claim.Front.{IsFront, opening_refusal, all_decisions_in, with_group};
 ghost use Rattle.tb_core.specs.claim.Grouping.{AreJoinedParcels};
 ghost use Rattle.tb_core.specs.claim.Decision.{Admitted, Decision};
 ghost use Rattle.tb_core.specs.claim.BareLedger.{HasSent, halts, places_with};

@@ -1,13 +1,13 @@
 //! An engine whose host may keep its journal.
 
-ghost use Rattle.std.specs.Prelude.{◌≡◌, ◌<◌, ◌∷◌, ◌++◌, [], length, None, Some, IfOk, IfErr, IfNone, IfSome, OnOk, OnErr, drop, get_or, slice_get, true, false};
+ghost use Rattle.std.specs.Prelude.{◌≡◌, ◌<◌, [], length, None, Some, IfOk, IfErr, IfNone, IfSome, OnOk, OnErr, drop, get_or, slice_get, true, false};
 ghost use Rattle.std.specs.Option.{option_copied};
 ghost use Rattle.tb_work.specs.claim.Packet.{ReplyValue};
 ghost use Rattle.tb_work.specs.declared.item.Item.TheVariants as item;
 ghost use Rattle.tb_work.specs.declared.refusal.Refusal.TheVariants.{NoMemory as NoMemoryRefusal};
-ghost use Rattle.tb_embed.specs.clauses.Engine.{Continues, IsRefusal, Queues, has_stopped, pulse_refusal, shut_refusal, submit_refusal};
+ghost use Rattle.tb_embed.specs.clauses.Engine.{Continues, IsRefusal, Queues, pulse_refusal, shut_refusal, submit_refusal};
 ghost use Rattle.tb_embed.specs.clauses.Queued.{packet_ticket, ticket_of};
-ghost use Rattle.tb_embed.specs.clauses.Recorded.{ChangesEngine, HandsPacket, PulsesRecorded, ReadsRecorded, first_stored, handed_places, if_committed, if_uncommitted, is_below, is_committed, is_stored, next_packet, place_in, next_pulse, pulse_ahead, readable, recorded, recorded_packet_fault, recorded_pulse_fault, has_open_entries, with_durable};
+ghost use Rattle.tb_embed.specs.clauses.Recorded.{ChangesEngine, HandsPacket, PulsesRecorded, ReadsRecorded, handed_places, is_below, is_committed, is_stored, next_packet, place_in, next_pulse, readable, recorded, recorded_packet_fault, recorded_pulse_fault, has_open_entries, with_durable};
 ghost use Rattle.tb_embed.specs.clauses.Restoring.{IsFault, RestoresPulse, RestoresUnseen};
 
 use crate::engine::Engine;

@@ -1,6 +1,6 @@
 //! What a host restores of the journal that it keeps.
 
-ghost use Rattle.std.specs.Prelude.{◌≡◌, IfOk, IfErr, OnOk, OnErr, None};
+ghost use Rattle.std.specs.Prelude.{◌≡◌, IfErr, OnOk, OnErr, None};
 ghost use Rattle.tb_embed.specs.clauses.Restoring.{IsFault, RestoresPacket, RestoresPulse, is_next_place, packet_fault, pulse_fault};
 
 use crate::engine::Engine;

@@ -25,7 +25,7 @@ pub(crate) struct Unread {
 }
 
 impl Model for Unread {
-    ghost use Rattle.std.specs.Prelude.{◌≡◌, ◌-◌, List, [], ◌++◌, option_to_list, None};
+    ghost use Rattle.std.specs.Prelude.{◌≡◌, ◌-◌, [], ◌++◌, option_to_list, None};
     ghost use Rattle.std.specs.VecDeque.{deque_len, deque_capacity};
     ghost use Rattle.std.specs.List.{flat_map};
     ghost use Rattle.tb_core.specs.claim.Run.{replies_in};

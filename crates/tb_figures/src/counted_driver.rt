@@ -101,6 +101,10 @@ impl<D: Driver, R: Clock + Drop> CountedDriver<D, R> {
     /// Returns the driver, whose packets are counted as those of the submitter of this number. `clock` measures how long replies take;
     /// a clone of the runtime is one. Allocates 32 bytes for each packet that may be in flight (the credit given to `Figures::new`), and
     /// nothing later.
+    ///
+    /// # Errors
+    ///
+    /// `AllocError`, if memory runs out.
     pub fn new(
         alloc: Global,
         driver: D,

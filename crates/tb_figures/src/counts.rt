@@ -1,6 +1,6 @@
 //! What is counted of a journal.
 
-ghost use Rattle.std.specs.Prelude.{◌≡◌, ◌≤◌, ◌+◌, ◌<◌, ℕ, [], ◌∷◌, ◌++◌, List, length, map, set, slice_index};
+ghost use Rattle.std.specs.Prelude.{◌≡◌, ◌≤◌, ◌+◌, ◌<◌, [], ◌++◌, List, length, map, set, slice_index};
 ghost use Rattle.tb_layout.specs.claim.Bounds.{submitters_max};
 ghost use Rattle.tb_layout.specs.claim.Events.{Input};
 ghost use Rattle.tb_batch.specs.claim.Batch.{AreAdmitted};

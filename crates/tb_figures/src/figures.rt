@@ -178,6 +178,10 @@ fn submitter_cells(alloc: Global, submitters: u32) -> Result<Vec<SubmitterCells>
 impl Figures {
     /// Returns figures of a pipeline that is opened with this number of submitters, at most 16, and this credit. All are 0. Allocates 32
     /// bytes for each submitter. They are of one counted ledger, and of its drivers in run after run.
+    ///
+    /// # Errors
+    ///
+    /// `AllocError`, if memory runs out.
     pub fn new(alloc: Global, submitters: u32, credit: u32) -> Result<Figures, AllocError>
         ensures { IfOk result (λ figures. figures.credit ≡ credit) }
     {

@@ -57,6 +57,10 @@ impl<T: Drop> Retries<T> {
     ghost use Rattle.tb_figures.specs.clauses.Retries.{AreFrom, due, inserted, next_moment, waiting_one, without_due};
 
     /// Returns an empty queue for at most `bound` items. Allocates all that it needs.
+    ///
+    /// # Errors
+    ///
+    /// `AllocError`, if memory runs out.
     pub fn with_bound(alloc: Global, bound: usize) -> Result<Retries<T>, AllocError>
         ensures { IfOk result (λ retries. (retries.waiting ≡ []) × (retries.bound ≡ bound)) }
     {

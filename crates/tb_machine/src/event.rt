@@ -1,15 +1,15 @@
 //! What the two operations that change the facts make of their events.
 
-ghost use Rattle.std.specs.Prelude.{◌≡◌, ◌≢◌, ◌≤◌, ◌&&◌, ◌||◌, ℕ, Bool, List, Option, Ok, IfOk, OnOk, is_some, not, true, false};
+ghost use Rattle.std.specs.Prelude.{◌≡◌, ◌≢◌, ◌≤◌, ◌&&◌, ◌||◌, ℕ, Bool, List, Ok, IfOk, is_some, not, true};
 ghost use Rattle.tb_layout.specs.claim.Account.{account_of};
 ghost use Rattle.tb_layout.specs.claim.Transfer.{transfer_of, is_resolving as is_resolving_event};
 ghost use Rattle.tb_layout.specs.claim.TransferCode.{number_of};
-ghost use Rattle.tb_tables.specs.claim.Facts.{Facts, account_with, add_transfer, is_failed, transfer_with};
+ghost use Rattle.tb_tables.specs.claim.Facts.{Facts, account_with, add_transfer, transfer_with};
 ghost use Rattle.tb_tables.specs.clauses.History.{with_change, Extends};
 ghost use Rattle.tb_tables.specs.clauses.Conditions.{MayResolve};
 ghost use Rattle.tb_tables.specs.clauses.Indices.{IsIndexOfTransfer};
 ghost use Rattle.tb_layout.specs.claim.Limits.{clock_max};
-ghost use Rattle.tb_machine.specs.claim.Chain.{Operation, verdict_after};
+ghost use Rattle.tb_machine.specs.claim.Chain.{Operation};
 ghost use Rattle.tb_machine.specs.claim.Checks.{differ};
 ghost use Rattle.tb_machine.specs.claim.TransferVerdict.{stored_transfer, new_id_verdict};
 ghost use Rattle.tb_machine.specs.inside.Examining.{transfer_id_verdict, unfailed_verdict};
@@ -238,7 +238,7 @@ fn is_transient(code: u32) -> bool
         || code == TransferCode::ExceedsDebits.number()
 }
 
-/// Stores a plain or pending transfer that passes the checks of one with a new id, if its id is new; whether it is.
+/// Stores a plain or pending transfer that passes the checks of one with a new id, if its id is new. Returns whether it is.
 #[inline(always)]
 fn store_new(
     tables: &mut Tables,
@@ -350,7 +350,7 @@ fn store_between_or_record(
     Ok(code)
 }
 
-/// Stores a post or a void, with its fields resolved, if its id is new; whether it is. The id is looked up as it is
+/// Stores a post or a void, with its fields resolved, if its id is new. Returns whether it is. The id is looked up as it is
 /// stored, as that of a plain or pending transfer.
 #[inline(always)]
 fn store_resolved(

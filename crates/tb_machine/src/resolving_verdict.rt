@@ -5,7 +5,7 @@ ghost use Rattle.tb_layout.specs.declared.transfer_code.TransferCode.{TransferCo
 ghost use Rattle.tb_layout.specs.declared.transfer_code.TransferCode.TheVariants.{Ok as OkCode};
 ghost use Rattle.tb_layout.specs.claim.TransferCode.{number_of};
 ghost use Rattle.tb_layout.specs.claim.Transfer.{is_pending};
-ghost use Rattle.tb_tables.specs.claim.Status.{status_of, is_due as is_due_at};
+ghost use Rattle.tb_tables.specs.claim.Status.{is_due as is_due_at};
 ghost use Rattle.tb_machine.specs.claim.Checks.{first_row};
 ghost use Rattle.tb_machine.specs.inside.Prefetch.{IsTarget};
 ghost use Rattle.tb_machine.specs.declared.prefetch.Target.TheVariants.{Named};

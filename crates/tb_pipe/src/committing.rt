@@ -63,7 +63,7 @@ fn give_on<R: Wait + Clock>(rt: &R, outlet: &mut Outlet<Outcomes>, outcomes: Out
     }
 }
 
-/// Passes one parcel through the ledger; whether it is the last.
+/// Passes one parcel through the ledger. Returns whether it is the last.
 fn commit<R: Wait + Clock, L: AnyLedger>(
     rt: &R,
     ledger: &mut L,

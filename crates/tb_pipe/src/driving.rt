@@ -109,6 +109,10 @@ where
 /// its own, the control has its driver and one more, and the calling thread serves. Returns the drivers in their order
 /// with the report; a submitter's end still gives the replies that its driver hasn't taken. If a thread can't be
 /// started the others are stopped, and what was queued is lost with the pipeline.
+///
+/// # Errors
+///
+/// `NoMemory` before any thread is started, else `NoThread` if one can't be. Nothing is reported then, and what was opened is freed.
 pub fn drive_all<D: Driver + Send, C: ControlDriver + Send, R: Threads + Wait + Clock + Sync>(
     rt: &R,
     alloc: Global,
@@ -129,6 +133,10 @@ pub fn drive_all<D: Driver + Send, C: ControlDriver + Send, R: Threads + Wait + 
 
 /// Runs a pipeline over any ledger, as `drive_all` runs one over a `Ledger`. What it reports holds of each ledger that the run may
 /// have begun with: a journal that isn't in memory is known only to clauses.
+///
+/// # Errors
+///
+/// Those of `drive_all`. The ledger is freed too: one in a file can be opened again.
 pub fn drive_over<D, C, R, L>(
     rt: &R,
     alloc: Global,

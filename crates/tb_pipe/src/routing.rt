@@ -50,7 +50,7 @@ fn route<R: Wait + Clock>(rt: &R, outlets: &mut Vec<Outlet<Reply>>, reply: Reply
     }
 }
 
-/// Puts the replies of an outcome into their rings; whether the outcome is the last.
+/// Puts the replies of an outcome into their rings. Returns whether the outcome is the last.
 fn route_all<R: Wait + Clock>(rt: &R, outlets: &mut Vec<Outlet<Reply>>, outcomes: Outcomes) -> bool
     ensures same { SameOutlets outlets.old.items outlets.new.items }
     ensures more { AllMore (replies_in outcomes) outlets.old.items outlets.new.items }

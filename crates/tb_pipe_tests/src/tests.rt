@@ -53,7 +53,7 @@ enum Saw {
     Response(Result<u64, Refusal>),
     /// It is given a reply: the submitter, the number, and the user word.
     Given(u32, u64, u64),
-    /// Memory was wanting for a packet.
+    /// Memory ran out for a packet.
     NoMemory,
 }
 

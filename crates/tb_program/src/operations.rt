@@ -1,6 +1,6 @@
 //! The operations of the packets that are printed, which give the codes of a text their names.
 
-ghost use Rattle.std.specs.Prelude.{◌≡◌, ◌++◌, IfOk, OnOk, map};
+ghost use Rattle.std.specs.Prelude.{◌≡◌, ◌++◌, IfOk, OnOk};
 ghost use Rattle.std.specs.List.{flat_map};
 ghost use Rattle.tb_program.specs.inside.Drivers.{lists_of};
 ghost use Rattle.tb_program.specs.clauses.Operations.{operation_in, operations_of};

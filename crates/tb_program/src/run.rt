@@ -158,6 +158,10 @@ fn output_for<T: Threads + Wait + Clock + Sync>(
 
 /// Reads a script to its end, and returns what `run_threads` writes of it, whether it has no fault, and if it has one a remark on that for
 /// people.
+///
+/// # Errors
+///
+/// `Read` if the reader fails, `NoMemory` if memory runs out before the run or for its text, and `NoThread` if a thread can't be started.
 pub fn run_output<T: Threads + Wait + Clock + Sync, R: Read>(
     rt: &T,
     alloc: Global,
@@ -189,6 +193,10 @@ pub fn run_output<T: Threads + Wait + Clock + Sync, R: Read>(
 /// result of each packet, the packets of submitter 0 first, then the pulses, the clock and the accounts. Returns
 /// whether the script has no fault; only the fault is printed if it has one, and no thread is started. All output is
 /// made before its first byte is written.
+///
+/// # Errors
+///
+/// Those of `run_output`, and `Write` if the writer fails.
 pub fn run_threads<T: Threads + Wait + Clock + Sync, R: Read, W: Write>(
     rt: &T,
     alloc: Global,

@@ -1,7 +1,6 @@
 //! The names of codes in an output, and how much of it failed.
 
-ghost use Rattle.std.specs.Prelude.{◌≡◌, ◌++◌, codes, drop, IfOk, OnOk, count_by};
-ghost use Rattle.std.specs.List.{flat_map};
+ghost use Rattle.std.specs.Prelude.{◌≡◌, ◌++◌, codes, drop, IfOk, OnOk};
 ghost use Rattle.tb_program_text.specs.clauses.Text.{words_of};
 ghost use Rattle.tb_program_text.specs.clauses.Naming.{code_in, failed_in, first_operation, name_of, named_line, named_text, named_word, named_words, refused_in, uncommitted_in};
 

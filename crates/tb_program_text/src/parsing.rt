@@ -1,6 +1,5 @@
 //! A whole script.
 
-ghost use Rattle.std.specs.Prelude.{◌≡◌};
 ghost use Rattle.tb_program_text.specs.clauses.Script.{script_of};
 ghost use Rattle.tb_program_text.specs.clauses.Parsing.{Parses};
 

@@ -2,7 +2,7 @@
 
 ghost use Rattle.std.specs.Prelude.{◌≡◌, map, string_bytes};
 ghost use Rattle.std.specs.Vec.Iter.{into_iter_items};
-ghost use Rattle.tb_program_text.specs.clauses.Request.{after_words, asked_by, finished, nothing_read, options_of, replay_of, request_of, with_word};
+ghost use Rattle.tb_program_text.specs.clauses.Request.{after_words, asked_by, nothing_read, options_of, replay_of, request_of, with_word};
 
 use std::env::Args;
 use std::marker::Model;

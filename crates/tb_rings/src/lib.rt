@@ -172,6 +172,10 @@ impl<T: Drop> Inlet<T> {
     }
 
     /// Returns a waker of the thread that waits for values.
+    ///
+    /// # Errors
+    ///
+    /// `NoMemory`: there are 2^63 wakers of the thread.
     pub fn waker(&self) -> Result<Waker, NoMemory> {
         self.sleeper.waker()
     }

@@ -173,6 +173,10 @@ impl Submitter {
     }
 
     /// Returns a waker, with which another thread ends `wait`: no reply comes any more if the pipeline isn't served.
+    ///
+    /// # Errors
+    ///
+    /// `NoMemory`: there are 2^63 wakers of the submitter.
     pub fn waker(&self) -> Result<Waker, NoMemory> {
         self.inlet.waker()
     }

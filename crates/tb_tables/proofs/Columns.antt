@@ -22,19 +22,8 @@ keys-entries (row ∷ rows) [] same = absurd (omega (arith, same))
 keys-entries (row ∷ rows) (status ∷ statuses) same =
     ap (λ ks. row.0 ∷ ks) (keys-entries rows statuses (omega (arith, same)))
 
--- ---- at an index
+-- ---- past the end
 
-pub entry-at : (rows : List (ℕ × StoredTransfer)) (statuses : List StoredStatus) (index : ℕ)
-    {row : ℕ × StoredTransfer} {status : StoredStatus} → length statuses ≡ length rows
-    → slice_get rows index ≡ Some row → status ≡ get_or statuses index status
-    → slice_get (entries_of rows statuses) index ≡ Some (entry_of row status)
-entry-at [] statuses index same at is = cc
-entry-at (row ∷ rows) [] index same at is = absurd (omega (arith, same))
-entry-at (row ∷ rows) (status ∷ statuses) zero same at is = cc
-entry-at (row ∷ rows) (status ∷ statuses) (suc index) same at is =
-    entry-at rows statuses index (omega (arith, same)) at is
-
--- and past the end
 pub none-at : (rows : List (ℕ × StoredTransfer)) (statuses : List StoredStatus) (index : ℕ)
     → length statuses ≡ length rows → length statuses ≤ index → slice_get (entries_of rows statuses) index ≡ None
 none-at rows statuses index same past =

@@ -77,13 +77,6 @@ module _ {facts : Facts} {accounts : List (ℕ × Account)} {transfers : List (�
       → IsIndexOfTransfer facts id index
   transfer-indexed_at = indexed_at (λ (t : Transfer). t.id) (row_in facts) facts.transfers hold.transfers_are
 
-  -- what has an index
-  pub row-at : (index : ℕ) → slice_get transfers index
-      ≡ option_map (λ (t : Transfer). (t.id, row_in facts t)) (slice_get facts.transfers index)
-  row-at index =
-      ap (λ es. slice_get es index) hold.transfers_are
-      ∙ slice_get-map (λ (t : Transfer). (t.id, row_in facts t)) facts.transfers index
-
   pub row-found : (id : ℕ) → lookup (nat_eq id) transfers ≡ option_map (row_in facts) (transfer_with facts id)
   row-found id =
       ap (lookup (nat_eq id)) hold.transfers_are ∙ lookup-rows (λ (t : Transfer). t.id)

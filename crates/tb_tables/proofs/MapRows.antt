@@ -1,6 +1,6 @@
 -- Rows of a map under their keys, in order.
 use Rattle.std.proofs.Common.{refl, sym, ap, subst, ◌∙◌, arith, ◌≡◌, ℕ, false, List, [], ◌∷◌, ◌++◌, map, nat_eq, slice_get, get_or, position, zero, suc, Some, find, ◌==◌, option_map}
-use Rattle.tb_tables.proofs.Words.{slice_get-get_or, slice_get-map, length-map, Found-position, list_any, insert_entry, AllByRecursion, IsDistinct, position_or_len, keys_of, lookup, lookup_key, nat_tests, set_value_at}
+use Rattle.tb_tables.proofs.Words.{slice_get-get_or, slice_get-map, length-map, Found-position, insert_entry, AllByRecursion, IsDistinct, position_or_len, keys_of, lookup, lookup_key, nat_tests, set_value_at}
 use Rattle.std.proofs.lemmas.Map.Keys.{IsDistinct-head, IsDistinct-tail}
 use Rattle.tb_tables.proofs.Laws.{==_swap}
 

@@ -1,6 +1,6 @@
 -- Pairs of the expiries: which are in a heap, which are those of a transfer, and which there have to be.
 use Rattle.std.proofs.Common.{find, refl, sym, ap, ◌∙◌, arith, ◌≡◌, ℕ, ◌+◌, ◌<◌, true, false, true≢false, take, get_or, slice_index_or, List, [], ◌∷◌, ◌++◌, length, slice_get, zero, suc, if◌then◌else◌, ◌==◌, ◌||◌, Option, Some, None, ◌≤◌}
-use Rattle.tb_tables.proofs.Words.{eqb-true, slice_get_past, take-suc, its_pair, nat_tests, Transfer, Facts, add_transfer, is_reserving, has_id, ids_distinct, is_pair, is_open_pair, list_any-append, Expiry, by_moment, pair_of, has_pair, is_in_expiries, ExpiriesState, same_pair, expires_at, with_its_pair}
+use Rattle.tb_tables.proofs.Words.{eqb-true, take-suc, its_pair, nat_tests, Transfer, Facts, add_transfer, is_reserving, has_id, ids_distinct, is_open_pair, list_any-append, Expiry, by_moment, pair_of, has_pair, is_in_expiries, ExpiriesState, same_pair, expires_at, with_its_pair}
 use Rattle.std.proofs.lemmas.List.Sorted.{list_any-IsPermutation, length_permutation}
 use Rattle.std.specs.BinaryHeap.{IsUpperBound}
 use Rattle.std.specs.List.Sorted.{IsPermutation}

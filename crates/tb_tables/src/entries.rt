@@ -1,6 +1,6 @@
 //! Entries of the maps, in order of making.
 
-ghost use Rattle.std.specs.Prelude.{◌≡◌, ◌++◌, ◌∷◌, ◌==◌, ◌≢◌, [], Some, Ok, IfOk, OnOk, OnErr, IsSome, is_some, not, true, false, nat_eq, slice_get};
+ghost use Rattle.std.specs.Prelude.{◌≡◌, ◌++◌, ◌∷◌, ◌==◌, ◌≢◌, [], Some, Ok, IfOk, IsSome, is_some, not, true, false, nat_eq, slice_get};
 ghost use Rattle.std.specs.List.{list_any};
 ghost use Rattle.indexmap.specs.IndexMap.{get, keys};
 ghost use Rattle.tb_tables.specs.clauses.Changes.{without_last};
@@ -12,7 +12,7 @@ use crate::status::Status;
 use indexmap::map::Entry;
 use tb_layout::{Account, NoMemory, Transfer};
 
-/// Adds an account with this timestamp after the others, unless its id is there; whether it was added. It is written in
+/// Adds an account with this timestamp after the others, unless its id is there. Returns whether it was added. It is written in
 /// place.
 pub(crate) fn push_account(
     accounts: &mut ById<Account>,
@@ -40,7 +40,7 @@ pub(crate) fn push_account(
     }
 }
 
-/// Puts a failed id after the others, unless it is among them; whether it was added.
+/// Puts a failed id after the others, unless it is among them. Returns whether it was added.
 pub(crate) fn push_failed(failed: &mut Ids, id: u128) -> Result<bool, NoMemory>
     ensures new { IfOk result (λ added. added ≡ not (list_any (λ other. other == id) failed.old.keys)) }
     ensures added { result ≡ Ok true → failed.new.keys ≡ failed.old.keys ++ id ∷ [] }

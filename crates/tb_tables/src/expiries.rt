@@ -68,7 +68,7 @@ fn push_open(heap: &mut BinaryHeap<Expiry>, pairs: &[Expiry], transfers: &Transf
     }
 }
 
-/// Takes the earliest pair out if its transfer reserves nothing any more; whether it did.
+/// Takes the earliest pair out if its transfer reserves nothing any more. Returns whether it did.
 fn pop_spent(heap: &mut BinaryHeap<Expiry>, transfers: &Transfers) -> bool
     requires { IsReady heap.old 0 }
     ensures ready { IsReady heap.new 0 }

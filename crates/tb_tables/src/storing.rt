@@ -70,7 +70,7 @@ pub(crate) fn take_expiry_back(
     }
 }
 
-/// Adds an event's row with this timestamp, and its pair if it has one, unless a transfer with its id is there; whether it
+/// Adds an event's row with this timestamp, and its pair if it has one, unless a transfer with its id is there. Returns whether it
 /// was added. The pair is put in first, and is taken out again if the row isn't added.
 pub(crate) fn push_transfer(
     transfers: &mut Transfers,

@@ -115,7 +115,7 @@ impl Tables {
     }
 
     /// Adds an account after those that are there, with this timestamp and no balances of its own, unless one with its
-    /// id is there; whether it was added. The id is looked up once. If memory runs out nothing has changed.
+    /// id is there. Returns whether it was added. The id is looked up once. If memory runs out nothing has changed.
     pub fn insert_account(&mut self, event: &Account, timestamp: u64) -> Result<bool, NoMemory>
         requires { HasNoBalances event.now }
         ensures new { IfOk result (λ added. added ≡ not (is_some (account_with self.old.now event.now.id))) }
@@ -141,7 +141,7 @@ impl Tables {
         Ok(())
     }
 
-    /// Adds an id to those that failed, unless it is among them; whether it was added. The id is looked up once. If
+    /// Adds an id to those that failed, unless it is among them. Returns whether it was added. The id is looked up once. If
     /// memory runs out nothing has changed.
     pub fn insert_failed(&mut self, id: u128) -> Result<bool, NoMemory>
         ensures new { IfOk result (λ added. added ≡ not (is_failed self.old.now id)) }
@@ -157,7 +157,7 @@ impl Tables {
     }
 
     /// Adds a transfer with this timestamp, whose accounts, and whose pending transfer, have these indices, unless one
-    /// with its id is there; whether it was added.
+    /// with its id is there. Returns whether it was added.
     fn store(
         &mut self,
         event: &Transfer,
@@ -194,7 +194,7 @@ impl Tables {
     }
 
     /// Adds a plain or pending transfer after those that are there, with this timestamp, between the accounts at two
-    /// indices. It isn't added if one with its id is there; whether it was added. The id is looked up once. If memory
+    /// indices. It isn't added if one with its id is there. Returns whether it was added. The id is looked up once. If memory
     /// runs out nothing has changed.
     pub fn insert_between(
         &mut self,
@@ -224,8 +224,8 @@ impl Tables {
         )
     }
 
-    /// Adds a post or a void, with its resolved fields. The transfer that it names is pending no more. On want of
-    /// memory nothing has changed.
+    /// Adds a post or a void, with its resolved fields. The transfer that it names is pending no more. If memory runs out
+    /// nothing has changed.
     pub fn resolve(&mut self, transfer: Transfer) -> Result<(), NoMemory>
         requires new { transfer_with self.old.now transfer.id ≡ None }
         requires may { MayResolve self.old.now transfer }
@@ -239,7 +239,7 @@ impl Tables {
         Ok(())
     }
 
-    /// Adds a post or a void, with its resolved fields, unless a transfer with its id is there; whether it was added.
+    /// Adds a post or a void, with its resolved fields, unless a transfer with its id is there. Returns whether it was added.
     /// The transfer that it names is at this index, and is pending no more if it was. The id is looked up once, and
     /// what it names isn't looked up again. If memory runs out nothing has changed.
     pub fn insert_resolving(

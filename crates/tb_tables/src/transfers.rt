@@ -42,7 +42,7 @@ impl Model for Transfers {
     ghost invariant = { λ columns. length columns.statuses.items ≡ length columns.rows.entries };
 }
 
-/// Adds an event's row after the others, unless its id is there; whether it was added. It is written in place: made
+/// Adds an event's row after the others, unless its id is there. Returns whether it was added. It is written in place: made
 /// before, it would be moved there.
 fn push_row(
     rows: &mut ById<StoredTransfer>,
@@ -95,7 +95,7 @@ impl Transfers {
         self.rows.len()
     }
 
-    /// Adds an event after the others, unless its id is there; whether it was added. The id is looked up once.
+    /// Adds an event after the others, unless its id is there. Returns whether it was added. The id is looked up once.
     pub(crate) fn push(&mut self, event: &Transfer, timestamp: u64) -> Result<bool, NoMemory>
         ensures new { IfOk result (λ added. added ≡ not (is_some (lookup (nat_eq event.now.id) self.old))) }
         ensures added { result ≡ Ok true → self.new

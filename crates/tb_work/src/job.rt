@@ -85,7 +85,9 @@ impl Job {
 
     /// Makes a job of a packet that is admitted under the limit, at most 8190 events, as `of` does.
     ///
-    /// Errors: the packet as it was, with the refusal of `admit` or of `of`.
+    /// # Errors
+    ///
+    /// The packet as it was, with the refusal of `admit` or of `of`.
     pub fn new(
         alloc: Global,
         submitter: u32,
@@ -108,7 +110,9 @@ impl Job {
     /// Makes a submitter's job of this number, with room for as many failures as the packet has events. It costs that
     /// room, which for up to two events is in the job itself, and which a lookup hasn't.
     ///
-    /// Errors: the packet as it was, with `NoMemory`.
+    /// # Errors
+    ///
+    /// The packet as it was, with `NoMemory`.
     pub fn of(
         alloc: Global,
         submitter: u32,

@@ -180,7 +180,9 @@ impl Packet {
 
     /// Takes the packet as one that `admit` admits under a limit, at most 8190 events.
     ///
-    /// Errors: the packet as it was, with the refusal of `admit`.
+    /// # Errors
+    ///
+    /// The packet as it was, with the refusal of `admit`.
     pub fn admitted(self, limit: u32) -> Result<AdmittedPacket, (Packet, Refusal)>
         requires { limit ≤ batch_max }
         ensures packet { IfOk result (λ admitted. admitted ≡ self) }

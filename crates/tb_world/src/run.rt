@@ -1,6 +1,6 @@
 //! A list of events.
 
-ghost use Rattle.std.specs.Prelude.{◌≡◌, ◌≤◌, ◌⊎◌, ◌++◌, ℕ, List, [], true, is_some, IfOk, OnOk, OnErr};
+ghost use Rattle.std.specs.Prelude.{◌≡◌, ◌≤◌, ◌⊎◌, ◌++◌, ℕ, List, true, is_some, IfOk, OnOk, OnErr};
 ghost use Rattle.tb_layout.specs.claim.Bounds.{batch_max, submitters_max};
 ghost use Rattle.tb_layout.specs.claim.Limits.{clock_max};
 ghost use Rattle.tb_core.specs.claim.Journal.{LedgerState};

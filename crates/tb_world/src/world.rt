@@ -5,7 +5,6 @@ ghost use Rattle.tb_layout.specs.claim.Limits.{clock_max};
 ghost use Rattle.tb_layout.specs.claim.Bounds.{submitters_max};
 ghost use Rattle.tb_core.specs.claim.Front.{opening_refusal};
 ghost use Rattle.tb_world.specs.clauses.Pushing.{newcomer};
-ghost use Rattle.tb_world.specs.clauses.Mailbox.{empty_mailbox};
 ghost use Rattle.tb_core.specs.claim.Ledger.{new_ledger};
 ghost use Rattle.tb_world.specs.clauses.EveryOrder.{HasRun, IsAtRest};
 ghost use Rattle.tb_world.specs.clauses.World.{pending_of, new_world, world_over, IsMove, batch_push};

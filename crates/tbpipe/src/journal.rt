@@ -10,11 +10,13 @@ mod committing;
 mod door;
 mod fault;
 mod noting;
+mod opening;
 mod running;
 
 use crate::journal::committing::Committing;
-use crate::journal::running::run_script;
-pub(crate) use fault::JournalFault;
+use crate::journal::opening::open_at;
+use crate::journal::running::run_journaled;
+pub(crate) use fault::RunFault;
 use sqlite_trees::store::Store;
 use std::alloc::Global;
 use std::fs;
@@ -22,7 +24,7 @@ use std::sync::Wait;
 use std::thread::Threads;
 use std::time::Clock;
 use tb_core::Seed;
-use tb_durable::{DurableLedger, LedgerFile, Settings, open_file};
+use tb_durable::{DurableLedger, LedgerFile, PAGE_SIZE, Settings, has_log, open_file};
 use tb_layout::BATCH_MAX;
 use tb_program::{Output, put_state};
 use tb_program_text::{FaultyScript, ScriptParts, Settings as ScriptSettings, Source, read_source};
@@ -37,7 +39,7 @@ const NEW: Settings = Settings {
 /// What is written of a script, why the ledger stopped, if it did, and the ledger's store. Of a faulty script none is opened.
 pub(crate) struct Journaled<S: Store> {
     pub(crate) output: Output,
-    pub(crate) stop: Option<JournalFault>,
+    pub(crate) stop: Option<RunFault>,
     pub(crate) store: Option<S>,
 }
 
@@ -55,8 +57,14 @@ impl<S: Store + Drop> Drop for Journaled<S> {
 }
 
 impl<S: Store + Drop> Journaled<S> {
+    /// Returns it with a remark for people.
+    fn with_remark(mut self, alloc: Global, remark: &str) -> Result<Journaled<S>, RunFault> {
+        self.output.remark = format!(in alloc; "{remark}")?;
+        Ok(self)
+    }
+
     /// Returns the parts, of which the first is written.
-    pub(crate) fn into_parts(self) -> (Output, Option<JournalFault>, Option<S>) {
+    pub(crate) fn into_parts(self) -> (Output, Option<RunFault>, Option<S>) {
         let Journaled {
             output,
             stop,
@@ -71,17 +79,16 @@ fn open<S: Store + Drop>(
     alloc: Global,
     store: S,
     settings: Settings,
-) -> Result<DurableLedger<S>, JournalFault>
+) -> Result<DurableLedger<S>, RunFault>
     requires { settings.clock ≤ clock_max }
-    ensures kept { IfOk result (λ ledger. (now : LedgerState) × IsInFile (S.Store.recovers ledger.table.store)
-        (S.Store.view ledger.table.store) ledger.bare ledger.counts now) }
+    ensures kept { IfOk result (λ ledger. (now : LedgerState) × IsInFile S.Store.view S.Store.recovers ledger now) }
     ensures goes_on { IfOk result (λ ledger. ledger.bare.stopped ≡ false) }
 {
     match DurableLedger::over(alloc, store, settings, Seed::default()) {
         Ok(ledger) => Ok(ledger),
         Err((fault, store)) => {
             drop(store);
-            Err(JournalFault::Open(fault))
+            Err(RunFault::Open(fault))
         }
     }
 }
@@ -101,10 +108,9 @@ fn open_for<S: Store + Drop>(
     alloc: Global,
     store: S,
     given: &ScriptSettings,
-) -> Result<DurableLedger<S>, JournalFault>
+) -> Result<DurableLedger<S>, RunFault>
     requires { clock_of given.now ≤ clock_max }
-    ensures kept { IfOk result (λ ledger. (now : LedgerState) × IsInFile (S.Store.recovers ledger.table.store)
-        (S.Store.view ledger.table.store) ledger.bare ledger.counts now) }
+    ensures kept { IfOk result (λ ledger. (now : LedgerState) × IsInFile S.Store.view S.Store.recovers ledger now) }
     ensures goes_on { IfOk result (λ ledger. ledger.bare.stopped ≡ false) }
 {
     let asked = Settings {
@@ -116,7 +122,7 @@ fn open_for<S: Store + Drop>(
     let kept = ledger.settings();
     if !are_kept(given, kept) {
         drop(ledger);
-        return Err(JournalFault::OtherSettings(kept));
+        return Err(RunFault::OtherSettings(kept));
     }
     Ok(ledger)
 }
@@ -135,7 +141,7 @@ fn list_script<S: Store + Drop>(
     alloc: Global,
     store: S,
     script: ScriptParts,
-) -> Result<Journaled<S>, JournalFault>
+) -> Result<Journaled<S>, RunFault>
     requires { InBounds script.settings }
 {
     let ScriptParts { settings, items } = script;
@@ -143,17 +149,24 @@ fn list_script<S: Store + Drop>(
     Committing::over(alloc, ledger)?.commit_all(items)
 }
 
-/// Reads a script and commits it to the ledger at a path, in its order. Returns what is written of it, as `tb_program::list_output` does.
-pub(crate) fn list_into(
-    rt: &HostRuntime,
-    path: &str,
-) -> Result<Journaled<LedgerFile>, JournalFault> {
+/// Reads a script. Of a faulty one it returns what is written instead, and nothing is committed.
+fn read_script(rt: &HostRuntime) -> Result<Result<ScriptParts, Journaled<LedgerFile>>, RunFault>
+    ensures { IfOk result (λ read. IfOk read (λ script. InBounds script.settings)) }
+{
     match read_source(rt.alloc(), &mut rt.reader())? {
-        Source::Faulty(faulty) => Ok(of_faulty(rt.alloc(), faulty)),
-        Source::Script(script) => {
-            let script = script.finish()?;
-            list_script(rt.alloc(), open_file(rt, path)?, script)
+        Source::Faulty(faulty) => Ok(Err(of_faulty(rt.alloc(), faulty))),
+        Source::Script(script) => Ok(Ok(script.finish()?)),
+    }
+}
+
+/// Reads a script and commits it to the ledger at a path, in its order. Returns what is written of it, as `tb_program::list_output` does.
+pub(crate) fn list_into(rt: &HostRuntime, path: &str) -> Result<Journaled<LedgerFile>, RunFault> {
+    match read_script(rt)? {
+        Ok(script) => {
+            let (store, opening) = open_at(rt, path)?;
+            opening.finish(rt, list_script(rt.alloc(), store, script)?)
         }
+        Err(faulty) => Ok(faulty),
     }
 }
 
@@ -162,59 +175,54 @@ pub(crate) fn run_into<T: Threads + Wait + Clock + Sync>(
     rt: &HostRuntime,
     threads: &T,
     path: &str,
-) -> Result<Journaled<LedgerFile>, JournalFault> {
-    match read_source(rt.alloc(), &mut rt.reader())? {
-        Source::Faulty(faulty) => Ok(of_faulty(rt.alloc(), faulty)),
-        Source::Script(script) => {
-            let script = script.finish()?;
-            run_script(threads, rt.alloc(), open_file(rt, path)?, script)
+) -> Result<Journaled<LedgerFile>, RunFault> {
+    match read_script(rt)? {
+        Ok(script) => {
+            let (store, opening) = open_at(rt, path)?;
+            opening.finish(rt, run_journaled(threads, rt.alloc(), store, script)?)
         }
+        Err(faulty) => Ok(faulty),
     }
 }
 
-/// The bytes of a page. A file of one page has no table, and a shorter log has no page.
-const PAGE: u64 = 4096;
-
 /// Refuses a path at which there is no ledger, before anything is written there. A file of one page has its tables in its log: without
 /// that it is what was left of a ledger whose log was moved away.
-fn refuse_without_ledger(rt: &HostRuntime, path: &str) -> Result<(), JournalFault> {
+fn refuse_without_ledger(rt: &HostRuntime, path: &str) -> Result<(), RunFault> {
     let Ok(file) = fs::metadata(rt, path) else {
         let is_missing = matches!(fs::exists(rt, path), Ok(false));
         return if is_missing {
-            Err(JournalFault::NoFile)
+            Err(RunFault::NoFile)
         } else {
             Ok(())
         };
     };
     if file.len() == 0 {
-        return Err(JournalFault::EmptyFile);
+        return Err(RunFault::EmptyFile);
     }
-    let log = format!(in rt.alloc(); "{path}-wal")?;
-    let has_log = matches!(fs::metadata(rt, log.as_str()), Ok(log) if log.len() > PAGE);
-    if file.len() <= PAGE && !has_log {
-        return Err(JournalFault::NoLedger);
+    if file.len() <= PAGE_SIZE && !has_log(rt, path)? {
+        return Err(RunFault::NoLedger);
     }
     Ok(())
 }
 
 /// Opens the ledger of a store that has one. A table without rows was made by a script that was never begun.
-fn reopen<S: Store + Drop>(alloc: Global, store: S) -> Result<DurableLedger<S>, JournalFault> {
+fn reopen<S: Store + Drop>(alloc: Global, store: S) -> Result<DurableLedger<S>, RunFault> {
     let (has_rows, store) = DurableLedger::has_rows(alloc, store);
     match has_rows {
         Ok(true) => open(alloc, store, NEW),
         Ok(false) => {
             drop(store);
-            Err(JournalFault::NoLedger)
+            Err(RunFault::NoLedger)
         }
         Err(fault) => {
             drop(store);
-            Err(JournalFault::Open(fault))
+            Err(RunFault::Open(fault))
         }
     }
 }
 
 /// Returns the clock and the accounts of the ledger of a store that has one, as lines.
-fn state_text<S: Store + Drop>(alloc: Global, store: S) -> Result<String, JournalFault> {
+fn state_text<S: Store + Drop>(alloc: Global, store: S) -> Result<String, RunFault> {
     let ledger = reopen(alloc, store)?;
     let mut out = String::new(alloc);
     let put = put_state(&mut out, ledger.machine());
@@ -224,7 +232,7 @@ fn state_text<S: Store + Drop>(alloc: Global, store: S) -> Result<String, Journa
 }
 
 /// Returns the clock and the accounts of the ledger at a path, as lines. No ledger is made.
-pub(crate) fn replay(rt: &HostRuntime, path: &str) -> Result<String, JournalFault> {
+pub(crate) fn replay(rt: &HostRuntime, path: &str) -> Result<String, RunFault> {
     refuse_without_ledger(rt, path)?;
     state_text(rt.alloc(), open_file(rt, path)?)
 }

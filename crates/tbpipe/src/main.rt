@@ -9,7 +9,7 @@
 
 mod journal;
 
-use crate::journal::{JournalFault, Journaled, list_into, replay, run_into};
+use crate::journal::{Journaled, RunFault, list_into, replay, run_into};
 use std::alloc::Global;
 use std::process::ExitCode;
 use std::rt::Env;
@@ -51,8 +51,10 @@ fn write_text(rt: &HostRuntime, options: &Options, output: &Output) -> Result<()
 /// Returns how the program ends after a script whose output is written. Under `--strict`, it says how much isn't committed and how much
 /// failed, if anything did.
 fn judge(rt: &HostRuntime, options: &Options, output: &Output) -> Ending {
-    if !output.faultless {
+    if !output.remark.is_empty() {
         tell(rt, &output.remark);
+    }
+    if !output.faultless {
         return Ending::FaultyScript;
     }
     if !options.strict {
@@ -110,9 +112,9 @@ fn finish_file(rt: &HostRuntime, store: LedgerFile) {
 /// Finishes the file of a ledger, if there is one, or returns what stopped the ledger.
 fn finish(
     rt: &HostRuntime,
-    stop: Option<JournalFault>,
+    stop: Option<RunFault>,
     store: Option<LedgerFile>,
-) -> Result<(), JournalFault> {
+) -> Result<(), RunFault> {
     match (stop, store) {
         (Some(stop), _) => Err(stop),
         (None, Some(store)) => {
@@ -129,20 +131,20 @@ fn print_journaled(
     rt: &HostRuntime,
     options: &Options,
     made: Journaled<LedgerFile>,
-) -> Result<Ending, JournalFault> {
+) -> Result<Ending, RunFault> {
     let (output, stop, store) = made.into_parts();
     let ending = print_output(rt, options, &output);
     let is_committed = output.faultless;
     drop(output);
     finish(rt, stop, store)?;
     match ending {
-        Ending::Failed(ProgramFault::Write) if is_committed => Err(JournalFault::WriteCommitted),
-        Ending::Failed(ProgramFault::NoMemory) if is_committed => Err(JournalFault::NoMemory),
+        Ending::Failed(ProgramFault::Write) if is_committed => Err(RunFault::WriteCommitted),
+        Ending::Failed(ProgramFault::NoMemory) if is_committed => Err(RunFault::NoMemory),
         ending => Ok(ending),
     }
 }
 
-fn list(rt: &HostRuntime, options: &Options) -> Result<Ending, JournalFault> {
+fn list(rt: &HostRuntime, options: &Options) -> Result<Ending, RunFault> {
     match &options.journal {
         Some(path) => print_journaled(rt, options, list_into(rt, path.as_str())?),
         None => Ok(print(rt, options, list_output(rt.alloc(), &mut rt.reader()))),
@@ -153,7 +155,7 @@ fn run<T: Threads + Wait + Clock + Sync>(
     rt: &HostRuntime,
     threads: &T,
     options: &Options,
-) -> Result<Ending, JournalFault> {
+) -> Result<Ending, RunFault> {
     match &options.journal {
         Some(path) => print_journaled(rt, options, run_into(rt, threads, path.as_str())?),
         None => {
@@ -164,7 +166,7 @@ fn run<T: Threads + Wait + Clock + Sync>(
 }
 
 /// Prints the clock and the accounts of the ledger at a path.
-fn print_ledger(rt: &HostRuntime, path: &FilePath) -> Result<Ending, JournalFault> {
+fn print_ledger(rt: &HostRuntime, path: &FilePath) -> Result<Ending, RunFault> {
     let text = replay(rt, path.as_str())?;
     write_out(&mut io::writer(rt), &text)?;
     Ok(Ending::Done)
@@ -185,11 +187,7 @@ fn end(rt: &HostRuntime, ending: Ending) -> ExitCode {
 }
 
 /// Ends after what was done with a ledger in the file at a path, or in memory if there is none. Returns the status.
-fn end_with(
-    rt: &HostRuntime,
-    path: Option<&FilePath>,
-    done: Result<Ending, JournalFault>,
-) -> ExitCode {
+fn end_with(rt: &HostRuntime, path: Option<&FilePath>, done: Result<Ending, RunFault>) -> ExitCode {
     match (done, path) {
         (Ok(ending), _) => end(rt, ending),
         (Err(fault), Some(path)) => {

@@ -18,7 +18,7 @@ pub(crate) struct Over {
 }
 
 impl Over {
-    /// Returns the input hasn't ended.
+    /// Returns a flag that isn't set: the input hasn't ended.
     pub(crate) const fn new() -> Over {
         Over {
             ended: AtomicBool::new(false),

@@ -50,8 +50,8 @@ impl Tally {
 /// Returns a sum over the balances of the first accounts.
 pub(crate) fn sum_of_balances(machine: &Machine, accounts: u64) -> u128 {
     let mut sum = 0u128;
-    for place in 0..accounts as usize {
-        if let Some(account) = machine.account_at(place) {
+    for index in 0..accounts as usize {
+        if let Some(account) = machine.account_at(index) {
             let debits = account.debits_posted.wrapping_mul(3);
             let balances = debits.wrapping_add(account.credits_posted);
             sum = sum.wrapping_add(account.id.wrapping_mul(balances));

@@ -11,7 +11,6 @@ use super::made::{packet_of_accounts, rising};
 use super::outcomes::first_reply;
 use crate::tests::must;
 use sqlite::MemStore;
-use sqlite_trees::schema::Object;
 use sqlite_trees::store::{Shape, Store};
 use sqlite_value::row::Row;
 use sqlite_value::value::ValueRef;
@@ -19,7 +18,7 @@ use std::alloc::{AllocError, Global};
 use std::process::Abort;
 use tb_batch::Batch;
 use tb_core::{Outcomes, Parcel, Seed};
-use tb_durable::{DurableLedger, OpenFault, Settings};
+use tb_durable::{DurableLedger, OpenFault, Settings, entry_table};
 use tb_layout::MOMENT_MAX;
 use tb_test_makers::{OutcomeKind, job, kind_of};
 use tb_work::{Moment, Packet};
@@ -32,15 +31,7 @@ const SETTINGS: Settings = Settings {
 
 /// Returns a store with an empty table.
 fn empty_store(rt: &(impl Abort + Alloc<A = Global>)) -> MemStore {
-    let table = Object {
-        shape: Shape::Table,
-        kind: "table",
-        name: "entry",
-        table: "entry",
-        reals: 0,
-        sql: None,
-    };
-    MemStore::new(rt.alloc(), &[table])
+    MemStore::new(rt.alloc(), &[entry_table()])
         .ok()
         .expect(rt, "memory")
 }

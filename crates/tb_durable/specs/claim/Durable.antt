@@ -1,5 +1,5 @@
 -- A ledger over a store.
-use Rattle.std.specs.Prelude.{◌≡◌, ◌⊎◌, ℕ, pos, negsuc, false, Some, List, [], ◌∷◌, ◌++◌, map, IsTrue}
+use Rattle.std.specs.Prelude.{◌≡◌, ◌⊎◌, ℕ, pos, negsuc, Bool, true, false, Some, List, [], ◌∷◌, ◌++◌, map, IsTrue}
 use Rattle.std.specs.declared.cmp.Ordering.TheVariants.{Less}
 use Rattle.std.specs.List.{AllByRecursion}
 use Rattle.tb_layout.specs.claim.Events.{Input, Pulse}
@@ -119,6 +119,24 @@ IsReplaying view bare = (read : List Row) × IsReading view read × IsJournal re
 -- a crash leaves what it could leave before, or the rows with these after them
 abbrev pub LeavesWith : (Trees → Type 0) → (Trees → Type 0) → List Row → List Row → Type 0
 LeavesWith old new rows added = (db : Trees) → new db → old db ⊎ (db 0 ≡ rows ++ added)
+
+-- rows have a journal: after the settings, whose clock it opened with, a row for each of its groups
+pub record HasGroups (rows : List Row) (opening : ℕ) (groups : List (List Input)) : Type 0 where
+  pub first : Row
+  pub entries : List Row
+  pub is : rows ≡ first ∷ entries
+  pub opened : opening ≡ clock_in first
+  pub has : map group_in entries ≡ groups
+
+-- Rows have a ledger's journal. Only if the ledger is in doubt, they may have one group more, the one at which it stopped.
+abbrev pub MayHave : Bool → LedgerState → List Row → Type 0
+MayHave in_doubt ledger rows =
+    HasGroups rows ledger.opening ledger.groups
+    ⊎ ((in_doubt ≡ true) × (last : List Input) × HasGroups rows ledger.opening (ledger.groups ++ last ∷ []))
+
+-- whatever a crash leaves has a ledger's journal, or also the group in doubt
+abbrev pub LeavesJournal : (Trees → Type 0) → Bool → LedgerState → Type 0
+LeavesJournal recovers in_doubt ledger = (db : Trees) → recovers db → MayHave in_doubt ledger (db 0)
 
 -- a crash leaves nothing that it couldn't leave before
 abbrev pub LeavesNothingNew : (Trees → Type 0) → (Trees → Type 0) → Type 0

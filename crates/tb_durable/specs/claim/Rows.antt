@@ -75,9 +75,6 @@ group_in row =
     if operation == 0 then Pulse (whole_number (column row 3)) ∷ []
     else batch_packets operation (bytes (column row 5)) (stubs_in (bytes (column row 4)))
 
-abbrev pub inputs_in : List Row → List Input
-inputs_in rows = flat_map group_in rows
-
 -- where the first row says that the clock starts
 abbrev pub clock_in : Row → ℕ
 clock_in row = whole_number (column row 3)

@@ -16,9 +16,10 @@ use Rattle.sqlite_trees.specs.View.{View, IsClean}
 use Rattle.tb_durable.specs.declared.counts.PacketCounts.{PacketCounts}
 use Rattle.tb_durable.specs.declared.fault.OpenFault.{OpenFault}
 use Rattle.tb_durable.specs.declared.fault.OpenFault.TheVariants as fault
+use Rattle.tb_durable.specs.declared.ledger.DurableLedger.{DurableLedger}
 use Rattle.tb_durable.specs.declared.settings.Settings.{Settings}
 use Rattle.tb_durable.specs.clauses.Counts.{counted_all, no_packets}
-use Rattle.tb_durable.specs.claim.Durable.{IsJournal, IsKept, IsReading}
+use Rattle.tb_durable.specs.claim.Durable.{IsJournal, IsKept, IsReading, LeavesJournal}
 use Rattle.tb_durable.specs.claim.Rows.{HasColumns, clock_in, format_version, group_in, settings_row, stubs_in}
 
 -- ---- rows
@@ -97,13 +98,15 @@ HasEntries view bare counts = IsClean view → bare.stopped ≡ false → IsLedg
 abbrev pub CanBeOpened : (Trees → Type 0) → Type 0
 CanBeOpened recovers = (db : Trees) → recovers db → (counts : PacketCounts) × IsLedgerFile (db 0) counts
 
--- Which ledgers a stored one may be, with its counts of packets. If the disk has returned what was written, whatever a crash leaves can
--- be opened, and unless the ledger stopped, its own table is a ledger's file.
-pub record IsInFile (recovers : Trees → Type 0) (view : View) (bare : BareLedgerState) (counts : PacketCounts)
+-- Which ledgers a stored one may be. If the disk has returned what was written, whatever a crash leaves can be opened and has the
+-- ledger's journal, also if the ledger stopped (`leaves`). So have the rows as they are read, while the store is open (`stays` of the kit).
+-- Unless the ledger stopped, its table is a ledger's file, with its counts of packets.
+pub record IsInFile {S : Type 0} (view : S → View) (recovers : S → Trees → Type 0) (durable : DurableLedger S)
     (ledger : LedgerState) : Type 0 where
-  pub kept : IsKept view bare ledger
-  pub entries : HasEntries view bare counts
-  pub openable : IsClean view → CanBeOpened recovers
+  pub kept : IsKept (view durable.table.store) durable.bare ledger
+  pub entries : HasEntries (view durable.table.store) durable.bare durable.counts
+  pub openable : IsClean (view durable.table.store) → CanBeOpened (recovers durable.table.store)
+  pub leaves : IsClean (view durable.table.store) → LeavesJournal (recovers durable.table.store) durable.in_doubt ledger
 
 -- ---- opening
 

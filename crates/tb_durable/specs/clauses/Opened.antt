@@ -14,6 +14,10 @@ abbrev pub table_text : List ℕ
 table_text =
     codes "CREATE TABLE entry (place INTEGER PRIMARY KEY, operation INTEGER NOT NULL, moment INTEGER NOT NULL, stubs BLOB NOT NULL, body BLOB NOT NULL) STRICT"
 
+-- the ledger's table as a store lists it: its type, its name twice, and its text
+abbrev pub table_description : Row
+table_description = Text (codes "table") ∷ Text (codes "entry") ∷ Text (codes "entry") ∷ Text table_text ∷ []
+
 -- There is one object, and its text is that of the ledger's table.
 pub record IsLedger (objects : List Row) : Type 0 where
   pub row : Row

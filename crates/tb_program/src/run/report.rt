@@ -5,7 +5,6 @@ ghost use Rattle.std.specs.List.{count_by, flat_map};
 ghost use Rattle.tb_core.specs.claim.Ledger.{group_of};
 ghost use Rattle.tb_core.specs.claim.Journal.{inputs};
 ghost use Rattle.tb_layout.specs.claim.Bounds.{submitters_max};
-ghost use Rattle.tb_machine.specs.claim.Replay.{replay};
 ghost use Rattle.tb_submit.specs.clauses.Ends.{replies_of};
 ghost use Rattle.tb_program.specs.inside.Answering.{AreAllAnswered, AreAllDone, IsAnswered, IsAnsweredBy};
 ghost use Rattle.tb_program.specs.inside.Drivers.{IsDone, results_of};
@@ -176,7 +175,7 @@ pub(crate) fn put_all_packets(
     Ok(())
 }
 
-/// Adds the line of an entry that is a pulse, whose place is given; none of a batch. Answers the place after the entry.
+/// Adds the line of an entry that is a pulse, whose place is given; none of a batch. Returns the place after the entry.
 fn put_entry(out: &mut String, place: u64, entry: &Entry) -> Result<u64, AllocError>
     requires { place + length (group_of entry.now) < 2 ^ 64 }
     ensures next_place { IfOk result (λ next_place. next_place ≡ place + length (group_of entry.now)) }

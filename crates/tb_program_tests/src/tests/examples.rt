@@ -96,7 +96,7 @@ fn account_codes(rt: HostRuntime) {
     }
 }
 
-/// Nothing of this script is lost for want of memory: neither the packets that are refused or behind the Close, nor the pulse that is refused.
+/// Nothing of this script is lost because memory ran out: neither the packets that are refused or behind the Close, nor the pulse that is refused.
 #[test]
 fn run_that_lacks_no_memory(rt: HostRuntime) {
     let script =

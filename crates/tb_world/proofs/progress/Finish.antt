@@ -1,6 +1,6 @@
 -- Steps that end at rest, and rounds after any events.
 use Rattle.std.proofs.Common.{refl, sym, ap, subst, ◌∙◌, arith, ◌≡◌, ◌⊎◌, inl, inr, ℕ, zero, suc, add-one, ◌+◌, ◌*◌, ◌<◌, ◌≤◌, Bool, true, false, ◌&&◌, List, [], ◌∷◌, ◌++◌, length, length-append, append-nil, append_assoc, sum_by, replicate, Option, Some, None, is_some, unwrap_or}
-use Rattle.tb_world.proofs.Words.{if◌then◌else◌, list_any, AllByRecursion, or_parts, length-replicate, list_any-append, sum_by-cons, Ticket, all_ended, Event, Push, empty_mailbox, WorldState, is_lawful, senders_after, moved, after_event, run, world_over, takes_memory, IsAtRest, is_push, is_refused, pushed_at, history, HasRun, IsLawfulAtRest, LedgerState, unread, left, left_of_last, MayMove, HasFinished, RunsOut, HasRested, IsRound, all_of, has_room, run_within, LeftIsBounded, EachStepCounts, FairRunsAreAnswered}
+use Rattle.tb_world.proofs.Words.{if◌then◌else◌, list_any, AllByRecursion, or_parts, length-replicate, list_any-append, sum_by-cons, Ticket, all_ended, Event, Push, empty_mailbox, WorldState, is_lawful, senders_after, moved, after_event, run, world_over, IsAtRest, is_push, is_refused, pushed_at, history, HasRun, IsLawfulAtRest, LedgerState, unread, left, left_of_last, MayMove, HasFinished, HasRested, IsRound, all_of, has_room, run_within, LeftIsBounded, EachStepCounts, FairRunsAreAnswered}
 use Rattle.tb_world.proofs.orders.Lawful.{run_more, runs_go_on}
 use Rattle.tb_world.proofs.progress.Steps.{Steps, steps}
 use Rattle.tb_world.proofs.progress.Rests.{MovesWithin, within_parts, moves_within, rests, ends}

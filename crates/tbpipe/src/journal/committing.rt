@@ -4,7 +4,7 @@ ghost use Rattle.std.specs.Prelude.{◌≤◌};
 
 use crate::journal::Journaled;
 use crate::journal::door::Door;
-use crate::journal::fault::{JournalFault, stop_of};
+use crate::journal::fault::{RunFault, stop_of};
 use sqlite_trees::store::Store;
 use std::alloc::{AllocError, Global};
 use tb_core::{Outcomes, Parcel};
@@ -60,15 +60,12 @@ fn put_all(cutter: &mut Cutter, replies: &mut Vec<Reply>) -> Result<(), AllocErr
 
 impl<S: Store + Drop> Committing<S> {
     /// Begins with a ledger and a front that took nothing.
-    pub(crate) fn over(
-        alloc: Global,
-        ledger: DurableLedger<S>,
-    ) -> Result<Committing<S>, JournalFault> {
+    pub(crate) fn over(alloc: Global, ledger: DurableLedger<S>) -> Result<Committing<S>, RunFault> {
         let settings = ledger.settings();
         let numbers = ledger.numbers();
         let Ok(door) = Door::new(alloc, settings.limit, settings.submitters) else {
             drop(ledger);
-            return Err(JournalFault::Open(OpenFault::BadSettings));
+            return Err(RunFault::Open(OpenFault::BadSettings));
         };
         Ok(Committing {
             alloc,
@@ -111,7 +108,7 @@ impl<S: Store + Drop> Committing<S> {
     }
 
     /// Queues a packet with its submitter's next number, or notes why it is refused.
-    fn packet(&mut self, submitter: SubmitterNumber, packet: Packet) -> Result<(), JournalFault> {
+    fn packet(&mut self, submitter: SubmitterNumber, packet: Packet) -> Result<(), RunFault> {
         let sender = submitter.get();
         if sender >= self.settings.submitters {
             drop(packet);
@@ -127,14 +124,14 @@ impl<S: Store + Drop> Committing<S> {
                 self.lines.push(Line::Packet)?;
                 self.pass(sender, Item::Packet(job))?;
             }
-            Err((_packet, Refusal::NoMemory)) => return Err(JournalFault::NoMemory),
+            Err((_packet, Refusal::NoMemory)) => return Err(RunFault::NoMemory),
             Err((_packet, refusal)) => self.lines.push(Line::RefusedPacket(submitter, refusal))?,
         }
         Ok(())
     }
 
     /// Queues a pulse, or notes that its moment is too large. Of one that isn't committed there is no line.
-    fn pulse(&mut self, moment: u64) -> Result<(), JournalFault> {
+    fn pulse(&mut self, moment: u64) -> Result<(), RunFault> {
         if moment > MOMENT_MAX {
             self.lines.push(Line::RefusedPulse)?;
             return Ok(());
@@ -147,7 +144,7 @@ impl<S: Store + Drop> Committing<S> {
         Ok(())
     }
 
-    fn take(&mut self, item: ScriptItem) -> Result<(), JournalFault> {
+    fn take(&mut self, item: ScriptItem) -> Result<(), RunFault> {
         match item {
             ScriptItem::Packet(submitter, packet) => self.packet(submitter, packet),
             ScriptItem::Pulse(moment) => self.pulse(moment),
@@ -167,18 +164,15 @@ impl<S: Store + Drop> Committing<S> {
     }
 
     /// Returns why not all that was queued is committed, apart from packets behind a Close.
-    fn stop(&self) -> Option<JournalFault> {
+    fn stop(&self) -> Option<RunFault> {
         match stop_of(&self.ledger) {
-            None if self.is_refused => Some(JournalFault::NoMemory),
+            None if self.is_refused => Some(RunFault::NoMemory),
             stop => stop,
         }
     }
 
     /// Takes all items and commits what is held at last.
-    pub(crate) fn commit_all(
-        mut self,
-        items: Vec<ScriptItem>,
-    ) -> Result<Journaled<S>, JournalFault> {
+    pub(crate) fn commit_all(mut self, items: Vec<ScriptItem>) -> Result<Journaled<S>, RunFault> {
         let operations = operations_of(self.alloc, &items)?;
         for item in items {
             self.take(item)?;

@@ -13,15 +13,18 @@ use tb_program_text::ProgramFault;
 /// What is known of a path that the system doesn't open.
 const CANNOT_OPEN: OpenFault = OpenFault::File(SqliteError::SqliteFailure(ErrorCode::CannotOpen));
 
+/// A file that another process has open.
+const IS_OPEN: OpenFault = OpenFault::File(SqliteError::SqliteFailure(ErrorCode::DatabaseBusy));
+
 /// A page that isn't as it was written.
 const DAMAGED: OpenFault = OpenFault::File(SqliteError::SqliteFailure(ErrorCode::DatabaseCorrupt));
 
 /// A file that isn't a database, or one that no ledger is in.
-const NO_DATABASE: OpenFault = OpenFault::File(SqliteError::SqliteFailure(ErrorCode::NotADatabase));
+pub(crate) const NO_DATABASE: OpenFault = OpenFault::File(SqliteError::SqliteFailure(ErrorCode::NotADatabase));
 
 /// Why a script or a file wasn't taken, or not to its end.
 #[derive(Clone, Copy, Debug, PartialEq, Eq)]
-pub(crate) enum JournalFault {
+pub(crate) enum RunFault {
     /// There is no file to replay.
     NoFile,
     /// The file is empty, so there is no ledger in it to replay.
@@ -30,6 +33,8 @@ pub(crate) enum JournalFault {
     NoLedger,
     /// The file isn't opened as a ledger.
     Open(OpenFault),
+    /// The file or its log isn't where it was opened, so what the script committed isn't in the file at the path.
+    Moved,
     /// The script gives settings, and the file's ledger has these.
     OtherSettings(Settings),
     /// Standard input can't be read.
@@ -50,35 +55,29 @@ pub(crate) enum JournalFault {
     },
 }
 
-impl JournalFault {
+impl RunFault {
     /// Returns the exit status.
     pub(crate) fn status(&self) -> u8 {
         match self {
-            JournalFault::OtherSettings(_) => 1,
+            RunFault::OtherSettings(_) => 1,
             _ => 2,
         }
     }
 }
 
-impl fmt::Display for JournalFault {
+impl fmt::Display for RunFault {
     fn fmt<W: fmt::Write>(&self, f: &mut fmt::Formatter<W>) -> fmt::Result {
         match self {
-            JournalFault::NoFile => f.write_str("there is no such file"),
-            JournalFault::EmptyFile => f.write_str("the file is empty, and has no ledger"),
-            JournalFault::NoLedger => f.write_str(
+            RunFault::NoFile => f.write_str("there is no such file"),
+            RunFault::EmptyFile => f.write_str("the file is empty, and has no ledger"),
+            RunFault::NoLedger => f.write_str(
                 "the file has no ledger; if its log, whose name ends in -wal, was moved away, put it back",
             ),
-            JournalFault::Open(CANNOT_OPEN) => f.write_str(
-                "the file isn't opened: it must be a plain file with one name, in a folder that is there, and you must be allowed to write both; if a file with its name and -journal is there too, a program was ended as it wrote: run sqlite3 FILE 'select count(*) from sqlite_master'",
+            RunFault::Open(fault) => put_opening(f, fault),
+            RunFault::Moved => f.write_str(
+                "the file or its log was moved or deleted meanwhile, so nothing is printed: what the script committed isn't in the file at this path; put both back together, if you have them",
             ),
-            JournalFault::Open(DAMAGED) => f.write_str(
-                "the file isn't opened: a page of it is damaged, or another SQLite wrote it without its sum: put a copy back, or copy its rows as docs/DURABLE.md says",
-            ),
-            JournalFault::Open(NO_DATABASE) => f.write_str(
-                "the file isn't opened: it isn't an SQLite database as a ledger's is: give a ledger's file",
-            ),
-            JournalFault::Open(fault) => write!(f, "the file isn't opened: {fault}"),
-            JournalFault::OtherSettings(kept) => {
+            RunFault::OtherSettings(kept) => {
                 let Settings {
                     clock,
                     limit,
@@ -89,24 +88,51 @@ impl fmt::Display for JournalFault {
                     "the file's ledger was opened with clock {clock}, limit {limit} and submitters {submitters}, and the script's settings don't fit: change them (a script without `submitters` has two)"
                 )
             }
-            JournalFault::Read => f.write_str("standard input can't be read to its end"),
-            JournalFault::NoThread => f.write_str("a thread couldn't be started"),
-            JournalFault::Write => f.write_str("standard output can't be written"),
-            JournalFault::WriteCommitted => f.write_str(
+            RunFault::Read => f.write_str("standard input can't be read to its end"),
+            RunFault::NoThread => f.write_str("a thread couldn't be started"),
+            RunFault::Write => f.write_str("standard output can't be written"),
+            RunFault::WriteCommitted => f.write_str(
                 "standard output can't be written; what the script committed is in the file, and `replay` shows its accounts",
             ),
-            JournalFault::NoMemory => f.write_str(
+            RunFault::NoMemory => f.write_str(
                 "memory ran out; a part of the script may be in the file, and `replay` shows its accounts",
             ),
-            JournalFault::Stopped { fault, in_doubt } => put_stop(f, fault, *in_doubt),
+            RunFault::Stopped { fault, in_doubt } => put_stop(f, fault, *in_doubt),
         }
     }
 }
 
+/// Says why a file isn't opened as a ledger, and what to do.
+fn put_opening<W: fmt::Write>(f: &mut fmt::Formatter<W>, fault: &OpenFault) -> fmt::Result {
+    f.write_str("the file isn't opened: ")?;
+    match fault {
+        CANNOT_OPEN => f.write_str(
+            "it must be a plain file with one name, in a folder that is there, and you must be allowed to write both; if a file with its name and -journal is there too, a program was ended as it wrote: run sqlite3 FILE 'select count(*) from sqlite_master'",
+        ),
+        IS_OPEN => f.write_str("another process has it open: wait until that has ended"),
+        DAMAGED => f.write_str(
+            "a page of it is damaged: put a copy back; only if you know that another SQLite wrote to it, copy its rows as docs/DURABLE.md says",
+        ),
+        NO_DATABASE => {
+            f.write_str("it isn't an SQLite database as a ledger's is: give a ledger's file")
+        }
+        OpenFault::NotALedger => {
+            f.write_str("it has other tables than a ledger's: give a ledger's file")
+        }
+        OpenFault::OtherVersion(_) => {
+            write!(f, "{fault}, and this program reads version 1: use the one that wrote it")
+        }
+        OpenFault::BadSettings | OpenFault::OutOfPlace(_) | OpenFault::BadEntry(_) => {
+            write!(f, "{fault}, so its rows were changed: put a copy back")
+        }
+        _ => write!(f, "{fault}"),
+    }
+}
+
 /// Returns why a ledger stopped. Returns None if it hasn't.
-pub(crate) fn stop_of<S: Store + Drop>(ledger: &DurableLedger<S>) -> Option<JournalFault> {
+pub(crate) fn stop_of<S: Store + Drop>(ledger: &DurableLedger<S>) -> Option<RunFault> {
     if ledger.stopped() {
-        Some(JournalFault::Stopped {
+        Some(RunFault::Stopped {
             fault: ledger.fault(),
             in_doubt: ledger.in_doubt(),
         })
@@ -132,39 +158,39 @@ fn put_stop<W: fmt::Write>(
     })
 }
 
-impl Error for JournalFault {}
+impl Error for RunFault {}
 
-impl From<OpenFault> for JournalFault {
-    fn from(fault: OpenFault) -> JournalFault {
-        JournalFault::Open(fault)
+impl From<OpenFault> for RunFault {
+    fn from(fault: OpenFault) -> RunFault {
+        RunFault::Open(fault)
     }
 }
 
-impl From<NoMemory> for JournalFault {
-    fn from(_refused: NoMemory) -> JournalFault {
-        JournalFault::NoMemory
+impl From<NoMemory> for RunFault {
+    fn from(_refused: NoMemory) -> RunFault {
+        RunFault::NoMemory
     }
 }
 
-impl<T: Drop> From<AllocFailed<T>> for JournalFault {
-    fn from(_refused: AllocFailed<T>) -> JournalFault {
-        JournalFault::NoMemory
+impl<T: Drop> From<AllocFailed<T>> for RunFault {
+    fn from(_refused: AllocFailed<T>) -> RunFault {
+        RunFault::NoMemory
     }
 }
 
-impl From<AllocError> for JournalFault {
-    fn from(_refused: AllocError) -> JournalFault {
-        JournalFault::NoMemory
+impl From<AllocError> for RunFault {
+    fn from(_refused: AllocError) -> RunFault {
+        RunFault::NoMemory
     }
 }
 
-impl From<ProgramFault> for JournalFault {
-    fn from(fault: ProgramFault) -> JournalFault {
+impl From<ProgramFault> for RunFault {
+    fn from(fault: ProgramFault) -> RunFault {
         match fault {
-            ProgramFault::Write => JournalFault::Write,
-            ProgramFault::NoMemory => JournalFault::NoMemory,
-            ProgramFault::Read => JournalFault::Read,
-            ProgramFault::NoThread => JournalFault::NoThread,
+            ProgramFault::Write => RunFault::Write,
+            ProgramFault::NoMemory => RunFault::NoMemory,
+            ProgramFault::Read => RunFault::Read,
+            ProgramFault::NoThread => RunFault::NoThread,
         }
     }
 }

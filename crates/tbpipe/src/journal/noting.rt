@@ -41,8 +41,7 @@ impl<S: Store + Drop> Noting<S> {
 impl<S: Store + Drop> AnyLedger for Noting<S> {
     ghost use Rattle.tb_durable.specs.clauses.Entries.{IsInFile};
 
-    ghost is = { λ noting ledger. IsInFile (S.Store.recovers noting.ledger.table.store)
-        (S.Store.view noting.ledger.table.store) noting.ledger.bare noting.ledger.counts ledger };
+    ghost is = { λ noting ledger. IsInFile S.Store.view S.Store.recovers noting.ledger ledger };
 
     fn stopped(&self) -> bool {
         AnyLedger::stopped(&self.ledger)

@@ -5,7 +5,7 @@ ghost use Rattle.tb_core.specs.claim.Journal.{LedgerState};
 ghost use Rattle.tb_durable.specs.clauses.Entries.{IsInFile};
 ghost use Rattle.tb_program_text.specs.clauses.Script.{InBounds};
 
-use crate::journal::fault::{JournalFault, stop_of};
+use crate::journal::fault::{RunFault, stop_of};
 use crate::journal::noting::Noting;
 use crate::journal::{Journaled, open_for};
 use sqlite_trees::store::Store;
@@ -45,7 +45,7 @@ fn journaled<S: Store + Drop>(
     put_pulses(&mut text, &ledger.pulses, refused_pulses)?;
     put_state(&mut text, ledger.ledger.machine())?;
     let stop = match stop_of(&ledger.ledger) {
-        None if lacks_memory => Some(JournalFault::NoMemory),
+        None if lacks_memory => Some(RunFault::NoMemory),
         stop => stop,
     };
     Ok(Journaled {
@@ -69,8 +69,7 @@ fn run_noting<R: Threads + Wait + Clock + Sync, S: Store + Drop + Send>(
     script: ScriptParts,
 ) -> Result<RunOver<Noting<S>>, ProgramFault>
     requires bounds { InBounds script.settings }
-    requires known { (now : LedgerState) × IsInFile (S.Store.recovers ledger.table.store)
-        (S.Store.view ledger.table.store) ledger.bare ledger.counts now }
+    requires known { (now : LedgerState) × IsInFile S.Store.view S.Store.recovers ledger now }
     requires goes_on { ledger.bare.stopped ≡ false }
 {
     let noting = Noting {
@@ -82,12 +81,12 @@ fn run_noting<R: Threads + Wait + Clock + Sync, S: Store + Drop + Send>(
 }
 
 /// Commits a script to the ledger of a store, with a thread for each submitter. Packets are numbered from 0, as in each run.
-pub(crate) fn run_script<R: Threads + Wait + Clock + Sync, S: Store + Drop + Send>(
+pub(crate) fn run_journaled<R: Threads + Wait + Clock + Sync, S: Store + Drop + Send>(
     rt: &R,
     alloc: Global,
     store: S,
     script: ScriptParts,
-) -> Result<Journaled<S>, JournalFault>
+) -> Result<Journaled<S>, RunFault>
     requires { InBounds script.settings }
 {
     let ledger = open_for(alloc, store, &script.settings)?;
@@ -95,7 +94,7 @@ pub(crate) fn run_script<R: Threads + Wait + Clock + Sync, S: Store + Drop + Sen
     if kept.limit < 1 || kept.limit > BATCH_MAX || script.settings.submitters() > kept.submitters {
         drop(ledger);
         drop(script);
-        return Err(JournalFault::OtherSettings(kept));
+        return Err(RunFault::OtherSettings(kept));
     }
     let mut script = script;
     script.settings.limit = Some(kept.limit);

@@ -78,7 +78,7 @@ pub(super) fn exchange<R: Wait + Clock + Abort>(
     }
 }
 
-/// Queues a packet at a time with a credit of one, and waits for each reply. One packet is too many in between.
+/// Queues a packet at a time with a credit of one, and waits for each reply but the last. One packet is too many in between.
 fn trade<R: Wait + Clock + Abort>(rt: &R, alloc: Global, client: &mut Client<'_>)
     ensures { origin_of client.new ≡ origin_of client.old }
 {
@@ -91,6 +91,7 @@ fn trade<R: Wait + Clock + Abort>(rt: &R, alloc: Global, client: &mut Client<'_>
     }
     check!(rt; receive(rt, client).is_none());
     check!(rt; exchange(rt, alloc, client, 4) == Ok(Some(OutcomeKind::Committed(3))));
+    check!(rt; submit(rt, alloc, client, 5) == Ok(4));
 }
 
 /// Serves a client that trades in a thread of its own. The control's end is in the queue's only slot until then.
@@ -133,6 +134,6 @@ fn serve_trade<R: Threads + Wait + Clock + Sync + Abort>(
 fn client_with_one_slot_and_one_credit(rt: HostRuntime) {
     let (lone, stop) = open_narrow(&rt, rt.alloc(), 1, 1);
     let report = serve_trade(&rt, rt.alloc(), lone, &stop);
-    assert_run(&rt, report, 4, &[]);
+    assert_run(&rt, report, 5, &[OutcomeKind::Committed(4)]);
     drop(stop);
 }

@@ -1,6 +1,6 @@
 //! Runs over one ledger: what a run leaves goes on in the next one.
 
-ghost use Rattle.std.specs.Prelude.{◌≡◌, ◌∷◌, []};
+ghost use Rattle.std.specs.Prelude.{◌∷◌, []};
 ghost use Rattle.tb_pipe_tests.specs.inside.Together.{AreTogether};
 
 use super::{Lone, finish_lone, open_lone, queue_accounts};

@@ -47,7 +47,7 @@ fn as_many_ends_as_submitters(rt: HostRuntime) {
     }
 }
 
-/// Gives a reply to a packet that was not queued; whether it is taken.
+/// Gives a reply to a packet that was not queued. Returns whether it is taken.
 fn takes_reply(rt: &(impl Abort + Alloc<A = Global>), outlet: &mut Outlet<Reply>) -> bool {
     let packet = sevens(rt.alloc(), 129, 128).expect(rt, "memory");
     let job = job(rt.alloc(), 0, 0, packet).expect(rt, "memory");

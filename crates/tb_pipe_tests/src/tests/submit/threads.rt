@@ -40,7 +40,7 @@ fn submit_one<R: Wait>(
     0
 }
 
-/// Submits `count` packets and ends; whether all were queued.
+/// Submits `count` packets and ends. Returns whether all were queued.
 pub(super) fn submit_all<R: Wait>(rt: &R, alloc: Global, submitter: Submitter, count: u64) -> bool {
     let mut submitter = submitter;
     let mut turns = MOST_TURNS;

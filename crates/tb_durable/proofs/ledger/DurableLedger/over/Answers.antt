@@ -1,5 +1,6 @@
-use Rattle.std.proofs.Common.{subst, sym, rules}
+use Rattle.std.proofs.Common.{false, subst, sym, rules}
 use Rattle.tb_durable.proofs.Words.{Trees, IsLedgerFile}
+use Rattle.tb_durable.proofs.Leaving.{leaves_rows}
 use Rattle.tb_durable.proofs.RunLemmas.{some_kept}
 use Rattle.tb_durable.proofs.ledger.DurableLedger.over.Goals as goal
 
@@ -19,6 +20,7 @@ returns-in-Ok-clause-kept g c =
           subst (λ (t : Trees). IsLedgerFile (t 0) read.counts)
               (sym (g.met.S.Store.settled store db (known.stored clean known.goes_on).0.is_open left)) (known.file clean),
         );
+        leaves = leaves_rows false some.1 known.goes_on (g.met.S.Store.settled store);
       },
     )
 

@@ -22,7 +22,7 @@ returns-clause-opens c = λ after entry.
                 c.batch.new.self.counts) c.batch.ensures.counted,
           )
       | inr pulse ↦
-          absurd (c.if-columns-eq0.false
+          absurd (c.if-columns-eq-PULSE.false
           (is_no_batch place before after row columns.operation columns.moment stubs body has pulse.0))
     ]
 
@@ -37,18 +37,18 @@ returns-clause-entry c =
     (are.0, subst (λ o. AreColumnsOf are.0 o columns.stubs.now columns.body.now) c.in-Ok.ensures.1 are.1) follow)
     c.batch.ensures.are c.batch.ensures.counted
 
-pub returns-then-columns-eq0-clause-entry : goal.returns-then-columns-eq0-clause-entry
-returns-then-columns-eq0-clause-entry c =
+pub returns-then-columns-eq-PULSE-clause-entry : goal.returns-then-columns-eq-PULSE-clause-entry
+returns-then-columns-eq-PULSE-clause-entry c =
     let place = c.args.self.now.ledger.places in
     let columns = c.in-Some.columns in
     let at : rowid c.args.row.now ≡ Int (pos place) = search rules in
     on_ok_weaker c.pulse.result (λ low.
     pulse_accepted place c.args.row.now columns.operation columns.moment columns.stubs.now columns.body.now c.in-Some.ensures.some
-    at c.args.self.now.counts c.pulse.new.self.counts c.if-columns-eq0.true low c.pulse.ensures.counts)
+    at c.args.self.now.counts c.pulse.new.self.counts c.if-columns-eq-PULSE.true low c.pulse.ensures.counts)
     c.pulse.ensures.low
 
-pub returns-then-columns-eq0-clause-opens : goal.returns-then-columns-eq0-clause-opens
-returns-then-columns-eq0-clause-opens c = λ after entry.
+pub returns-then-columns-eq-PULSE-clause-opens : goal.returns-then-columns-eq-PULSE-clause-opens
+returns-then-columns-eq-PULSE-clause-opens c = λ after entry.
     let place = c.args.self.now.ledger.places in
     let before = c.args.self.now.counts in
     let columns = c.in-Some.columns in
@@ -56,7 +56,7 @@ returns-then-columns-eq0-clause-opens c = λ after entry.
     elim entry [
       | inl batch ↦
           absurd (is_no_pulse place before after c.args.row.now columns.operation columns.moment columns.stubs.now columns.body.now has
-          batch c.if-columns-eq0.true)
+          batch c.if-columns-eq-PULSE.true)
       | inr pulse ↦
           let low = low_moment place before after c.args.row.now columns.operation columns.moment columns.stubs.now columns.body.now has
           pulse.0 in (
@@ -77,6 +77,6 @@ returns-in_default-try_from-clause-opens c = λ after entry.
           columns.body.now has batch in
           absurd (omega (arith, small, c.in_default-try_from.ensures))
       | inr pulse ↦
-          absurd (c.if-columns-eq0.false (is_no_batch place before after c.args.row.now columns.operation columns.moment
+          absurd (c.if-columns-eq-PULSE.false (is_no_batch place before after c.args.row.now columns.operation columns.moment
           columns.stubs.now columns.body.now has pulse.0))
     ]
