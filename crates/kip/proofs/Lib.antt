@@ -1,5 +1,5 @@
 pub mod Words
 mod Values
 mod AsBox
-mod Moved
+mod Refused
 mod Written

@@ -1,9 +1,9 @@
--- What a call did to an engine that was taken out of its handle and put back.
-use Rattle.std.proofs.Common.{◌≡◌, refl, sym, subst, ap, ◌∙◌, arith, ℕ, Option, Some, None, Bor, inl, inr, ◌≤◌, nat_lt, not, true, false, List, length}
-use Rattle.kip.proofs.Words.{Result, Ok, Err, IsOk, OnOk, ChangesEngine, EngineState, RecordedState, readable}
+-- What is refused, or there is nothing to read, before anything was done.
+use Rattle.std.proofs.Common.{◌≡◌, refl, sym, ap, ◌∙◌, arith, ℕ, Option, Some, None, Bor, inl, inr, ◌≤◌, nat_lt, not, true, false, List, length}
+use Rattle.kip.proofs.Words.{RecordedState, readable}
 use Rattle.std.specs.Option.{option_copied}
 use Rattle.tb_work.specs.claim.Packet.{ReplyValue}
-use Rattle.kip.specs.clauses.Handle.{Becomes, Moves, IsPeek, no_reply, open_refusal}
+use Rattle.kip.specs.clauses.Handle.{IsPeek, no_reply, open_refusal}
 use Rattle.kip.specs.declared.reading.KipReply.{KipReply}
 use Rattle.std.specs.Prelude.{◌==◌}
 use Rattle.std.proofs.lemmas.Bool.Decides.{nat_tests}
@@ -13,20 +13,6 @@ use Rattle.tb_work.specs.declared.refusal.Refusal.TheVariants.{InvalidDataSize}
 use Rattle.tb_embed.specs.declared.restoring.RestoreFault.TheVariants.{Refused}
 use Rattle.kip.specs.clauses.Entries.{restore_fault}
 use Rattle.kip.specs.declared.entries.KipEntry.{KipEntry}
-
-pub became : (R : RecordedState → RecordedState → Type 0) (old new : Option RecordedState) (x y : RecordedState) → old ≡ Some x
-    → new ≡ Some y → R x y → Becomes R old new
-became R old new x y was now holds =
-    subst (Becomes R old) (sym now) (subst (λ old. Becomes R old (Some y)) (sym was) holds)
-
--- of its engine, and nothing else changed
-pub moved : (R : EngineState → EngineState → Type 0) (old new : Option RecordedState) (x y : RecordedState) → old ≡ Some x
-    → new ≡ Some y → R x.engine y.engine × ChangesEngine x y → Moves R old new
-moved R old new x y was now holds = became (λ old new. R old.engine new.engine × ChangesEngine old new) old new x y was now holds
-
-pub on_ok : {A E : Type 0} {P : Type 0} (result : Result A E) → IsOk result → OnOk result P → P
-on_ok (Ok value) is holds = holds
-on_ok (Err error) is holds = cc
 
 -- without a next reply none can be read
 pub none_to_read : (head : KipReply) (buffer : List ℕ) (host : RecordedState) (found : Option (Bor ReplyValue)) → found ≡ None

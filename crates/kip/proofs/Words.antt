@@ -6,13 +6,12 @@ pub use Rattle.core.specs.contracts.alloc.Allocator.TheBound.{Met as Allocates}
 pub use Rattle.core.specs.declared.alloc.Allocator.{Ghosts}
 pub use Rattle.std.proofs.raw_atomic.Walks.{proved_at, leaves}
 pub use Rattle.std.specs.List.{flat_map}
-pub use Rattle.std.specs.Prelude.{Option, Some, None, is_some, true, Result, Ok, Err, IsOk, OnOk}
+pub use Rattle.std.specs.Prelude.{Option, Some, None, is_some, true}
 pub use Rattle.std_alloc.proofs.BoxSteps.Form.{Bx, D, B, τ, word, handle, box_typed}
 pub use Rattle.std_alloc.proofs.BoxSteps.Steps.{box_out, box_in}
 pub use Rattle.std_alloc.proofs.ResultValues.{and_tt}
 pub use Rattle.std_alloc.specs.Box.Ownership.{box_owns}
-pub use Rattle.tb_embed.specs.clauses.Engine.{EngineState, Queues}
-pub use Rattle.tb_embed.specs.clauses.Recorded.{ChangesEngine, RecordedState, readable}
+pub use Rattle.tb_embed.specs.clauses.Recorded.{RecordedState, readable}
 pub use Rattle.tb_layout.specs.clauses.Failure.{failure_bytes}
 pub use Rattle.tb_layout.specs.clauses.Records.{account_bytes}
 pub use base.Fml.{Lft, GName, Share, Fml, ftrue, flft, fsep}

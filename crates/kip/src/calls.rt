@@ -17,6 +17,7 @@ use crate::counts::KipCounts;
 use crate::entries::{KipEntry, hand_out, restore, store};
 use crate::handle::Kip;
 use crate::reading::{KipReply, head_of, put_results};
+use crate::status::{ALREADY_OPEN, CLOSED, NO_REPLY, NOT_FOUND, TOO_SMALL};
 use std::alloc::{AllocError, Global};
 use tb_embed::{Engine, RecordedEngine, Seed};
 use tb_layout::{Account, CLOCK_MAX, Transfer, U64_VALUES, write_account, write_transfer};
@@ -25,21 +26,6 @@ use tb_work::{Bytes, Packet, Refusal};
 
 /// Version 0.1.0, a byte for each number.
 const VERSION: u32 = 0x0000_0100;
-
-/// The handle is closed.
-const CLOSED: u32 = 100;
-
-/// The handle is open.
-const ALREADY_OPEN: u32 = 101;
-
-/// No reply is unread.
-const NO_REPLY: u32 = 102;
-
-/// The buffer is too small for the results.
-const TOO_SMALL: u32 = 103;
-
-/// There is no such account or transfer.
-const NOT_FOUND: u32 = 104;
 
 /// Returns the version of the library: major, minor and patch in a byte each, patch lowest.
 #[unsafe(no_mangle)]
@@ -204,21 +190,14 @@ pub extern "C" fn kip_open_recorded(
 
 /// Reserves capacity for accounts and transfers that are still to be made.
 #[unsafe(no_mangle)]
-pub extern "C" fn kip_reserve(
-    alloc: Global,
-    kip: &mut Kip,
-    accounts: usize,
-    transfers: usize,
-) -> u32
+pub extern "C" fn kip_reserve(kip: &mut Kip, accounts: usize, transfers: usize) -> u32
     ensures status { IsStatusOf (λ engine. None) kip.old.pointer.engine result }
     ensures same { kip.new.pointer.engine ≡ kip.old.pointer.engine }
 {
-    let Some(mut engine) = kip.take(alloc) else {
+    let Some(engine) = kip.engine() else {
         return CLOSED;
     };
-    let status = status_of(engine.reserve(accounts, transfers));
-    kip.put(engine);
-    status
+    status_of(engine.reserve(accounts, transfers))
 }
 
 /// Closes a handle and frees the engine inside it.
@@ -320,7 +299,7 @@ pub extern "C" fn kip_submit_bytes(
         kip.old.pointer.engine result }
     ensures same { (result ≡ 0 → ⊥) → (kip.new.pointer.engine ≡ kip.old.pointer.engine) × (number.new ≡ number.old) }
 {
-    let Some(mut engine) = kip.take(alloc) else {
+    let Some(engine) = kip.engine() else {
         return CLOSED;
     };
     match checked_packet(
@@ -331,66 +310,53 @@ pub extern "C" fn kip_submit_bytes(
         bytes,
         user_data,
     ) {
-        Ok(packet) => {
-            let status = submit(alloc, &mut engine, submitter, packet, number);
-            kip.put(engine);
-            status
-        }
-        Err(refusal) => {
-            kip.put(engine);
-            refusal.number()
-        }
+        Ok(packet) => submit(alloc, engine, submitter, packet, number),
+        Err(refusal) => refusal.number(),
     }
 }
 
 /// Queues a pulse: a moment in nanoseconds to which the clock is raised.
 #[unsafe(no_mangle)]
-pub extern "C" fn kip_pulse(alloc: Global, kip: &mut Kip, nanoseconds: u64) -> u32
+pub extern "C" fn kip_pulse(kip: &mut Kip, nanoseconds: u64) -> u32
     ensures ok { result ≡ 0 → Becomes (λ old new. Queues old.engine
         (ticket_of old.engine.front.submitters (item.Pulse nanoseconds)) new.engine) kip.old.pointer.engine kip.new.pointer.engine }
     ensures recorded { result ≡ 0 → Becomes (λ old new. PulsesRecorded old nanoseconds new) kip.old.pointer.engine kip.new.pointer.engine }
     ensures status { IsStatusOf (λ engine. pulse_refusal engine nanoseconds) kip.old.pointer.engine result }
     ensures same { (result ≡ 0 → ⊥) → kip.new.pointer.engine ≡ kip.old.pointer.engine }
 {
-    let Some(mut engine) = kip.take(alloc) else {
+    let Some(engine) = kip.engine() else {
         return CLOSED;
     };
-    let status = status_of(engine.pulse(nanoseconds));
-    kip.put(engine);
-    status
+    status_of(engine.pulse(nanoseconds))
 }
 
 /// Queues the Close: packets after it aren't committed.
 #[unsafe(no_mangle)]
-pub extern "C" fn kip_shut(alloc: Global, kip: &mut Kip) -> u32
+pub extern "C" fn kip_shut(kip: &mut Kip) -> u32
     ensures ok { result ≡ 0 → Moves (λ old new. Queues old
         (ticket_of old.front.submitters item.Close) new) kip.old.pointer.engine kip.new.pointer.engine }
     ensures status { IsStatusOf shut_refusal kip.old.pointer.engine result }
     ensures same { (result ≡ 0 → ⊥) → kip.new.pointer.engine ≡ kip.old.pointer.engine }
 {
-    let Some(mut engine) = kip.take(alloc) else {
+    let Some(engine) = kip.engine() else {
         return CLOSED;
     };
-    let status = status_of(engine.shut());
-    kip.put(engine);
-    status
+    status_of(engine.shut())
 }
 
 /// Commits the packets that are held.
 #[unsafe(no_mangle)]
-pub extern "C" fn kip_flush(alloc: Global, kip: &mut Kip) -> u32
+pub extern "C" fn kip_flush(kip: &mut Kip) -> u32
     ensures ok { result ≡ 0 → Moves (λ old new. Continues old new) kip.old.pointer.engine kip.new.pointer.engine }
     ensures held { result ≡ 0 → IsOpen (λ engine. engine.front.held ≡ []) kip.new.pointer.engine }
     ensures needed { result ≡ number_of NoMemoryRefusal → IsOpen (λ engine. 0 < length engine.front.held) kip.old.pointer.engine }
     ensures status { IsStatusOf (λ engine. None) kip.old.pointer.engine result }
     ensures same { (result ≡ 0 → ⊥) → kip.new.pointer.engine ≡ kip.old.pointer.engine }
 {
-    let Some(mut engine) = kip.take(alloc) else {
+    let Some(engine) = kip.engine() else {
         return CLOSED;
     };
-    let status = status_of(engine.flush());
-    kip.put(engine);
-    status
+    status_of(engine.flush())
 }
 
 /// Writes the head of the next reply, which stays, and its results if they fit.
@@ -423,52 +389,36 @@ fn read(engine: &mut RecordedEngine, head: &mut KipReply, results: &mut [u8]) ->
 /// Reads the next reply, in the order of the packets, with its results: 8 bytes a failure, or 128 an account. If they are
 /// too many for the buffer, the reply stays and its head has their size.
 #[unsafe(no_mangle)]
-pub extern "C" fn kip_reply_bytes(
-    alloc: Global,
-    kip: &mut Kip,
-    reply: &mut KipReply,
-    results: &mut [u8],
-) -> u32
+pub extern "C" fn kip_reply_bytes(kip: &mut Kip, reply: &mut KipReply, results: &mut [u8]) -> u32
     ensures { IsReadingOf result reply.new results.old results.new kip.old.pointer.engine kip.new.pointer.engine }
 {
-    let Some(mut engine) = kip.take(alloc) else {
+    let Some(engine) = kip.engine() else {
         return CLOSED;
     };
-    let status = read(&mut engine, reply, results);
-    kip.put(engine);
-    status
+    read(engine, reply, results)
 }
 
 /// Hands out the next entry of the journal, with a packet's data. If the data needs more than the buffer has, the entry stays the next
 /// one, and its head has the size.
 #[unsafe(no_mangle)]
-pub extern "C" fn kip_entry_bytes(
-    alloc: Global,
-    kip: &mut Kip,
-    entry: &mut KipEntry,
-    bytes: &mut [u8],
-) -> u32
+pub extern "C" fn kip_entry_bytes(kip: &mut Kip, entry: &mut KipEntry, bytes: &mut [u8]) -> u32
     ensures { IsHandingOutOf result (entry.old, entry.new) (bytes.old, bytes.new) kip.old.pointer.engine kip.new.pointer.engine }
 {
-    let Some(mut engine) = kip.take(alloc) else {
+    let Some(engine) = kip.engine() else {
         return CLOSED;
     };
-    let status = hand_out(&mut engine, entry, bytes);
-    kip.put(engine);
-    status
+    hand_out(engine, entry, bytes)
 }
 
 /// Notes that all packets and pulses at places below a number are stored: the replies to those packets can be read.
 #[unsafe(no_mangle)]
-pub extern "C" fn kip_durable(alloc: Global, kip: &mut Kip, places: u64) -> u32
+pub extern "C" fn kip_durable(kip: &mut Kip, places: u64) -> u32
     ensures { IsStoringOf result places kip.old.pointer.engine kip.new.pointer.engine }
 {
-    let Some(mut engine) = kip.take(alloc) else {
+    let Some(engine) = kip.engine() else {
         return CLOSED;
     };
-    let status = store(&mut engine, places);
-    kip.put(engine);
-    status
+    store(engine, places)
 }
 
 /// Commits an entry of a journal again, by itself and at the next place.
@@ -481,12 +431,10 @@ pub extern "C" fn kip_restore_bytes(
 ) -> u32
     ensures { IsRestoringOf result entry.now bytes.now kip.old.pointer.engine kip.new.pointer.engine }
 {
-    let Some(mut engine) = kip.take(alloc) else {
+    let Some(engine) = kip.engine() else {
         return CLOSED;
     };
-    let status = restore(alloc, &mut engine, entry, bytes);
-    kip.put(engine);
-    status
+    restore(alloc, engine, entry, bytes)
 }
 
 /// Writes an account that was found, in 128 bytes.

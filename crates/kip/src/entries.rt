@@ -8,30 +8,13 @@ ghost use Rattle.kip.specs.clauses.Results.{AreWritten};
 
 use crate::calls::packet_of;
 use crate::reading::{head_of, put_bytes};
+use crate::status::{IN_USE, NO_ENTRY, NOT_HANDED_OUT, NOT_NEXT, NOT_RECORDED, TOO_SMALL};
 use std::alloc::{AllocError, Global};
 use tb_embed::{PlacedPacket, PlacedPulse, RecordedEngine, RestoreFault};
 use tb_work::{Refusal, Reply};
 
 /// What a pulse has for an operation.
 const PULSE: u32 = 0;
-
-/// The buffer is too small for the data.
-const TOO_SMALL: u32 = 103;
-
-/// Nothing is left to be handed out.
-const NO_ENTRY: u32 = 107;
-
-/// An entry isn't the next by its place, or by its number among its submitter's.
-const NOT_NEXT: u32 = 108;
-
-/// A packet is held, a reply is unread, a pulse isn't handed out, or the engine is shut.
-const IN_USE: u32 = 109;
-
-/// The host doesn't keep the journal.
-const NOT_RECORDED: u32 = 110;
-
-/// Something at a lower place wasn't handed out.
-const NOT_HANDED_OUT: u32 = 111;
 
 /// The head of an entry of the journal, whose data are a packet's events.
 #[repr(C)]

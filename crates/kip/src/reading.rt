@@ -6,6 +6,7 @@ ghost use Rattle.tb_layout.specs.clauses.Records.{account_bytes};
 ghost use Rattle.tb_layout.specs.clauses.Failure.{failure_bytes};
 ghost use Rattle.kip.specs.clauses.Results.{AreWritten, IsHeadOf, answer_bytes, answer_size, result_bytes, result_size};
 
+use crate::status::{OUTCOME_COMMITTED, OUTCOME_SHUTDOWN, OUTCOME_STOPPED};
 use tb_layout::{Account, Answer, Failure, write_account, write_failure};
 use tb_work::{Outcome, Reply};
 
@@ -22,7 +23,7 @@ pub struct KipReply {
     /// How many bytes its results have.
     pub size: u64,
     pub submitter: u32,
-    /// 0 committed, 7 shut down, 8 stopped.
+    /// One of those in `status`.
     pub outcome: u32,
     pub operation: u32,
     pub reserved: u32,
@@ -42,9 +43,9 @@ pub(crate) fn head_of(reply: &Reply) -> KipReply
     ensures { IsHeadOf result reply.now }
 {
     let (outcome, place, size) = match &reply.outcome {
-        Outcome::Committed { place, answer } => (0, *place, size_of_answer(answer)),
-        Outcome::Shutdown => (7, 0, 0),
-        Outcome::Stopped => (8, 0, 0),
+        Outcome::Committed { place, answer } => (OUTCOME_COMMITTED, *place, size_of_answer(answer)),
+        Outcome::Shutdown => (OUTCOME_SHUTDOWN, 0, 0),
+        Outcome::Stopped => (OUTCOME_STOPPED, 0, 0),
     };
     KipReply {
         user_data: reply.packet.user,

@@ -73,7 +73,7 @@ impl fmt::Display for RunFault {
             RunFault::NoLedger => f.write_str(
                 "the file has no ledger; if its log, whose name ends in -wal, was moved away, put it back",
             ),
-            RunFault::Open(fault) => put_opening(f, fault),
+            RunFault::Open(fault) => put_opening(f, *fault),
             RunFault::Moved => f.write_str(
                 "the file or its log was moved or deleted meanwhile, so nothing is printed: what the script committed isn't in the file at this path; put both back together, if you have them",
             ),
@@ -103,7 +103,7 @@ impl fmt::Display for RunFault {
 }
 
 /// Says why a file isn't opened as a ledger, and what to do.
-fn put_opening<W: fmt::Write>(f: &mut fmt::Formatter<W>, fault: &OpenFault) -> fmt::Result {
+fn put_opening<W: fmt::Write>(f: &mut fmt::Formatter<W>, fault: OpenFault) -> fmt::Result {
     f.write_str("the file isn't opened: ")?;
     match fault {
         CANNOT_OPEN => f.write_str(

@@ -1,5 +1,5 @@
 use Rattle.std.proofs.Common.{refl, inr}
-use Rattle.kip.proofs.Moved.{opens}
+use Rattle.kip.proofs.Refused.{opens}
 use Rattle.kip.proofs.calls.open.Goals as goal
 
 pub returns-in_default-clause-refusal : goal.returns-in_default-clause-refusal

@@ -1,4 +1,4 @@
-use Rattle.kip.proofs.Moved.{none_to_read}
+use Rattle.kip.proofs.Refused.{none_to_read}
 use Rattle.kip.proofs.calls.peek.Goals as goal
 
 pub returns-in_default : goal.returns-in_default

@@ -1,7 +1,7 @@
 use Rattle.std.proofs.Common.{refl, sym, ◌∙◌, arith, inl, inr}
 use Rattle.tb_work.specs.declared.refusal.Refusal.TheVariants.{InvalidDataSize}
 use Rattle.tb_embed.specs.declared.restoring.RestoreFault.TheVariants.{Refused}
-use Rattle.kip.proofs.Moved.{another_size}
+use Rattle.kip.proofs.Refused.{another_size}
 use Rattle.kip.proofs.entries.restore.Goals as goal
 
 pub returns-then-entry-bytes : goal.returns-then-entry-bytes
