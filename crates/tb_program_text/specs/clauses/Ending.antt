@@ -38,8 +38,8 @@ text_of FaultyScript = []
 text_of NotAllSucceeded = []
 text_of NotAllCommitted = []
 text_of Help = codes
-    "usage: tbpipe list|run [--names] [--strict] [--journal FILE] < SCRIPT\n       tbpipe replay FILE\n\nCommits the packets of a script to a ledger, and prints the result of each. The ledger is in memory, or in a file.\n\n  list            in one thread\n  run             in a pipeline with a thread for each submitter\n  replay          prints the clock and the accounts of the ledger in a file\n  --journal FILE  commits to the ledger in a file, and continues it; the file is made if it isn't there\n  --names         prints the name of each failure's code after it, as 1:22:credit_account_not_found\n  --strict        ends with status 1 unless all is committed and no event failed, and says what isn't\n  --help          prints this\n  --version       prints the version and the kit that proved it\n\nScripts and output: docs/FORMATS.md; files: docs/DURABLE.md; tools/name-codes names the codes of a saved output. The exit\nstatus is 0, or 1 for a faulty script, other arguments or other settings than the file's, or 2 if the program failed.\n"
-text_of Version = codes "tbpipe 0.1.0\nrattle-kit-13b logic dac8208d650f15bf\n"
+    "usage: tbpipe list|run [--names] [--strict] [--journal FILE] < SCRIPT\n       tbpipe replay FILE\n\nCommits the packets of a script to a ledger, and prints the result of each. The ledger is in memory, or in a file.\n\n  list            in one thread\n  run             in a pipeline with a thread for each submitter\n  replay          prints the clock and the accounts of the ledger in a file\n  --journal FILE  commits to the ledger in a file, and continues it; the file is made if it isn't there\n  --names         prints the name of each failure's code after it, as 1:22:credit_account_not_found\n  --strict        ends with status 1 unless all is committed and no event failed, and says what isn't\n  --help          prints this\n  --version       prints the version, and in which logic it is proved\n\nScripts and output: docs/FORMATS.md; files: docs/DURABLE.md; tools/name-codes names the codes of a saved output. The exit\nstatus is 0, or 1 for a faulty script, other arguments or other settings than the file's, or 2 if the program failed.\n"
+text_of Version = codes "tbpipe 0.1.0\nlogic dac8208d650f15bf\n"
 text_of Usage = codes "usage: tbpipe list|run\n"
 text_of (Failed fault) = fault_text fault
 

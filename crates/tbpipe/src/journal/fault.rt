@@ -20,7 +20,9 @@ const IS_OPEN: OpenFault = OpenFault::File(SqliteError::SqliteFailure(ErrorCode:
 const DAMAGED: OpenFault = OpenFault::File(SqliteError::SqliteFailure(ErrorCode::DatabaseCorrupt));
 
 /// A file that isn't a database, or one that no ledger is in.
-pub(crate) const NO_DATABASE: OpenFault = OpenFault::File(SqliteError::SqliteFailure(ErrorCode::NotADatabase));
+pub(crate) const NO_DATABASE: OpenFault = OpenFault::File(SqliteError::SqliteFailure(
+    ErrorCode::NotADatabase,
+));
 
 /// Why a script or a file wasn't taken, or not to its end.
 #[derive(Clone, Copy, Debug, PartialEq, Eq)]
@@ -120,7 +122,10 @@ fn put_opening<W: fmt::Write>(f: &mut fmt::Formatter<W>, fault: OpenFault) -> fm
             f.write_str("it has other tables than a ledger's: give a ledger's file")
         }
         OpenFault::OtherVersion(_) => {
-            write!(f, "{fault}, and this program reads version 1: use the one that wrote it")
+            write!(
+                f,
+                "{fault}, and this program reads version 1: use the one that wrote it"
+            )
         }
         OpenFault::BadSettings | OpenFault::OutOfPlace(_) | OpenFault::BadEntry(_) => {
             write!(f, "{fault}, so its rows were changed: put a copy back")
