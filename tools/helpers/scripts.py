@@ -72,6 +72,9 @@ class Script:
 
 def program_path():
     """Returns the path of the program that ./tbpipe runs. If it isn't built, ./tbpipe has said how to build it."""
+    # (an archive of tools/release has the program itself)
+    if (TOP / "bin/tbpipe").exists():
+        return str(TOP / "bin/tbpipe")
     asked = subprocess.run([TOP / "tbpipe", "--which"], stdout=subprocess.PIPE, text=True)
     if asked.returncode != 0:
         sys.exit(asked.returncode)
