@@ -14,7 +14,7 @@ mod opening;
 mod running;
 
 use crate::journal::committing::Committing;
-use crate::journal::opening::open_at;
+use crate::journal::opening::{OpenedStore, open_at};
 use crate::journal::running::run_journaled;
 pub(crate) use fault::RunFault;
 use sqlite_trees::store::Store;
@@ -138,15 +138,31 @@ fn of_faulty(alloc: Global, faulty: FaultyScript) -> Journaled<LedgerFile> {
 
 /// Commits a script to the ledger of a store, in its order.
 fn list_script<S: Store + Drop>(
-    alloc: Global,
-    store: S,
+    rt: &HostRuntime,
+    opened: OpenedStore<'_, S>,
     script: ScriptParts,
 ) -> Result<Journaled<S>, RunFault>
     requires { InBounds script.settings }
 {
+    let (store, presence) = opened.divide(rt)?;
     let ScriptParts { settings, items } = script;
-    let ledger = open_for(alloc, store, &settings)?;
-    Committing::over(alloc, ledger)?.commit_all(items)
+    let ledger = open_for(rt.alloc(), store, &settings)?;
+    let made = Committing::over(rt.alloc(), ledger)?.commit_all(items)?;
+    presence.finish(rt, made)
+}
+
+/// Commits a script to the ledger of a store by a pipeline.
+fn run_script<T: Threads + Wait + Clock + Sync, S: Store + Drop + Send>(
+    rt: &HostRuntime,
+    threads: &T,
+    opened: OpenedStore<'_, S>,
+    script: ScriptParts,
+) -> Result<Journaled<S>, RunFault>
+    requires { InBounds script.settings }
+{
+    let (store, presence) = opened.divide(rt)?;
+    let made = run_journaled(threads, rt.alloc(), store, script)?;
+    presence.finish(rt, made)
 }
 
 /// Reads a script. Of a faulty one it returns what is written instead, and nothing is committed.
@@ -162,10 +178,7 @@ fn read_script(rt: &HostRuntime) -> Result<Result<ScriptParts, Journaled<LedgerF
 /// Reads a script and commits it to the ledger at a path, in its order. Returns what is written of it, as `tb_program::list_output` does.
 pub(crate) fn list_into(rt: &HostRuntime, path: &str) -> Result<Journaled<LedgerFile>, RunFault> {
     match read_script(rt)? {
-        Ok(script) => {
-            let (store, opening) = open_at(rt, path)?;
-            opening.finish(rt, list_script(rt.alloc(), store, script)?)
-        }
+        Ok(script) => list_script(rt, open_at(rt, path)?, script),
         Err(faulty) => Ok(faulty),
     }
 }
@@ -177,10 +190,7 @@ pub(crate) fn run_into<T: Threads + Wait + Clock + Sync>(
     path: &str,
 ) -> Result<Journaled<LedgerFile>, RunFault> {
     match read_script(rt)? {
-        Ok(script) => {
-            let (store, opening) = open_at(rt, path)?;
-            opening.finish(rt, run_journaled(threads, rt.alloc(), store, script)?)
-        }
+        Ok(script) => run_script(rt, threads, open_at(rt, path)?, script),
         Err(faulty) => Ok(faulty),
     }
 }

@@ -20,9 +20,7 @@ const IS_OPEN: OpenFault = OpenFault::File(SqliteError::SqliteFailure(ErrorCode:
 const DAMAGED: OpenFault = OpenFault::File(SqliteError::SqliteFailure(ErrorCode::DatabaseCorrupt));
 
 /// A file that isn't a database, or one that no ledger is in.
-pub(crate) const NO_DATABASE: OpenFault = OpenFault::File(SqliteError::SqliteFailure(
-    ErrorCode::NotADatabase,
-));
+const NO_DATABASE: OpenFault = OpenFault::File(SqliteError::SqliteFailure(ErrorCode::NotADatabase));
 
 /// Why a script or a file wasn't taken, or not to its end.
 #[derive(Clone, Copy, Debug, PartialEq, Eq)]

@@ -1,14 +1,11 @@
 //! Opening a ledger's file for a script, and looking at its end whether the file is still there.
 
 use crate::journal::Journaled;
-use crate::journal::fault::{NO_DATABASE, RunFault};
-use std::alloc::Global;
+use crate::journal::fault::RunFault;
+use sqlite_trees::store::Store;
 use std::fs;
 use std::os::unix::fs::MetadataExt;
 use tb_durable::{LedgerFile, PAGE_SIZE, has_log, open_file};
-
-/// The bytes of a database's header. SQLite takes a file of a single byte for an empty one.
-const HEADER_SIZE: u64 = 100;
 
 /// What is said once a ledger was begun in a file of one page. Such a file is left if its making failed, or if its log was moved away.
 const BEGUN_ANEW: &str =
@@ -30,39 +27,39 @@ fn file_at(rt: &HostRuntime, path: &str) -> Option<FileId> {
     })
 }
 
-/// Returns the length of the file at a path. None if no file is seen there, or it is empty.
-fn length_at(rt: &HostRuntime, path: &str) -> Option<u64> {
+/// Returns whether a file is at a path that has no table, and no log that may have one.
+fn lacks_log(rt: &HostRuntime, path: &str) -> Result<bool, RunFault> {
     match fs::metadata(rt, path) {
-        Ok(file) if file.len() > 0 => Some(file.len()),
-        _ => None,
+        Ok(file) if file.len() > 0 && file.len() <= PAGE_SIZE => Ok(!has_log(rt, path)?),
+        _ => Ok(false),
     }
 }
 
 /// Where a ledger's file and its log were opened, without symbolic links, and which files they were.
 #[derive(Drop)]
-pub(crate) struct Opening {
+pub(crate) struct Presence {
     path: String,
     log: String,
     files: Option<(FileId, FileId)>,
-    /// A file of one page was there, and no log.
+    /// A file without a table was there, and no log.
     lacked_log: bool,
 }
 
-impl Opening {
+impl Presence {
     /// Notes the files of a ledger that was just opened at a path.
-    fn of(rt: &HostRuntime, path: &str, lacked_log: bool) -> Result<Opening, RunFault> {
+    fn of(rt: &HostRuntime, path: &str, lacked_log: bool) -> Result<Presence, RunFault> {
         let Ok(real) = fs::canonicalize(rt, path) else {
             return Err(RunFault::Moved);
         };
         let real = real.as_str();
-        let mut opening = Opening {
+        let mut presence = Presence {
             path: format!(in rt.alloc(); "{real}")?,
             log: format!(in rt.alloc(); "{real}-wal")?,
             files: None,
             lacked_log,
         };
-        opening.files = opening.files_now(rt);
-        Ok(opening)
+        presence.files = presence.files_now(rt);
+        Ok(presence)
     }
 
     /// Returns the file and the log that are there now. None unless both are.
@@ -73,11 +70,11 @@ impl Opening {
 
     /// Returns what was made of a script if the files that it was committed to are still there. Says so if a ledger was begun in a file that
     /// may have had another.
-    pub(crate) fn finish(
+    pub(crate) fn finish<S: Store + Drop>(
         self,
         rt: &HostRuntime,
-        made: Journaled<LedgerFile>,
-    ) -> Result<Journaled<LedgerFile>, RunFault> {
+        made: Journaled<S>,
+    ) -> Result<Journaled<S>, RunFault> {
         let now = self.files_now(rt);
         if now.is_none() || now != self.files {
             drop(made);
@@ -91,19 +88,41 @@ impl Opening {
     }
 }
 
-/// Opens the file at a path, or makes it.
-pub(crate) fn open_at(rt: &HostRuntime, path: &str) -> Result<(LedgerFile, Opening), RunFault> {
-    let length = length_at(rt, path);
-    if length.is_some_and(|length| length < HEADER_SIZE) {
-        return Err(RunFault::Open(NO_DATABASE));
-    }
-    let lacked_log = length.is_some_and(|length| length <= PAGE_SIZE) && !has_log(rt, path)?;
-    let store = open_file(rt, path)?;
-    match Opening::of(rt, path, lacked_log) {
-        Ok(opening) => Ok((store, opening)),
-        Err(fault) => {
-            drop(store);
-            Err(fault)
+/// A store that was just opened at a path.
+#[derive(Drop)]
+pub(crate) struct OpenedStore<'a, S> {
+    store: S,
+    path: &'a str,
+    lacked_log: bool,
+}
+
+impl<'a, S: Store + Drop> OpenedStore<'a, S> {
+    /// Returns the store, and which files it has.
+    pub(crate) fn divide(self, rt: &HostRuntime) -> Result<(S, Presence), RunFault> {
+        let OpenedStore {
+            store,
+            path,
+            lacked_log,
+        } = self;
+        match Presence::of(rt, path, lacked_log) {
+            Ok(presence) => Ok((store, presence)),
+            Err(fault) => {
+                drop(store);
+                Err(fault)
+            }
         }
     }
+}
+
+/// Opens the file at a path, or makes it.
+pub(crate) fn open_at<'a>(
+    rt: &HostRuntime,
+    path: &'a str,
+) -> Result<OpenedStore<'a, LedgerFile>, RunFault> {
+    let lacked_log = lacks_log(rt, path)?;
+    Ok(OpenedStore {
+        store: open_file(rt, path)?,
+        path,
+        lacked_log,
+    })
 }
