@@ -10,10 +10,11 @@
  * Proved, of the engine behind a handle, for every sequence of calls: what it committed is a prefix of what was queued
  * ahead of kip_shut, in order; the replies read are a prefix of those due, and each is what the state machine gives that
  * packet alone at its place, however packets were joined. Once kip_flush returned KIP_OK and kip_reply KIP_NO_REPLY they
- * are all of them (after kip_open_recorded: once all is stored too), and unless the engine stopped, all that was queued ahead of kip_shut is committed. It stops only if 2^63
- * packets and pulses aren't enough. A call that returns another status than KIP_OK leaves the engine as it was: after
+ * are all of them (after kip_open_recorded: once all is stored too), and unless the engine stopped, all that was queued ahead of
+ * kip_shut is committed. A packet of kip_restore counts as queued, and its reply, which isn't given, as read. The engine stops only if
+ * 2^63 packets and pulses aren't enough. A call that returns another status than KIP_OK leaves the engine as it was: after
  * KIP_NO_MEMORY it can be made again. A handle may move from one thread to another. Only tested: KIP_NO_MEMORY comes only if
- * an allocation failed, and KIP_BUSY.
+ * an allocation failed; the inline functions of this header, and so KIP_BUSY and KIP_NULL_POINTER.
  *
  * Memory grows by what is stored: 148 bytes a transfer, and 36 for each id that failed with a code that later transfers
  * with that id get again (id_already_failed). Nothing limits failed ids: who may send transfers may fill memory.
