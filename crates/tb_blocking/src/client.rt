@@ -296,8 +296,8 @@ impl<'s> ControlClient<'s> {
         self.control.learn(seen);
     }
 
-    /// Queues the control's end, so that all that is queued is committed. While the queue is full it waits and tries
-    /// again. Returns `None` if the run is given up and nobody serves. Takes no memory.
+    /// Queues the control's end, so that all that is queued is committed unless the pipeline stops. While the queue is
+    /// full it waits and tries again. Returns `None` if the run is given up and nobody serves. Takes no memory.
     pub fn end<R: Wait + Clock>(self, rt: &R) -> Option<ControlEnd>
         ensures { IfSome result (λ end. end ≡ sender_with self.entry item.End) }
     {

@@ -228,7 +228,7 @@ impl BareLedger {
         self.opening
     }
 
-    /// Returns whether an allocation failed, or there were no places left.
+    /// Returns whether it has stopped: it commits nothing more.
     pub fn stopped(&self) -> bool
         ensures { result ≡ self.now.stopped }
     {
@@ -249,9 +249,12 @@ impl BareLedger {
         &self.machine
     }
 
-    /// Returns whether this number of packets or pulses isn't committed, however much memory there is.
-    fn halts_at(&self, count: usize) -> bool
-        ensures { result ≡ halts self.now count }
+    /// Returns whether this number of packets or pulses isn't committed, however much memory there is: the ledger stopped before, or has
+    /// fewer places left.
+    pub fn halts_at(&self, count: usize) -> bool
+        ensures halts { result ≡ halts self.now count }
+        ensures goes_on { result ≡ false → self.now.stopped ≡ false }
+        ensures fits { result ≡ false → self.now.places + count ≤ places_max }
     {
         self.stopped || count as u64 > PLACES_MAX - self.places
     }

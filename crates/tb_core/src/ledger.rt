@@ -111,7 +111,7 @@ impl Ledger {
         self.bare.opening()
     }
 
-    /// Returns whether an allocation failed, or there were no places left.
+    /// Returns whether it has stopped: it commits nothing more.
     pub fn stopped(&self) -> bool
         ensures { result ≡ self.now.stopped }
     {

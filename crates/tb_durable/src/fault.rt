@@ -2,7 +2,7 @@ use sqlite_trees::error::StoreError;
 use std::error::Error;
 use std::fmt;
 
-/// Why a ledger isn't opened. Opening writes nothing then, but for a file that was empty.
+/// Why a ledger isn't opened. Opening writes nothing then, but for a new ledger's table and settings.
 #[derive(Clone, Copy, Debug, PartialEq, Eq)]
 pub enum OpenFault {
     /// An allocation failed.
@@ -13,7 +13,7 @@ pub enum OpenFault {
     File(sqlite::Error),
     /// The file isn't there, and its log is: the file was moved or removed without it. Opening would write over the log.
     LogWithoutFile,
-    /// The database has other tables than the ledger's.
+    /// The database has anything but the ledger's table.
     NotALedger,
     /// The first row doesn't say how the ledger was opened.
     BadSettings,

@@ -21,9 +21,7 @@ use sqlite_value::row::Row;
 use std::alloc::Global;
 use tb_batch::{Batch, Parts};
 use tb_core::{AnyLedger, BareLedger, Outcomes, Parcel, Seed};
-use tb_layout::{
-    CREATE_ACCOUNTS, CREATE_TRANSFERS, EVENT_SIZE, NoMemory, PLACES_MAX, SUBMITTERS_LENGTH,
-};
+use tb_layout::{CREATE_ACCOUNTS, CREATE_TRANSFERS, EVENT_SIZE, NoMemory, SUBMITTERS_LENGTH};
 use tb_machine::Machine;
 use tb_work::Moment;
 
@@ -290,23 +288,11 @@ impl<S: Store + Drop> DurableLedger<S> {
         outcomes
     }
 
-    /// Returns whether this number of packets or pulses isn't committed, however well memory and the disk do.
-    fn halts_at(&self, count: usize) -> bool
-        ensures halts { result ≡ halts self.now.bare count }
-        ensures goes_on { result ≡ false → self.now.bare.stopped ≡ false }
-        ensures fits { result ≡ false → self.now.bare.places + count ≤ places_max }
-    {
-        match self.bare.places().checked_add(count as u64) {
-            Some(places) => self.bare.stopped() || places > PLACES_MAX,
-            None => true,
-        }
-    }
-
     /// Stores a batch and applies it.
     fn apply_batch(&mut self, batch: Batch) -> Outcomes
         ensures { AppliesInFile S.Store.view S.Store.recovers S.Store.blamed self.old (parcel.Batch batch) result self.new }
     {
-        if self.halts_at(batch.jobs().len()) {
+        if self.bare.halts_at(batch.jobs().len()) {
             return self.bare.apply_as_refused(Parcel::Batch(batch));
         }
         let parts = batch.into_parts();
@@ -324,7 +310,7 @@ impl<S: Store + Drop> DurableLedger<S> {
     fn apply_pulse(&mut self, moment: Moment) -> Outcomes
         ensures { AppliesInFile S.Store.view S.Store.recovers S.Store.blamed self.old (parcel.Pulse moment) result self.new }
     {
-        if self.halts_at(1) {
+        if self.bare.halts_at(1) {
             return self.bare.apply_as_refused(Parcel::Pulse(moment));
         }
         let counts = self.counts;
@@ -336,9 +322,9 @@ impl<S: Store + Drop> DurableLedger<S> {
     /// and each packet of a batch gets the outcome Stopped: it isn't committed, unless the ledger is `in_doubt`. A batch costs
     /// one transaction: its row is written to the log, and one sync waits for the disk.
     ///
-    /// Each packet must have its submitter's next number (`numbers`), or 0 as the first of a run, since no file that has another
-    /// can be opened again. A batch with another number stops the ledger, as does one past the last place: nothing is written,
-    /// and `fault` has nothing to say.
+    /// Each packet must have its submitter's next number (`numbers`), or 0, with which a run begins: no file that has another
+    /// can be opened again. Whether a run begins with a packet 0 isn't asked. A batch with another number stops the ledger, as
+    /// does one past the last place: nothing is written, and `fault` has nothing to say.
     pub fn apply(&mut self, parcel: Parcel) -> Outcomes
         ensures { AppliesInFile S.Store.view S.Store.recovers S.Store.blamed self.old parcel result self.new }
     {

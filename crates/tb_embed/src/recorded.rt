@@ -262,11 +262,12 @@ impl RecordedEngine {
     ///
     /// # Errors
     ///
-    /// `NoMemory`, and nothing has changed.
+    /// `NoMemory`, only if there is a packet, and nothing has changed.
     pub fn hand_packet(&mut self) -> Result<(), NoMemory>
         ensures some { OnOk result ((reply : ReplyValue) → next_packet self.old ≡ Some reply → HandsPacket self.old reply self.new) }
         ensures none { next_packet self.old ≡ None → self.new ≡ self.old }
         ensures same { OnErr result (self.new ≡ self.old) }
+        ensures needed { OnErr result (next_packet self.old ≡ None → ⊥) }
     {
         if self.next_packet().is_none() {
             return Ok(());

@@ -7,7 +7,7 @@ use std::fmt::{Display, Formatter};
 
 /// Memory that a call asked for was refused.
 ///
-/// It is returned only if an allocation really failed, and it is the same refusal in each crate.
+/// It is the same refusal in each crate. That it comes only if an allocation failed is only tested.
 #[derive(Clone, Copy, Debug, PartialEq, Eq)]
 pub struct NoMemory;
 

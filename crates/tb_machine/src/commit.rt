@@ -247,12 +247,10 @@ fn commit_first<E: CreateEvent>(
 fn count_with_timestamp<E: CreateEvent>(chunks: &[[u8; 128]]) -> usize
     ensures { result ≤ length chunks.now }
 {
-    for (index, chunk) in chunks.iter().enumerate() {
-        if !E::read(chunk).has_timestamp() {
-            return index;
-        }
-    }
-    chunks.len()
+    let other = chunks
+        .iter()
+        .position(|chunk| !E::read(chunk).has_timestamp());
+    other.unwrap_or(chunks.len())
 }
 
 /// Looks ids up until one is stored; how many aren't.
@@ -260,12 +258,10 @@ fn count_with_timestamp<E: CreateEvent>(chunks: &[[u8; 128]]) -> usize
 fn count_new<E: CreateEvent>(tables: &Tables, chunks: &[[u8; 128]]) -> usize
     ensures { result ≤ length chunks.now }
 {
-    for (index, chunk) in chunks.iter().enumerate() {
-        if E::read(chunk).is_stored(tables) {
-            return index;
-        }
-    }
-    chunks.len()
+    let other = chunks
+        .iter()
+        .position(|chunk| E::read(chunk).is_stored(tables));
+    other.unwrap_or(chunks.len())
 }
 
 /// Looks ids up until one isn't stored; how many are.
@@ -273,12 +269,10 @@ fn count_new<E: CreateEvent>(tables: &Tables, chunks: &[[u8; 128]]) -> usize
 fn count_stored<E: CreateEvent>(tables: &Tables, chunks: &[[u8; 128]]) -> usize
     ensures { result ≤ length chunks.now }
 {
-    for (index, chunk) in chunks.iter().enumerate() {
-        if !E::read(chunk).is_stored(tables) {
-            return index;
-        }
-    }
-    chunks.len()
+    let other = chunks
+        .iter()
+        .position(|chunk| !E::read(chunk).is_stored(tables));
+    other.unwrap_or(chunks.len())
 }
 
 /// Looks the accounts of events up until one isn't there; how many events have theirs.
@@ -286,12 +280,10 @@ fn count_stored<E: CreateEvent>(tables: &Tables, chunks: &[[u8; 128]]) -> usize
 fn count_with_accounts<E: CreateEvent>(tables: &Tables, chunks: &[[u8; 128]]) -> usize
     ensures { result ≤ length chunks.now }
 {
-    for (index, chunk) in chunks.iter().enumerate() {
-        if !E::read(chunk).has_accounts(tables) {
-            return index;
-        }
-    }
-    chunks.len()
+    let other = chunks
+        .iter()
+        .position(|chunk| !E::read(chunk).has_accounts(tables));
+    other.unwrap_or(chunks.len())
 }
 
 /// How far was looked ahead: over events whose ids are new, or that fail their first check, and then over some that are

@@ -39,9 +39,8 @@ pub struct Finished<D, C, L: AnyLedger = Ledger> {
 }
 
 /// Queues a packet of the submitter at an index, before any thread is started. It is `Submitter::submit` of that
-/// submitter, so it precedes what its driver queues; it precedes what other drivers queue too, since the queue is first
-/// in, first out. No other end is touched; after 2^56 packets the queue is full. A refused packet is returned, and nothing
-/// is changed.
+/// submitter, so it precedes what its driver queues; that it precedes what other drivers queue is only tested. No other
+/// end is touched; after 2^56 packets the queue is full. A refused packet is returned, and nothing is changed.
 pub fn submit_ahead<R: Wait, L: AnyLedger>(
     rt: &R,
     alloc: Global,

@@ -51,8 +51,8 @@ impl Intake {
         }
     }
 
-    /// Takes the front of the queue; None only if the queue was empty at some moment of the call;
-    /// `seen_empty` records each None. Takes no memory.
+    /// Takes the front of the queue; None if no ticket is seen. That the queue was empty then is only tested. `seen_empty`
+    /// records each None. Takes no memory.
     pub fn take<R: Wait>(&mut self, rt: &R) -> Option<Ticket>
         ensures some { IfSome result (λ ticket. self.new ≡ with_taken self.old ticket) }
         ensures none { IfNone result (self.new ≡ with_empty self.old) }

@@ -122,7 +122,7 @@ impl Reader {
         drop(self.queue.another::<SeenEmpty>(&mut self.pass));
     }
 
-    /// Takes the front of the queue; None only if it was empty at some moment of the call.
+    /// Takes the front of the queue; None if no ticket is seen. That the queue was empty then is only tested.
     pub(crate) fn take<R: Wait>(&mut self, rt: &R) -> Option<Ticket>
         ensures some { IfSome result (λ ticket. self.new ≡ record self.old { taken = self.old.taken ++ ticket ∷ [] }) }
         ensures none { IfNone result (self.new ≡ reader_with_empty self.old) }

@@ -458,7 +458,7 @@ impl World {
     }
 
     /// Takes one event. Returns true if it may happen, and the World then moves as its table says; false changes
-    /// nothing. If it may happen and an allocation really fails, the event is returned and nothing has changed. No
+    /// nothing. If it may happen and an allocation fails, the event is returned and nothing has changed. No
     /// memory is taken to pop an End, a Close, a pulse or a packet that is returned, nor to apply Last, a returned
     /// packet, or what must be stopped.
     pub fn step(&mut self, event: Event) -> Result<bool, (Event, NoMemory)>

@@ -72,13 +72,14 @@ pub record IsPacketStatus (status : ℕ) (was entry : KipEntry) (before after : 
   pub small : status ≡ too_small → IsTooLarge entry before after (next_packet host)
   pub one_of : (status ≡ 0) ⊎ ((status ≡ no_entry) ⊎ (status ≡ too_small))
 
--- 0 with the next entry, `no_entry` without one, `too_small` with a buffer that is, or memory ran out. It is `not_recorded` exactly if the
--- host keeps no journal.
+-- 0 with the next entry, `no_entry` without one, `too_small` with a buffer that is, or memory ran out for a packet that was written
+-- there. It is `not_recorded` exactly if the host keeps no journal.
 pub record IsHandingOut (status : ℕ) (was entry : KipEntry) (before after : List ℕ) (old new : RecordedState) : Type 0 where
   pub hands : status ≡ 0 → HandsOut entry before after old (next_pulse old) (next_packet old) new
   pub none : status ≡ no_entry → (next_pulse old ≡ None) × ((next_packet old ≡ None) × ((entry ≡ was) × (after ≡ before)))
   pub unrecorded : status ≡ not_recorded → (entry ≡ was) × (after ≡ before)
   pub small : status ≡ too_small → (next_pulse old ≡ None) × IsTooLarge entry before after (next_packet old)
+  pub memory : status ≡ number_of NoMemory → (next_pulse old ≡ None) × IsPeeked entry before after (next_packet old)
   pub same : (status ≡ 0 → ⊥) → new ≡ old
   pub recorded : old.records ≡ not (status == not_recorded)
   pub one_of : (status ≡ 0) ⊎ ((status ≡ no_entry) ⊎ ((status ≡ too_small) ⊎ ((status ≡ number_of NoMemory) ⊎ (status ≡ not_recorded))))

@@ -23,14 +23,14 @@ use tb_layout::MOMENT_MAX;
 use tb_test_makers::{OutcomeKind, job, kind_of};
 use tb_work::{Moment, Packet};
 
-const SETTINGS: Settings = Settings {
+pub(super) const SETTINGS: Settings = Settings {
     clock: 5,
     limit: 8190,
     submitters: 16,
 };
 
 /// Returns a store with an empty table.
-fn empty_store(rt: &(impl Abort + Alloc<A = Global>)) -> MemStore {
+pub(super) fn empty_store(rt: &(impl Abort + Alloc<A = Global>)) -> MemStore {
     MemStore::new(rt.alloc(), &[entry_table()])
         .ok()
         .expect(rt, "memory")

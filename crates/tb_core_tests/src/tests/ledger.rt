@@ -7,11 +7,13 @@ use super::made::{creating, pushed_by};
 use super::number_of;
 use super::outcomes::{EntryKind, assert_entries, first_reply};
 use crate::tests::must;
+use sqlite::MemStore;
 use std::alloc::Global;
 use std::process::Abort;
 use tb_batch::{Batch, Batcher, Offered};
 use tb_core::{BareLedger, Cause, Front, Ledger, Outcomes, Parcel, Seed};
 use tb_demux::Cutter;
+use tb_durable::DurableLedger;
 use tb_layout::Account;
 use tb_test_makers::{OutcomeKind, account, check, job, kind_of};
 use tb_work::{Answer, Job, Moment, Outcome, Packet, Reply};
@@ -157,27 +159,30 @@ fn pulse_between_batches_after_refused_reservations(rt: HostRuntime) {
     drop(ledger);
 }
 
-/// A ledger with a journal, or one without.
+/// A ledger with a journal in memory, one without a journal, or one whose journal is in a store.
 #[derive(Drop)]
-pub(super) enum Either {
+pub(super) enum AnyOf {
     Whole(Ledger),
     Bare(BareLedger),
+    Stored(DurableLedger<MemStore>),
 }
 
-impl Either {
+impl AnyOf {
     pub(super) fn apply(&mut self, batch: Batch) -> Outcomes {
         let parcel = Parcel::Batch(batch);
         match self {
-            Either::Whole(ledger) => ledger.apply(parcel),
-            Either::Bare(ledger) => ledger.apply(parcel),
+            AnyOf::Whole(ledger) => ledger.apply(parcel),
+            AnyOf::Bare(ledger) => ledger.apply(parcel),
+            AnyOf::Stored(ledger) => ledger.apply(parcel),
         }
     }
 
     /// Returns how many packets were committed.
     pub(super) fn places(&self) -> u64 {
         match self {
-            Either::Whole(ledger) => ledger.places(),
-            Either::Bare(ledger) => ledger.places(),
+            AnyOf::Whole(ledger) => ledger.places(),
+            AnyOf::Bare(ledger) => ledger.places(),
+            AnyOf::Stored(ledger) => ledger.places(),
         }
     }
 }

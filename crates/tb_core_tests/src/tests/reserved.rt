@@ -1,7 +1,7 @@
 //! Capacity that was reserved suffices, and nothing is reserved by a ledger that is opened. `tools/gate/refuse-each-growth` refuses each
 //! allocation in turn: so it finds a commit that allocates all the same.
 
-use super::ledger::Either;
+use super::ledger::AnyOf;
 use super::made::{creating, job_of, rising};
 use crate::tests::must;
 use std::alloc::Global;
@@ -63,27 +63,27 @@ fn batches(alloc: Global) -> Option<Vec<Batch>> {
 }
 
 /// Returns a ledger in which capacity is reserved, or None if memory runs out.
-fn reserved_ledger(alloc: Global) -> Option<Either> {
+fn reserved_ledger(alloc: Global) -> Option<AnyOf> {
     let mut ledger = Ledger::new(alloc, 0);
     ledger.reserve(ACCOUNTS, TRANSFERS).ok()?;
-    Some(Either::Whole(ledger))
+    Some(AnyOf::Whole(ledger))
 }
 
 /// Returns the ledger of an engine in which capacity is reserved, or None if memory runs out.
-fn reserved_in_engine(alloc: Global) -> Option<Either> {
+fn reserved_in_engine(alloc: Global) -> Option<AnyOf> {
     let mut engine = Engine::new(alloc, 0, 8190, 1).ok()?;
     engine.reserve(ACCOUNTS, TRANSFERS).ok()?;
-    Some(Either::Bare(engine.into_ledger().ok()?))
+    Some(AnyOf::Bare(engine.into_ledger().ok()?))
 }
 
-fn commit_all(ledger: &mut Either, batches: Vec<Batch>) {
+fn commit_all(ledger: &mut AnyOf, batches: Vec<Batch>) {
     for batch in batches {
         drop(ledger.apply(batch));
     }
 }
 
 /// Commits the batches, if memory is there for them and the ledger. Once the first is committed, the others are.
-fn assert_commits(rt: &(impl Abort + Alloc<A = Global>), ledger: Option<Either>) {
+fn assert_commits(rt: &(impl Abort + Alloc<A = Global>), ledger: Option<AnyOf>) {
     let Some(mut ledger) = ledger else {
         return;
     };

@@ -1,6 +1,7 @@
 //! A seed keeps ids from slowing a ledger down that collide without it, or under a part of it.
 
-use super::ledger::{Either, alone};
+use super::durable::{SETTINGS, empty_store};
+use super::ledger::{AnyOf, alone};
 use super::made::{creating, transferring};
 use super::push;
 use crate::tests::must;
@@ -8,6 +9,7 @@ use std::alloc::Global;
 use std::process::Abort;
 use std::time::{Clock, Instant};
 use tb_core::{Ledger, Seed};
+use tb_durable::DurableLedger;
 use tb_embed::Engine;
 use tb_test_makers::{account, check, transfer};
 use tb_work::Job;
@@ -86,23 +88,44 @@ fn full_packet(rt: &(impl Abort + Alloc<A = Global>), stored: Stored, ids: Ids) 
     }
 }
 
-/// Returns a ledger with the seed, by itself or out of an engine.
-fn opened(rt: &(impl Abort + Alloc<A = Global>), is_whole: bool) -> Either {
-    if is_whole {
-        return Either::Whole(Ledger::with_seed(rt.alloc(), 0, SEED));
-    }
+/// What passes the seed on.
+#[derive(Clone, Copy)]
+enum Owner {
+    Ledger,
+    Engine,
+    /// A ledger whose journal is in a store.
+    Stored,
+}
+
+/// Returns the ledger of an engine with the seed.
+fn in_engine(rt: &(impl Abort + Alloc<A = Global>)) -> AnyOf {
     let engine = Engine::with_seed(rt.alloc(), 0, 8_190, 1, SEED).expect(rt, "settings");
-    Either::Bare(engine.into_ledger().ok().expect(rt, "nothing is held"))
+    AnyOf::Bare(engine.into_ledger().ok().expect(rt, "nothing is held"))
+}
+
+/// Returns a ledger over an empty store with the seed.
+fn stored(rt: &(impl Abort + Alloc<A = Global>)) -> AnyOf {
+    let ledger = DurableLedger::over(rt.alloc(), empty_store(rt), SETTINGS, SEED);
+    AnyOf::Stored(ledger.ok().expect(rt, "a sound table"))
+}
+
+/// Returns a ledger with the seed.
+fn opened(rt: &(impl Abort + Alloc<A = Global>), owner: Owner) -> AnyOf {
+    match owner {
+        Owner::Ledger => AnyOf::Whole(Ledger::with_seed(rt.alloc(), 0, SEED)),
+        Owner::Engine => in_engine(rt),
+        Owner::Stored => stored(rt),
+    }
 }
 
 /// Returns how many nanoseconds it takes to commit a full packet.
 fn commit_time(
     rt: &(impl Abort + Clock + Alloc<A = Global>),
-    is_whole: bool,
+    owner: Owner,
     stored: Stored,
     ids: Ids,
 ) -> u128 {
-    let mut ledger = opened(rt, is_whole);
+    let mut ledger = opened(rt, owner);
     let accounts = [account(1, 0), account(2, 0)];
     let accounts = creating(rt.alloc(), 0, 0, &accounts).expect(rt, "the packet is admitted");
     drop(ledger.apply(alone(rt, accounts)));
@@ -119,12 +142,12 @@ fn commit_time(
 /// Returns the shortest of three times, of rising ids.
 fn shortest_time(
     rt: &(impl Abort + Clock + Alloc<A = Global>),
-    is_whole: bool,
+    owner: Owner,
     stored: Stored,
 ) -> u128 {
     let mut shortest = u128::MAX;
     for _ in 0..3 {
-        shortest = shortest.min(commit_time(rt, is_whole, stored, Ids::Rising));
+        shortest = shortest.min(commit_time(rt, owner, stored, Ids::Rising));
     }
     shortest
 }
@@ -133,13 +156,13 @@ fn shortest_time(
 /// the seed, each of 8,190 ids would be compared with all before it.
 fn is_spread(
     rt: &(impl Abort + Clock + Alloc<A = Global>),
-    is_whole: bool,
+    owner: Owner,
     stored: Stored,
     ids: Ids,
     rising: u128,
 ) -> bool {
     for _ in 0..5 {
-        if commit_time(rt, is_whole, stored, ids) / 10 < rising {
+        if commit_time(rt, owner, stored, ids) / 10 < rising {
             return true;
         }
     }
@@ -149,22 +172,31 @@ fn is_spread(
 #[test]
 fn colliding_ids_are_spread(rt: HostRuntime) {
     for stored in [Stored::Accounts, Stored::Transfers, Stored::Failed] {
-        let rising = shortest_time(&rt, true, stored);
+        let rising = shortest_time(&rt, Owner::Ledger, stored);
         for known in KNOWN {
             for ids in [Ids::OneLower(known), Ids::OneUpper(known)] {
-                check!(&rt; is_spread(&rt, true, stored, ids, rising), known);
+                check!(&rt; is_spread(&rt, Owner::Ledger, stored, ids, rising), known);
             }
         }
     }
 }
 
-/// An engine passes the whole seed on.
-#[test]
-fn colliding_ids_are_spread_in_an_engine(rt: HostRuntime) {
-    let rising = shortest_time(&rt, false, Stored::Accounts);
+/// Asserts that a seed is passed on as a whole.
+fn assert_passed_on(rt: &(impl Abort + Clock + Alloc<A = Global>), owner: Owner) {
+    let rising = shortest_time(rt, owner, Stored::Accounts);
     for known in [0, 3] {
         for ids in [Ids::OneLower(known), Ids::OneUpper(known)] {
-            check!(&rt; is_spread(&rt, false, Stored::Accounts, ids, rising), known);
+            check!(rt; is_spread(rt, owner, Stored::Accounts, ids, rising), known);
         }
     }
+}
+
+#[test]
+fn colliding_ids_are_spread_in_an_engine(rt: HostRuntime) {
+    assert_passed_on(&rt, Owner::Engine);
+}
+
+#[test]
+fn colliding_ids_are_spread_over_a_store(rt: HostRuntime) {
+    assert_passed_on(&rt, Owner::Stored);
 }

@@ -25,7 +25,7 @@ returns-clause-ok c = rw (← c.self.view_is) (λ groups is.
     let same = c.take_batch.ensures.jobs ∙ c.into_parts-parts.ensures.jobs in
     let goes = ap (λ (b : BareLedgerState). halts b (length c.args.batch)) c.self.view_is
     ∙ ap (λ jobs. halts c.args.self.now (length jobs)) (sym c.jobs-count.ensures.jobs)
-    ∙ sym c.halts_at.ensures ∙ c.if-halts_at.false in
+    ∙ sym c.halts_at.ensures.halts ∙ c.if-halts_at.false in
     let (entry, has_entry, adds, whole) = c.record-recorded.ensures.entry in
     let replies = c.record-recorded.ensures.replies inside.opening _ is.counted
     (subst (λ state. AreAnswered state parts) is.machine answered) in
