@@ -86,7 +86,7 @@ fn store_batch<S: Store>(
 impl<S: Store + Drop> DurableLedger<S> {
     ghost use Rattle.std.specs.Prelude.{List, None, Ok, true, [], length};
     ghost use Rattle.tb_core.specs.declared.parcel.Parcel.TheVariants as parcel;
-    ghost use Rattle.tb_core.specs.claim.BareLedger.{halts, with_journal};
+    ghost use Rattle.tb_core.specs.claim.BareLedger.{with_journal};
     ghost use Rattle.tb_core.specs.claim.Journal.{LedgerState};
     ghost use Rattle.tb_durable.specs.claim.Durable.{IsJournal, IsStored, LeavesNothingNew, groups_of, opened_rows};
     ghost use Rattle.tb_durable.specs.clauses.Parcels.{AppliesInFile};
