@@ -14,6 +14,7 @@
 #include <stdio.h>
 #include <stdlib.h>
 #include <sys/file.h>
+#include <sys/stat.h>
 #include <unistd.h>
 
 enum { PULSE = 0, GROUP = 4, DATA_MAX = 2 * 128 };
@@ -76,6 +77,14 @@ static void read_replies(void) {
 
 /* Ends the run if what was printed can't be read by anybody. */
 static void must_be_printed(void) { must(fflush(stdout) == 0 && !ferror(stdout), "standard output can't be written"); }
+
+/* Ends the run if the file isn't where it was, or isn't as long as this process made it: what is written to it isn't there at the next start. */
+static void must_be_there(void) {
+    struct stat open, named;
+    must(fstat(file, &open) == 0 && stat(path, &named) == 0 && open.st_dev == named.st_dev && open.st_ino == named.st_ino &&
+             open.st_size == lseek(file, 0, SEEK_CUR),
+         "the file isn't where it was, or another program changed it");
+}
 
 /* Has the disk keep the name of a new file next to ours, or of ours. */
 static void sync_folder(void) {
@@ -166,12 +175,14 @@ int main(int count, char **words) {
     must_be_printed();
     while (place < calls) {
         uint64_t end = place + GROUP < calls ? place + GROUP : calls;
+        must_be_there();
         for (uint64_t number = place; number < end; number++) {
             call_t call = call_of(number);
             must(write(file, &call, sizeof call) == sizeof call, "the file can't be written");
             make(&call, number);
         }
         must(fdatasync(file) == 0, "the disk failed: what of these calls is in the file is known at the next start");
+        must_be_there();
         read_replies();
         for (; place < end; place++) printf("committed %llu\n", (unsigned long long)place);
         must_be_printed();
