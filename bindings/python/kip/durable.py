@@ -165,8 +165,8 @@ class DurableClient(ClientSync):
     stores, which raises MemoryError, and if a signal handler raises in the middle of a call. A handler that calls the client while it
     writes gets KipError `busy`.
 
-    A `with` commits and stores what waits also if it ends by an exception, and so does a client that isn't closed. Ids are hashed with a
-    random seed, unless one is given.
+    A `with` commits and stores what waits also if it ends by an exception, and so does a client that isn't closed as Python frees it. What
+    waits as a daemon thread is ended isn't stored. Ids are hashed with a random seed, unless one is given.
 
     While a client is open, its process doesn't open the file by other means, as `shutil.copy` does: closing it there takes the lock from
     the client too. If then another program writes to the file, or if the file or its log is moved or deleted, the next call that stores
