@@ -6,7 +6,7 @@
  * Makes the calls of the little bank of journaled.c, and prints the same lines. The file is synced once for four calls. It is a log of this
  * program alone: to keep what is committed, in a table that others read, see journaled.c. What isn't whole at the file's end is cut off, and
  * kept in FILE.cut1, or with the next free number. */
-#define _DEFAULT_SOURCE /* flock, fdatasync, strdup */
+#define _DEFAULT_SOURCE /* flock, fdatasync, realpath */
 #include <errno.h>
 #include <fcntl.h>
 #include <kip.h>
@@ -86,9 +86,9 @@ static void must_be_there(void) {
          "the file isn't where it was, or another program changed it");
 }
 
-/* Has the disk keep the name of a new file next to ours, or of ours. */
-static void sync_folder(void) {
-    char *name = strdup(path);
+/* Has the disk keep the name of a file too, which may be linked to from another folder. */
+static void sync_name(const char *linked) {
+    char *name = realpath(linked, NULL);
     int folder = name ? open(dirname(name), O_RDONLY) : -1;
     must(folder >= 0 && fsync(folder) == 0 && close(folder) == 0, "the file's folder can't be synced");
     free(name);
@@ -107,7 +107,7 @@ static void open_file(void) {
     for (ssize_t i = 0; i < size; i++) is_new &= found[i] == header[i] || found[i] == 0;
     must(is_new || memcmp(found, header, sizeof header) == 0, "the file is another program's: give another file");
     if (is_new) must(pwrite(file, header, sizeof header, 0) == sizeof header, "the file can't be written");
-    sync_folder();
+    sync_name(path);
 }
 
 /* Cuts the file at its last whole call, and keeps what follows in another. */
@@ -123,7 +123,7 @@ static void cut_off(off_t end, size_t size) {
     int is_kept = kept >= 0 && write(kept, bytes, size) == (ssize_t)size && fsync(kept) == 0 && close(kept) == 0;
     if (kept >= 0 && !is_kept) unlink(name);
     must(is_kept, "the file's end, which isn't whole, can't be kept in another file");
-    sync_folder();
+    sync_name(name);
     fprintf(stderr, "logged: the last %zu bytes aren't whole calls: they are cut off, and kept in %s\n", size, name);
     must(ftruncate(file, end) == 0, "the file can't be cut");
 }
