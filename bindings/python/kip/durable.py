@@ -9,7 +9,8 @@
 The file has one table, `entry`: a row with the settings, and one for each packet and pulse that is committed, by its place
 (docs/DURABLE.md has the columns). `tbpipe replay FILE` and `tbpipe list --journal FILE` open it too, and so do programs over `tb_durable`.
 
-The file and its log, `ledger.db-wal`, are the ledger together: copy or move both, while no client has them open.
+The file and its log, `ledger.db-wal`, are the ledger together: copy or move both, while no client has them open. An older file beside a newer
+log may open without what was committed in between, and without a word.
 
 The pages of the file have no sums: a bit that flipped in it isn't noticed, and one that flipped in the log ends the log there, without a word.
 Keep copies. Or have `tbpipe list --journal` make the file, whose pages then have sums, and which only `tbpipe` and `tb_durable` continue.
