@@ -459,6 +459,15 @@ class Failing(InFolder):
             with self.assertRaisesRegex((sqlite3.OperationalError, IsADirectoryError), str(self.path.parent)):
                 DurableClient(path)
 
+    def test_a_pipe_and_a_device_are_refused(self):
+        os.mkfifo(self.path)
+        self.addCleanup(signal.signal, signal.SIGALRM, signal.signal(signal.SIGALRM, lambda *_: self.fail("it waits for the pipe")))
+        signal.alarm(10)
+        self.addCleanup(signal.alarm, 0)
+        for path in self.path, "/dev/null":
+            with self.assertRaisesRegex(BadFile, "plain file"):
+                DurableClient(path)
+
     def test_one_client_has_a_file(self):
         with DurableClient(self.path) as client:
             with self.assertRaises(BlockingIOError):

@@ -120,7 +120,7 @@ static void open_file(void) {
 
 static int event_size(uint32_t operation) { return operation == KIP_OPERATION_LOOKUP_ACCOUNTS ? 16 : 128; }
 
-/* Returns whether a packet can be ahead of another in a batch: look-ups never are, nor is an open chain. */
+/* Returns whether a packet can share a batch, also as its last: look-ups never do, nor does an open chain. */
 static int may_share(uint32_t operation, const char *data, uint64_t size) {
     kip_transfer last = {0}; /* (an account has its flags at the same bytes, and its first is `linked` too) */
     if (size > 0 && operation != KIP_OPERATION_LOOKUP_ACCOUNTS) memcpy(&last, data + size - sizeof last, sizeof last);
@@ -145,7 +145,7 @@ static void restore(sqlite3_stmt *row) {
         entry.submitter = stubs[i].submitter;
         entry.number = first_numbers[entry.submitter]++;
         must(stubs[i].number == 0 || stubs[i].number == following[entry.submitter], "a row's packet isn't its submitter's next");
-        must(i + 1 == count || (size <= sizeof(kip_transfer) * KIP_BATCH_MAX && may_share(entry.operation, body + at, entry.size)),
+        must(count == 1 || (size <= sizeof(kip_transfer) * KIP_BATCH_MAX && may_share(entry.operation, body + at, entry.size)),
              "a row's packets can't share a batch");
         following[entry.submitter] = stubs[i].number + 1;
         must(kip_restore(&kip, &entry, entry.size ? body + at : NULL, entry.size) == KIP_OK, "a row's packet isn't next, or is refused");

@@ -6,7 +6,7 @@
  * Makes the calls of the little bank of journaled.c, and prints the same lines. The file is synced once for four calls. It is a log of this
  * program alone: to keep what is committed, in a table that others read, see journaled.c. What isn't whole at the file's end is cut off, and
  * kept in FILE.cut1, or with the next free number. */
-#define _DEFAULT_SOURCE /* flock, fdatasync, strdup */
+#define _DEFAULT_SOURCE /* flock, fdatasync, realpath */
 #include <errno.h>
 #include <fcntl.h>
 #include <kip.h>
@@ -14,6 +14,7 @@
 #include <stdio.h>
 #include <stdlib.h>
 #include <sys/file.h>
+#include <sys/stat.h>
 #include <unistd.h>
 
 enum { PULSE = 0, GROUP = 4, DATA_MAX = 2 * 128 };
@@ -77,9 +78,17 @@ static void read_replies(void) {
 /* Ends the run if what was printed can't be read by anybody. */
 static void must_be_printed(void) { must(fflush(stdout) == 0 && !ferror(stdout), "standard output can't be written"); }
 
-/* Has the disk keep the name of a new file next to ours, or of ours. */
-static void sync_folder(void) {
-    char *name = strdup(path);
+/* Ends the run if the file isn't where it was, or isn't as long as this process made it: what is written to it isn't there at the next start. */
+static void must_be_there(void) {
+    struct stat open, named;
+    must(fstat(file, &open) == 0 && stat(path, &named) == 0 && open.st_dev == named.st_dev && open.st_ino == named.st_ino &&
+             open.st_size == lseek(file, 0, SEEK_CUR),
+         "the file isn't where it was, or another program changed it");
+}
+
+/* Has the disk keep the name of a file too, which may be linked to from another folder. */
+static void sync_name(const char *linked) {
+    char *name = realpath(linked, NULL);
     int folder = name ? open(dirname(name), O_RDONLY) : -1;
     must(folder >= 0 && fsync(folder) == 0 && close(folder) == 0, "the file's folder can't be synced");
     free(name);
@@ -98,7 +107,7 @@ static void open_file(void) {
     for (ssize_t i = 0; i < size; i++) is_new &= found[i] == header[i] || found[i] == 0;
     must(is_new || memcmp(found, header, sizeof header) == 0, "the file is another program's: give another file");
     if (is_new) must(pwrite(file, header, sizeof header, 0) == sizeof header, "the file can't be written");
-    sync_folder();
+    sync_name(path);
 }
 
 /* Cuts the file at its last whole call, and keeps what follows in another. */
@@ -114,7 +123,7 @@ static void cut_off(off_t end, size_t size) {
     int is_kept = kept >= 0 && write(kept, bytes, size) == (ssize_t)size && fsync(kept) == 0 && close(kept) == 0;
     if (kept >= 0 && !is_kept) unlink(name);
     must(is_kept, "the file's end, which isn't whole, can't be kept in another file");
-    sync_folder();
+    sync_name(name);
     fprintf(stderr, "logged: the last %zu bytes aren't whole calls: they are cut off, and kept in %s\n", size, name);
     must(ftruncate(file, end) == 0, "the file can't be cut");
 }
@@ -166,12 +175,14 @@ int main(int count, char **words) {
     must_be_printed();
     while (place < calls) {
         uint64_t end = place + GROUP < calls ? place + GROUP : calls;
+        must_be_there();
         for (uint64_t number = place; number < end; number++) {
             call_t call = call_of(number);
             must(write(file, &call, sizeof call) == sizeof call, "the file can't be written");
             make(&call, number);
         }
         must(fdatasync(file) == 0, "the disk failed: what of these calls is in the file is known at the next start");
+        must_be_there();
         read_replies();
         for (; place < end; place++) printf("committed %llu\n", (unsigned long long)place);
         must_be_printed();

@@ -9,7 +9,8 @@
 The file has one table, `entry`: a row with the settings, and one for each packet and pulse that is committed, by its place
 (docs/DURABLE.md has the columns). `tbpipe replay FILE` and `tbpipe list --journal FILE` open it too, and so do programs over `tb_durable`.
 
-The file and its log, `ledger.db-wal`, are the ledger together: copy or move both, while no client has them open.
+The file and its log, `ledger.db-wal`, are the ledger together: copy or move both, while no client has them open. An older file beside a newer
+log may open without what was committed in between, and without a word.
 
 The pages of the file have no sums: a bit that flipped in it isn't noticed, and one that flipped in the log ends the log there, without a word.
 Keep copies. Or have `tbpipe list --journal` make the file, whose pages then have sums, and which only `tbpipe` and `tb_durable` continue.
@@ -72,6 +73,8 @@ def _refuse_other_files(path):
         raise BlockingIOError(f"{path}: another client of this process has it open, or failed with it: close that one, or start again")
     if not (file and file.st_size) and log and log.st_size:
         raise BadFile(f"{path}: there is no file, but its log has pages: put the file back, or move the log away")
+    if file and not os.path.isfile(path) and not os.path.isdir(path):  # (a pipe's `open` would wait for ever, and a folder's says why it fails)
+        raise BadFile(f"{path}: it is no plain file: give another")
     if file and file.st_nlink > 1 and os.path.isfile(path):
         raise BadFile(f"{path}: it has another name, by which its log may be named: remove that hard link")
     with contextlib.suppress(FileNotFoundError), open(path, "rb") as file:
@@ -163,8 +166,8 @@ class DurableClient(ClientSync):
     stores, which raises MemoryError, and if a signal handler raises in the middle of a call. A handler that calls the client while it
     writes gets KipError `busy`.
 
-    A `with` commits and stores what waits also if it ends by an exception, and so does a client that isn't closed. Ids are hashed with a
-    random seed, unless one is given.
+    A `with` commits and stores what waits also if it ends by an exception, and so does a client that isn't closed as Python frees it. What
+    waits as a daemon thread is ended isn't stored. Ids are hashed with a random seed, unless one is given.
 
     While a client is open, its process doesn't open the file by other means, as `shutil.copy` does: closing it there takes the lock from
     the client too. If then another program writes to the file, or if the file or its log is moved or deleted, the next call that stores
