@@ -11,7 +11,8 @@ pub enum OpenFault {
     Store(StoreError),
     /// The file can't be opened, another process has it open, or it isn't a sound database.
     File(sqlite::Error),
-    /// The file isn't there, and its log is: the file was moved or removed without it. Opening would write over the log.
+    /// The log has pages, and the file isn't there or has none: it was moved, removed or emptied without its log. Opening would write over
+    /// the log.
     LogWithoutFile,
     /// The database has anything but the ledger's table.
     NotALedger,
@@ -37,7 +38,7 @@ impl fmt::Display for OpenFault {
             OpenFault::Store(error) => write!(f, "{error}"),
             OpenFault::File(error) => write!(f, "{error}"),
             OpenFault::LogWithoutFile => f.write_str(
-                "there is no such file, but its log, whose name ends in -wal, is there: put the file back, or move the log away",
+                "the file isn't there or is empty, but its log, whose name ends in -wal, has pages: put the file back, or move the log away",
             ),
             OpenFault::NotALedger => f.write_str("the database is not a ledger's"),
             OpenFault::BadSettings => f.write_str("the first row has no settings"),

@@ -14,6 +14,7 @@ ghost use Rattle.tb_durable.specs.clauses.Opened.{IsLedger, IsOpenedOn, IsPrepar
 ghost use Rattle.tb_durable.specs.declared.fault.OpenFault.TheVariants.{NoMemory as NoMemoryFault};
 
 use crate::fault::OpenFault;
+use crate::log::refuse_lone_log;
 use crate::table::ENTRIES;
 use sqlite::{Connection, Error, ErrorCode, File, FileFrom, FileStore, Options, Start, Unknown};
 use sqlite_std_file::OpenError;
@@ -23,18 +24,13 @@ use sqlite_trees::store::{Alter, Shape, Store};
 use sqlite_value::row::Row;
 use sqlite_value::value::ValueRef;
 use std::alloc::Global;
-use std::fs;
 use std::hash::{BuildHasher, RandomState};
-use tb_layout::NoMemory;
 
 /// The table of the ledger, in a file and its log.
 pub type LedgerFile = FileStore<File>;
 
 const CREATE_TABLE: &str =
     "CREATE TABLE entry (place INTEGER PRIMARY KEY, operation INTEGER NOT NULL, moment INTEGER NOT NULL, stubs BLOB NOT NULL, body BLOB NOT NULL) STRICT";
-
-/// The bytes of a page of the file. A log has more if it has a page.
-pub const PAGE_SIZE: u64 = 4096;
 
 /// The log has this number of pages of 4 KiB, at most 400 MB, before it is copied into the file, which takes more syncs.
 const LOG_PAGES: usize = 100_000;
@@ -100,27 +96,6 @@ fn log_options(rt: &HostRuntime) -> Result<Options, OpenFault>
     })
 }
 
-/// Returns whether there is a log with a page beside the file at a path.
-pub fn has_log(rt: &HostRuntime, path: &str) -> Result<bool, NoMemory> {
-    let log = format!(in rt.alloc(); "{path}-wal")?;
-    Ok(matches!(fs::metadata(rt, log.as_str()), Ok(log) if log.len() > PAGE_SIZE))
-}
-
-/// Refuses a path at which there is no file, but a log with a page: a file that was made there would take it for its own and write over
-/// it.
-fn refuse_lone_log(rt: &HostRuntime, path: &str) -> Result<(), OpenFault>
-    ensures fault { IfErr result (λ fault. IsTrue (is_of_file fault)) }
-{
-    if !matches!(fs::exists(rt, path), Ok(false)) {
-        return Ok(());
-    }
-    match has_log(rt, path) {
-        Ok(true) => Err(OpenFault::LogWithoutFile),
-        Ok(false) => Ok(()),
-        Err(NoMemory) => Err(OpenFault::NoMemory),
-    }
-}
-
 /// Opens and locks the file at a path and its log.
 fn connect<S: Start>(
     rt: &HostRuntime,
@@ -160,7 +135,7 @@ fn connect<S: Start>(
 /// # Errors
 ///
 /// `File` if the path can't be opened, another process has the file open, or it is no sound database. `LogWithoutFile` if only the
-/// log is there. `NotALedger` if the database has another table. `Store` if the table can't be made.
+/// log has pages. `NotALedger` if the database has another table. `Store` if the table can't be made.
 pub fn open_file(rt: &HostRuntime, path: &str) -> Result<LedgerFile, OpenFault>
     ensures opened { IfOk result (λ store. IsTrue (file.view store).is_open
         → (log : List ℕ) × (db : List ℕ) × IsOpenedOn log db (file.view store)) }

@@ -14,6 +14,7 @@ mod fault;
 mod file;
 mod laws;
 mod ledger;
+mod log;
 mod reading;
 mod replaying;
 mod rows;
@@ -21,7 +22,8 @@ mod settings;
 mod table;
 
 pub use fault::OpenFault;
-pub use file::{LedgerFile, PAGE_SIZE, copy_log, entry_table, has_log, open_file, open_file_from};
+pub use file::{LedgerFile, copy_log, entry_table, open_file, open_file_from};
 pub use laws::{runs_follow, stopped_runs_follow};
 pub use ledger::DurableLedger;
+pub use log::{has_log, has_one_page};
 pub use settings::Settings;

@@ -14,7 +14,7 @@ mod opening;
 mod running;
 
 use crate::journal::committing::Committing;
-use crate::journal::opening::{OpenedStore, open_at};
+use crate::journal::opening::{OpenedStore, lacks_log, open_at};
 use crate::journal::running::run_journaled;
 pub(crate) use fault::RunFault;
 use sqlite_trees::store::Store;
@@ -24,7 +24,7 @@ use std::sync::Wait;
 use std::thread::Threads;
 use std::time::Clock;
 use tb_core::Seed;
-use tb_durable::{DurableLedger, LedgerFile, PAGE_SIZE, Settings, has_log, open_file};
+use tb_durable::{DurableLedger, LedgerFile, Settings, has_log, open_file};
 use tb_layout::BATCH_MAX;
 use tb_program::{Output, put_state};
 use tb_program_text::{FaultyScript, ScriptParts, Settings as ScriptSettings, Source, read_source};
@@ -195,8 +195,8 @@ pub(crate) fn run_into<T: Threads + Wait + Clock + Sync>(
     }
 }
 
-/// Refuses a path at which there is no ledger, before anything is written there. A file of one page has its tables in its log: without
-/// that it is what was left of a ledger whose log was moved away.
+/// Refuses a path at which there is no ledger, before anything is written there. A file whose making failed has at most one byte. One of
+/// one page has its tables in its log: without that it is what was left of a ledger whose log was moved away.
 fn refuse_without_ledger(rt: &HostRuntime, path: &str) -> Result<(), RunFault> {
     let Ok(file) = fs::metadata(rt, path) else {
         let is_missing = matches!(fs::exists(rt, path), Ok(false));
@@ -206,10 +206,10 @@ fn refuse_without_ledger(rt: &HostRuntime, path: &str) -> Result<(), RunFault> {
             Ok(())
         };
     };
-    if file.len() == 0 {
+    if file.is_file() && file.len() <= 1 && !has_log(rt, path)? {
         return Err(RunFault::EmptyFile);
     }
-    if file.len() <= PAGE_SIZE && !has_log(rt, path)? {
+    if lacks_log(rt, path)? {
         return Err(RunFault::NoLedger);
     }
     Ok(())

@@ -5,7 +5,7 @@ use crate::journal::fault::RunFault;
 use sqlite_trees::store::Store;
 use std::fs;
 use std::os::unix::fs::MetadataExt;
-use tb_durable::{LedgerFile, PAGE_SIZE, has_log, open_file};
+use tb_durable::{LedgerFile, has_log, has_one_page, open_file};
 
 /// What is said once a ledger was begun in a file of one page. Such a file is left if its making failed, or if its log was moved away.
 const BEGUN_ANEW: &str =
@@ -28,11 +28,8 @@ fn file_at(rt: &HostRuntime, path: &str) -> Option<FileId> {
 }
 
 /// Returns whether a file is at a path that has no table, and no log that may have one.
-fn lacks_log(rt: &HostRuntime, path: &str) -> Result<bool, RunFault> {
-    match fs::metadata(rt, path) {
-        Ok(file) if file.len() > 0 && file.len() <= PAGE_SIZE => Ok(!has_log(rt, path)?),
-        _ => Ok(false),
-    }
+pub(crate) fn lacks_log(rt: &HostRuntime, path: &str) -> Result<bool, RunFault> {
+    Ok(has_one_page(rt, path) && !has_log(rt, path)?)
 }
 
 /// Where a ledger's file and its log were opened, without symbolic links, and which files they were.
