@@ -1,6 +1,6 @@
 -- What follows of what an engine was handed.
-use Rattle.std.proofs.Common.{◌≡◌, refl, sym, ap, ◌∙◌, subst, ℕ, ◌+◌, Bool, List, [], ◌∷◌, ◌++◌, length, get_or, ◌<◌, ◌≤◌, false, None, arith}
-use Rattle.tb_embed.proofs.Words.{slice_set, map-append, items_in, is_end, IsSubmitted, ReplyValue, Item, Ticket, Packet, FrontState, IsFront, take_step, with_group, has_taken, IsWithJournal, BareLedgerState, halts, with_journal, LedgerState, EachPartIsLawful, RunIsLawful, EngineState, Continues, HasPlaces, HasTaken, Serves, Steps, Queues, has_stopped, places_of, sender_refusal, ServingIsLawful, AnyEngineState, ServesBy, AreQueued, packets_in, ticket_of, packet_ticket}
+use Rattle.std.proofs.Common.{◌≡◌, refl, sym, ap, ◌∙◌, subst, ℕ, ◌+◌, Bool, List, [], ◌∷◌, ◌++◌, length, get_or, ◌<◌, ◌≤◌, false, arith}
+use Rattle.tb_embed.proofs.Words.{slice_set, map-append, items_in, is_end, IsSubmitted, ReplyValue, Item, Ticket, Packet, FrontState, IsFront, take_step, with_group, has_taken, IsWithJournal, BareLedgerState, halts, with_journal, LedgerState, EachPartIsLawful, RunIsLawful, EngineState, Continues, HasPlaces, HasTaken, Serves, Steps, Queues, has_stopped, places_of, ServingIsLawful, AnyEngineState, ServesBy, AreQueued, packets_in, ticket_of, packet_ticket}
 use Rattle.tb_embed.proofs.Places.{group_goes, places_before, ticket_goes}
 use Rattle.tb_embed.proofs.Queued.{IsNext, control_queued, packet_queued_as}
 use Rattle.tb_embed.proofs.AnyRun.{any_serving_is_lawful}
@@ -84,11 +84,6 @@ group_serves old new takes seals stopped numbers shut = record {
   seals = seals;
   stopped = stopped;
 }
-
--- a submitter that isn't refused is one of the engine's
-pub is_among : (engine : EngineState) (submitter : ℕ) → sender_refusal engine submitter ≡ None
-    → submitter < engine.front.submitters
-is_among engine submitter is = grind arith
 
 -- an engine in memory as one over any ledger, which may be each with a journal that it committed
 abbrev as_any : EngineState → AnyEngineState BareLedgerState

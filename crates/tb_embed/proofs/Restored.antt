@@ -1,12 +1,12 @@
 -- A packet that is committed by itself while nothing is held.
-use Rattle.std.proofs.Common.{◌≡◌, if◌then◌else◌, nat_lt, None, Some, Option, refl, sym, ap, ◌∙◌, subst, arith, ℕ, ◌+◌, ◌<◌, ◌≤◌, Bool, true, false, ◌&&◌, ◌||◌, List, [], ◌∷◌, ◌++◌, length, get_or, append-nil, length-append, ◌-◌, ◌^◌}
+use Rattle.std.proofs.Common.{◌≡◌, if◌then◌else◌, nat_lt, None, Some, Option, refl, sym, ap, ◌∙◌, subst, arith, ℕ, ◌+◌, ◌<◌, ◌≤◌, Bool, true, false, ◌&&◌, ◌||◌, List, [], ◌∷◌, ◌++◌, length, get_or, append-nil, length-append}
 use Rattle.tb_embed.proofs.Words.{map-append, nil_from_length, Ahead, LedgerState, ServingIsLawful, IsReply, inputs, items_in, packets_in, ◌==◌, not, nat_tests, slice_set, places_max, Numbered, Ticket, Packet, ReplyValue, FrontState, IsFront, group_as_batch, take_result, take_step, with_group, Pulse, Decision, BareLedgerState, HasSent, halts, EngineState, Continues, Queues, Serves, packet_ticket, ticket_of, places_in}
 use Rattle.tb_batch.specs.claim.Grouping.{is_taken}
 use Rattle.tb_core.specs.claim.Front.{step_of_packet}
 use Rattle.tb_work.specs.claim.Job.{numbered_packet}
 use Rattle.tb_work.specs.declared.item.Item.TheVariants as item
 use Rattle.tb_work.specs.declared.refusal.Refusal.{Refusal}
-use Rattle.tb_embed.specs.clauses.Engine.{has_stopped, pulse_refusal, submit_refusal}
+use Rattle.tb_embed.specs.clauses.Engine.{has_stopped, refusal_of_pulse, submit_refusal}
 use Rattle.tb_embed.specs.clauses.Restoring.{RestoresPacket, RestoresTicket, RestoresUnseen, fault_of, is_idle, is_next_place, packet_fault}
 use Rattle.tb_embed.specs.declared.restoring.PlacedPacket.{PlacedPacket}
 use Rattle.tb_embed.specs.declared.restoring.RestoreFault.TheVariants.{InUse}
@@ -188,12 +188,6 @@ is_idle_unless_refused engine entry none = by (is_idle engine) _ _ none
     by true refused is_next none = refl
     by false refused is_next none = cc
 
-no_refusal : (idle : Bool) (refused : Option Refusal) (is_next : Bool)
-    → (if not idle then Some InUse else fault_of refused is_next) ≡ None → refused ≡ None
-no_refusal true None is_next none = refl
-no_refusal true (Some refusal) is_next none = cc
-no_refusal false refused is_next none = cc
-
 -- there is a next place
 pub has_place : (engine : EngineState) (place : ℕ) → is_next_place engine place ≡ true → engine.ledger.places < places_max
 has_place engine place is = grind (arith, nat_tests, is)
@@ -205,15 +199,8 @@ has_next_number engine entry none =
     let is_next = no_fault (is_idle engine) (submit_refusal engine entry.submitter entry.packet) _ none in
     grind (arith, nat_tests, is_next)
 
--- and its submitter has a number left
-pub has_number : (engine : EngineState) (entry : PlacedPacket) → packet_fault engine entry ≡ None
-    → (get_or engine.numbers entry.submitter 0 == 2 ^ 64 - 1) ≡ false
-has_number engine entry none =
-    let refused = no_refusal (is_idle engine) (submit_refusal engine entry.submitter entry.packet) _ none in
-    grind (arith, refused)
-
-pub open_if_not_refused : (engine : EngineState) (moment : ℕ) → pulse_refusal engine moment ≡ None → engine.shut ≡ false
-open_if_not_refused engine moment none = by (nat_lt moment_max moment) engine.shut (has_stopped engine) none
+pub open_if_not_refused : (stopped shut : Bool) (moment : ℕ) → refusal_of_pulse stopped shut moment ≡ None → shut ≡ false
+open_if_not_refused stopped shut moment none = by (nat_lt moment_max moment) shut stopped none
   where
     by : (late shut stopped : Bool) → (if late then Some MomentTooLarge else if shut then Some Shutdown
         else if stopped then Some Stopped else None) ≡ None → shut ≡ false

@@ -18,7 +18,7 @@ pub use Rattle.tb_core.specs.claim.Run.{Commits, EachPartIsLawful, RunIsLawful, 
 pub use Rattle.tb_core.specs.declared.parcel.Parcel.{Parcel}
 pub use Rattle.tb_core.specs.declared.parcel.Parcel.TheVariants.{Pulse, Batch, Return, Last}
 pub use Rattle.tb_embed.specs.clauses.AnyEngine.{AnyEngineState, AnyServingIsLawful, ContinuesBy, HasSentBy, HasTakenBy, IsOpenedBy, QueuesBy, ServesBy}
-pub use Rattle.tb_embed.specs.clauses.Engine.{EngineState, HasPlaces, IsServed, ServingIsLawful, AreAlike, JournalRestores, PlacesAreTrue, QueueDecides, Steps, ended_run, Continues, HasTaken, Serves, Queues, has_stopped, places_of, sender_refusal, IsOpened, IsOpenedOver, HasPassed, IsControl, places_in, IsReply, AreReplies, HaveAllCome, RepliesCome}
+pub use Rattle.tb_embed.specs.clauses.Engine.{EngineState, HasPlaces, IsServed, ServingIsLawful, AreAlike, JournalRestores, PlacesAreTrue, QueueDecides, Steps, ended_run, Continues, HasTaken, Serves, Queues, has_stopped, places_of, IsOpened, IsOpenedOver, HasPassed, IsControl, places_in, IsReply, AreReplies, HaveAllCome, RepliesCome}
 pub use Rattle.tb_embed.specs.clauses.Queued.{AreQueued, packets_in, packet_ticket, ticket_of, HasEnded, HasQueued, ends_of, ended_queue}
 pub use Rattle.tb_layout.specs.claim.Bounds.{places_max, senders_max, submitters_max}
 pub use Rattle.tb_layout.specs.claim.Events.{Input}

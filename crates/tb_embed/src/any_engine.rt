@@ -10,12 +10,12 @@ ghost use Rattle.tb_core.specs.claim.Journal.{LedgerState};
 ghost use Rattle.tb_embed.specs.clauses.AnyEngine.{HasSentBy, HasTakenBy};
 ghost use Rattle.tb_embed.specs.clauses.Engine.{Steps};
 
+use crate::desk::Desk;
 use crate::unread::Unread;
 use crate::waiting::offer_control;
 use std::alloc::Global;
 use std::marker::Model;
 use tb_core::{AnyLedger, Front, Parcel};
-use tb_layout::{MOMENT_MAX, SUBMITTERS_LENGTH};
 use tb_work::{Item, Job, Moment, Packet, Refusal, Reply, Ticket};
 
 /// An engine over any ledger, such as one whose journal is in a file. It queues, commits and reads by the calls of `Engine`. Look-ups are
@@ -24,26 +24,20 @@ use tb_work::{Item, Job, Moment, Packet, Refusal, Reply, Ticket};
 /// A ledger stops if its store or memory fails as it commits, or if its places are used up. Then the replies to the packets that it
 /// was to commit say Stopped, and later packets and pulses are refused.
 pub struct AnyEngine<L: AnyLedger> {
-    limit: u32,
-    submitters: u32,
-    shut: bool,
+    desk: Desk,
     front: Front,
     ledger: L,
     unread: Unread,
-    numbers: [u64; SUBMITTERS_LENGTH],
 }
 
 impl<L: AnyLedger> Drop for AnyEngine<L> {
     /// Frees everything held in one call, so that no owner's proof repeats it.
     fn drop(self) {
         let AnyEngine {
-            limit: _,
-            submitters: _,
-            shut: _,
+            desk: _,
             front,
             ledger,
             unread,
-            numbers: _,
         } = self;
         drop(front);
         drop(ledger);
@@ -61,11 +55,11 @@ impl<L: AnyLedger> Model for AnyEngine<L> {
       front = engine.front;
       ledger = engine.ledger;
       unread = engine.unread.replies;
-      numbers = engine.numbers;
-      shut = engine.shut;
+      numbers = engine.desk.numbers;
+      shut = engine.desk.shut;
     } };
 
-    ghost invariant = { λ engine. IsEngine engine.limit engine.submitters engine.front engine.numbers };
+    ghost invariant = { λ engine. IsEngine engine.desk engine.front };
 }
 
 /// Applies the parcel, if there is one. There is capacity for its outcome.
@@ -162,7 +156,7 @@ impl<L: AnyLedger> AnyEngine<L> {
     ghost use Rattle.tb_work.specs.declared.refusal.Refusal.TheVariants.{NoMemory as NoMemoryRefusal};
     ghost use Rattle.tb_core.specs.claim.Front.{opening_refusal};
     ghost use Rattle.tb_embed.specs.clauses.AnyEngine.{ContinuesBy, HoldsNothingBy, IsOpenedBy, QueuesBy, ReadsBy};
-    ghost use Rattle.tb_embed.specs.clauses.Engine.{IsControl, IsRefusal, refusal_of_close, refusal_of_packet, refusal_of_pulse, refusal_of_sender};
+    ghost use Rattle.tb_embed.specs.clauses.Engine.{IsControl, IsRefusal, refusal_of_close, refusal_of_packet, refusal_of_pulse};
     ghost use Rattle.tb_embed.specs.clauses.Queued.{packet_ticket, ticket_of};
 
     /// Returns an engine over a ledger, in which nothing was queued. If the ledger has stopped, packets and pulses are refused.
@@ -189,13 +183,10 @@ impl<L: AnyLedger> AnyEngine<L> {
             Err(refusal) => return Err((ledger, refusal)),
         };
         Ok(AnyEngine {
-            limit,
-            submitters,
-            shut: false,
+            desk: Desk::new(limit, submitters),
             front,
             ledger,
             unread: Unread::new(alloc),
-            numbers: [0; SUBMITTERS_LENGTH],
         })
     }
 
@@ -211,13 +202,10 @@ impl<L: AnyLedger> AnyEngine<L> {
             return Err(self);
         }
         let AnyEngine {
-            limit: _,
-            submitters: _,
-            shut: _,
+            desk: _,
             front,
             ledger,
             unread,
-            numbers: _,
         } = self;
         drop(front);
         drop(unread);
@@ -291,32 +279,13 @@ impl<L: AnyLedger> AnyEngine<L> {
         }
         commit_held(&mut self.front, &mut self.ledger, &mut self.unread);
         let ticket = Ticket {
-            sender: self.submitters,
+            sender: self.desk.submitters,
             item,
         };
         let Ok(()) = pass(&mut self.front, &mut self.ledger, &mut self.unread, ticket) else {
             unreachable!()
         };
         Ok(())
-    }
-
-    /// Returns the first refusal of a packet that doesn't depend on memory or on the packet; None if there is none.
-    fn refusal(&self, submitter: u32) -> Option<Refusal>
-        ensures refusal { (ledger : LedgerState) → L.is self.now.ledger ledger
-            → result ≡ refusal_of_sender ledger.stopped self.now.front self.now.numbers submitter }
-        ensures among { IfNone result (submitter < self.now.front.submitters) }
-        ensures numbered { IfNone result (get_or self.now.numbers submitter 0 < 2 ^ 64 - 1) }
-    {
-        if submitter >= self.submitters {
-            return Some(Refusal::BadSubmitters);
-        }
-        if self.stopped() {
-            return Some(Refusal::Stopped);
-        }
-        if self.numbers[submitter as usize] == u64::MAX {
-            return Some(Refusal::Full);
-        }
-        None
     }
 
     /// Queues a submitter's packet and returns its number, as `Engine::submit` does.
@@ -341,18 +310,11 @@ impl<L: AnyLedger> AnyEngine<L> {
         ensures refusal { IfErr result (λ refused. (ledger : LedgerState) → L.is self.old.ledger ledger
             → IsRefusal (refusal_of_packet ledger.stopped self.old.front self.old.numbers submitter packet) refused.1) }
     {
-        if let Some(refusal) = self.refusal(submitter) {
-            return Err((packet, refusal));
+        let job = self.desk.job(alloc, self.stopped(), submitter, packet)?;
+        if let Err(job) = self.take(submitter, job) {
+            return Err((job.into_packet(), Refusal::NoMemory));
         }
-        let number = self.numbers[submitter as usize];
-        let job = Job::new(alloc, submitter, number, self.limit, packet)?;
-        match self.take(submitter, job) {
-            Ok(()) => {
-                self.numbers[submitter as usize] = number + 1;
-                Ok(number)
-            }
-            Err(job) => Err((job.into_packet(), Refusal::NoMemory)),
-        }
+        Ok(self.desk.count(submitter))
     }
 
     /// Queues a pulse, as `Engine::pulse` does. It returns Ok also if the ledger stops at it, and no reply shows that: ask `stopped`.
@@ -370,14 +332,8 @@ impl<L: AnyLedger> AnyEngine<L> {
         ensures refusal { IfErr result (λ refusal. (ledger : LedgerState) → L.is self.old.ledger ledger
             → IsRefusal (refusal_of_pulse ledger.stopped self.old.shut nanoseconds) refusal) }
     {
-        if nanoseconds > MOMENT_MAX {
-            return Err(Refusal::MomentTooLarge);
-        }
-        if self.shut {
-            return Err(Refusal::Shutdown);
-        }
-        if self.stopped() {
-            return Err(Refusal::Stopped);
+        if let Some(refusal) = self.desk.refusal_of_pulse(self.stopped(), nanoseconds) {
+            return Err(refusal);
         }
         self.take_control(Item::Pulse(Moment::new(nanoseconds)))?;
         Ok(())
@@ -396,11 +352,11 @@ impl<L: AnyLedger> AnyEngine<L> {
         ensures same { OnErr result (self.new ≡ self.old) }
         ensures refusal { IfErr result (λ refusal. IsRefusal (refusal_of_close self.old.shut) refusal) }
     {
-        if self.shut {
+        if self.desk.shut {
             return Err(Refusal::Shutdown);
         }
         self.take_control(Item::Close)?;
-        self.shut = true;
+        self.desk.shut = true;
         Ok(())
     }
 

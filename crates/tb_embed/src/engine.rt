@@ -20,20 +20,19 @@ ghost use Rattle.tb_core.specs.claim.Grouping.{AreJoinedParcels};
 ghost use Rattle.tb_core.specs.claim.Decision.{Admitted, Decision};
 ghost use Rattle.tb_core.specs.claim.BareLedger.{HasSent, halts, places_with};
 ghost use Rattle.tb_core.specs.claim.Journal.{LedgerState};
-ghost use Rattle.tb_embed.specs.clauses.Engine.{HasTaken, IsControl, IsPacketItem, IsOpened, IsOpenedOver, HoldsNothing, Steps, places_in, places_of, Queues, Reads, Continues, IsRefusal, sender_refusal, packet_with, submit_refusal, pulse_refusal, shut_refusal, has_stopped, state_of};
+ghost use Rattle.tb_embed.specs.clauses.Engine.{HasTaken, IsControl, IsPacketItem, IsOpened, IsOpenedOver, HoldsNothing, Steps, places_in, places_of, Queues, Reads, Continues, IsRefusal, packet_with, submit_refusal, pulse_refusal, shut_refusal, has_stopped, state_of};
 ghost use Rattle.tb_embed.specs.clauses.Queued.{ticket_of, packet_ticket};
 ghost use Rattle.tb_embed.specs.clauses.Restoring.{RestoresTicket, is_idle};
 ghost use Rattle.tb_embed.specs.inside.Waiting.{jobs_in};
 
+use crate::desk::Desk;
 use crate::unread::Unread;
 use crate::waiting::{Held, Waiting};
 use std::alloc::Global;
 use std::marker::Model;
 use tb_batch::Batch;
 use tb_core::{BareLedger, Front, Parcel, Seed};
-use tb_layout::{
-    Account, CREATE_ACCOUNTS, CREATE_TRANSFERS, EVENT_SIZE, MOMENT_MAX, SUBMITTERS_LENGTH, Transfer,
-};
+use tb_layout::{Account, CREATE_ACCOUNTS, CREATE_TRANSFERS, EVENT_SIZE, Transfer};
 use tb_tables::{Counts, Status};
 use tb_work::{Item, Job, Moment, Packet, Refusal, Reply, Ticket, count_admitted};
 
@@ -65,28 +64,22 @@ impl Due {
 
 /// A ledger without a journal, with its front and cutter, driven by its caller one call at a time.
 pub struct Engine {
-    limit: u32,
-    submitters: u32,
-    shut: bool,
+    desk: Desk,
     due: Due,
     front: Waiting,
     ledger: BareLedger,
     unread: Unread,
-    numbers: [u64; SUBMITTERS_LENGTH],
 }
 
 impl Drop for Engine {
     /// Frees everything held in one call, so that no owner's proof repeats it.
     fn drop(self) {
         let Engine {
-            limit: _,
-            submitters: _,
-            shut: _,
+            desk: _,
             due: _,
             front,
             ledger,
             unread,
-            numbers: _,
         } = self;
         drop(front);
         drop(ledger);
@@ -103,11 +96,11 @@ impl Model for Engine {
       front = engine.front;
       ledger = engine.ledger;
       unread = engine.unread.replies;
-      numbers = engine.numbers;
-      shut = engine.shut;
+      numbers = engine.desk.numbers;
+      shut = engine.desk.shut;
     } };
 
-    ghost invariant = { λ engine. IsEngine engine.limit engine.submitters engine.front engine.numbers };
+    ghost invariant = { λ engine. IsEngine engine.desk engine.front };
 }
 
 /// Applies the parcel, if there is one and capacity for its outcome. If its allocation fails, its batch is returned and nothing
@@ -314,9 +307,7 @@ impl Engine {
             Err(refusal) => return Err((ledger, refusal)),
         };
         Ok(Engine {
-            limit,
-            submitters,
-            shut: false,
+            desk: Desk::new(limit, submitters),
             due: Due {
                 accounts: 0,
                 transfers: 0,
@@ -324,7 +315,6 @@ impl Engine {
             front: Waiting::over(front),
             ledger,
             unread: Unread::new(alloc),
-            numbers: [0; SUBMITTERS_LENGTH],
         })
     }
 
@@ -340,14 +330,11 @@ impl Engine {
             return Err(self);
         }
         let Engine {
-            limit: _,
-            submitters: _,
-            shut: _,
+            desk: _,
             due: _,
             front,
             ledger,
             unread,
-            numbers: _,
         } = self;
         drop(front);
         drop(unread);
@@ -389,9 +376,8 @@ impl Engine {
         if self.unread.reserve(1).is_err() {
             return Err(job);
         }
-        let due = self
-            .due
-            .with(job.packet(), self.front.is_holding(), self.limit);
+        let is_holding = self.front.is_holding();
+        let due = self.due.with(job.packet(), is_holding, self.desk.limit);
         if self.ledger.reserve(due.accounts, due.transfers).is_err() {
             return Err(job);
         }
@@ -425,34 +411,19 @@ impl Engine {
         }
         commit_held(&mut self.front, &mut self.ledger, &mut self.unread)?;
         let ticket = Ticket {
-            sender: self.submitters,
+            sender: self.desk.submitters,
             item,
         };
         pass(&mut self.front, &mut self.ledger, &mut self.unread, ticket);
         Ok(())
     }
 
-    /// Returns the first refusal of a packet that doesn't depend on memory or on the packet; None if there is none.
-    fn refusal(&self, submitter: u32) -> Option<Refusal>
-        ensures { result ≡ sender_refusal self.now submitter }
-    {
-        if submitter >= self.submitters {
-            return Some(Refusal::BadSubmitters);
-        }
-        if self.stopped() {
-            return Some(Refusal::Stopped);
-        }
-        if self.numbers[submitter as usize] == u64::MAX {
-            return Some(Refusal::Full);
-        }
-        None
-    }
-
     /// Returns the number of a submitter's next packet, which counts that submitter's packets from 0; 0 if there is no such submitter.
     pub fn next_number(&self, submitter: u32) -> u64
         ensures { result ≡ get_or self.now.numbers submitter 0 }
     {
-        self.numbers
+        self.desk
+            .numbers
             .get(submitter as usize)
             .map_or(0, |number| *number)
     }
@@ -462,9 +433,9 @@ impl Engine {
     pub fn refusal_of(&self, submitter: u32, operation: u8, bytes: &[u8]) -> Option<Refusal>
         ensures { (user : ℕ) → result ≡ submit_refusal self.now submitter (packet_with operation bytes.now user) }
     {
-        match self.refusal(submitter) {
+        match self.desk.refusal(self.stopped(), submitter) {
             Some(refusal) => Some(refusal),
-            None => count_admitted(self.limit, operation, bytes).err(),
+            None => count_admitted(self.desk.limit, operation, bytes).err(),
         }
     }
 
@@ -488,33 +459,18 @@ impl Engine {
         ensures back { IfErr result (λ refused. (refused.0 ≡ packet) × (self.new ≡ self.old)) }
         ensures refusal { IfErr result (λ refused. IsRefusal (submit_refusal self.old submitter packet) refused.1) }
     {
-        if let Some(refusal) = self.refusal(submitter) {
-            return Err((packet, refusal));
+        let job = self.desk.job(alloc, self.stopped(), submitter, packet)?;
+        if let Err(job) = self.take(submitter, job) {
+            return Err((job.into_packet(), Refusal::NoMemory));
         }
-        let number = self.numbers[submitter as usize];
-        let job = Job::new(alloc, submitter, number, self.limit, packet)?;
-        match self.take(submitter, job) {
-            Ok(()) => {
-                self.numbers[submitter as usize] = number + 1;
-                Ok(number)
-            }
-            Err(job) => Err((job.into_packet(), Refusal::NoMemory)),
-        }
+        Ok(self.desk.count(submitter))
     }
 
     /// Returns why `pulse` would refuse this moment if memory is there; None if it would queue the pulse.
     pub fn refusal_of_pulse(&self, nanoseconds: u64) -> Option<Refusal>
         ensures { result ≡ pulse_refusal self.now nanoseconds }
     {
-        if nanoseconds > MOMENT_MAX {
-            Some(Refusal::MomentTooLarge)
-        } else if self.shut {
-            Some(Refusal::Shutdown)
-        } else if self.stopped() {
-            Some(Refusal::Stopped)
-        } else {
-            None
-        }
+        self.desk.refusal_of_pulse(self.stopped(), nanoseconds)
     }
 
     /// Queues a pulse, which raises the clock to a moment in nanoseconds and lets pending transfers expire whose
@@ -550,11 +506,11 @@ impl Engine {
         ensures same { OnErr result (self.new ≡ self.old) }
         ensures refusal { IfErr result (λ refusal. IsRefusal (shut_refusal self.old) refusal) }
     {
-        if self.shut {
+        if self.desk.shut {
             return Err(Refusal::Shutdown);
         }
         self.take_control(Item::Close)?;
-        self.shut = true;
+        self.desk.shut = true;
         Ok(())
     }
 
@@ -587,8 +543,8 @@ impl Engine {
         self.front.begins_group() && self.unread.next().is_none()
     }
 
-    /// Queues a submitter's packet while nothing is held or unread, and commits it by itself. Its reply is unread then. If memory runs out,
-    /// the packet comes back and nothing has changed.
+    /// Queues a submitter's packet while nothing is held or unread, and commits it by itself. Its reply is unread then. If it is refused or
+    /// memory runs out, the packet comes back and nothing has changed.
     pub(crate) fn commit_alone(
         &mut self,
         alloc: Global,
@@ -596,8 +552,6 @@ impl Engine {
         packet: Packet,
     ) -> Result<(), Packet>
         requires idle { is_idle self.old ≡ true }
-        requires among { submitter < self.old.front.submitters }
-        requires more { get_or self.old.numbers submitter 0 < 2 ^ 64 - 1 }
         requires place { self.old.ledger.places < places_max }
         requires goes { has_stopped self.old ≡ false }
         ensures ok { OnOk result (RestoresTicket self.old
@@ -610,16 +564,14 @@ impl Engine {
         if self.unread.reserve(1).is_err() {
             return Err(packet);
         }
-        let at = submitter as usize;
-        let number = self.numbers[at];
-        let job = match Job::new(alloc, submitter, number, self.limit, packet) {
+        let job = match self.desk.job(alloc, false, submitter, packet) {
             Ok(job) => job,
             Err((packet, _)) => return Err(packet),
         };
         self.front.begin(job);
         match commit_held(&mut self.front, &mut self.ledger, &mut self.unread) {
             Ok(()) => {
-                self.numbers[at] = number + 1;
+                self.desk.count(submitter);
                 Ok(())
             }
             Err(_) => Err(self.front.release().into_packet()),

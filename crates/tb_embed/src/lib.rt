@@ -25,6 +25,7 @@
 #![tactic(auto)]
 
 mod any_engine;
+mod desk;
 mod engine;
 mod laws;
 mod recorded;

@@ -79,10 +79,7 @@ fn is_committed(outcome: &Outcome) -> bool
 fn is_below(place: u64, outcome: &Outcome) -> bool
     ensures { result ≡ is_below place outcome.now }
 {
-    match outcome {
-        Outcome::Committed { place: other, .. } => place < *other,
-        Outcome::Shutdown | Outcome::Stopped => true,
-    }
+    !is_committed(outcome) || place < place_in(outcome)
 }
 
 /// Returns the place of a packet; 0 if it isn't committed.
@@ -99,10 +96,7 @@ fn place_in(outcome: &Outcome) -> u64
 fn is_stored(durable: u64, outcome: &Outcome) -> bool
     ensures { result ≡ is_stored durable outcome.now }
 {
-    match outcome {
-        Outcome::Committed { place, .. } => *place < durable,
-        Outcome::Shutdown | Outcome::Stopped => true,
-    }
+    !is_committed(outcome) || place_in(outcome) < durable
 }
 
 impl RecordedEngine {

@@ -26,6 +26,7 @@ use Rattle.tb_core.specs.claim.BareLedger.{BareLedgerState, HasCommitted, HasSen
 use Rattle.tb_core.specs.declared.parcel.Parcel.{Parcel}
 use Rattle.tb_core.specs.declared.parcel.Parcel.TheVariants.{Batch, Pulse}
 use Rattle.tb_embed.specs.clauses.Queued.{AreQueued, ended_queue, packets_in}
+use Rattle.tb_embed.specs.declared.desk.Desk.{Desk}
 
 -- the front, the bare ledger, the replies that are not read, of each submitter the number of its next packet, and whether
 -- the Close was queued
@@ -38,12 +39,12 @@ pub record EngineState : Type 0 where
 
 -- The limit and the number of submitters are those of the front. The front doesn't stop: a packet for which it has no memory
 -- isn't queued.
-pub record IsEngine (limit submitters : ℕ) (front : FrontState) (numbers : List ℕ) : Type 0 where
-  pub limited : front.limit ≡ limit
-  pub counted : front.submitters ≡ submitters
-  pub few : limit ≤ batch_max
-  pub among : submitters ≤ submitters_max
-  pub each : length numbers ≡ submitters_max
+pub record IsEngine (desk : Desk) (front : FrontState) : Type 0 where
+  pub limited : front.limit ≡ desk.limit
+  pub counted : front.submitters ≡ desk.submitters
+  pub few : desk.limit ≤ batch_max
+  pub among : desk.submitters ≤ submitters_max
+  pub each : length desk.numbers ≡ submitters_max
   pub goes : front.stopped ≡ false
 
 -- the state of the machine
@@ -158,16 +159,16 @@ abbrev pub packet_with : ℕ → List ℕ → ℕ → Packet
 packet_with operation bytes user = record { operation = operation; bytes = bytes; user = user }
 
 -- why no packet of a submitter is queued: there is no such submitter, the engine stopped, or the submitter has no number left
-abbrev pub refusal_of_sender : Bool → FrontState → List ℕ → ℕ → Option Refusal
-refusal_of_sender stopped front numbers submitter =
-    if nat_le front.submitters submitter then Some BadSubmitters
+abbrev pub refusal_of_sender : Bool → ℕ → List ℕ → ℕ → Option Refusal
+refusal_of_sender stopped submitters numbers submitter =
+    if nat_le submitters submitter then Some BadSubmitters
     else if stopped then Some Stopped
     else if get_or numbers submitter 0 == 2 ^ 64 - 1 then Some Full else None
 
 -- why a packet isn't queued, if memory is there: its submitter's refusal, or that of its admission
 abbrev pub refusal_of_packet : Bool → FrontState → List ℕ → ℕ → Packet → Option Refusal
 refusal_of_packet stopped front numbers submitter packet =
-    either (refusal_of_sender stopped front numbers submitter) (refusal_in (admission_of front.limit packet))
+    either (refusal_of_sender stopped front.submitters numbers submitter) (refusal_in (admission_of front.limit packet))
 
 -- why a pulse isn't queued, if memory is there
 abbrev pub refusal_of_pulse : Bool → Bool → ℕ → Option Refusal
@@ -180,9 +181,6 @@ abbrev pub refusal_of_close : Bool → Option Refusal
 refusal_of_close shut = if shut then Some Shutdown else None
 
 -- the same of an engine in memory
-abbrev pub sender_refusal : EngineState → ℕ → Option Refusal
-sender_refusal engine submitter = refusal_of_sender (has_stopped engine) engine.front engine.numbers submitter
-
 abbrev pub submit_refusal : EngineState → ℕ → Packet → Option Refusal
 submit_refusal engine submitter packet =
     refusal_of_packet (has_stopped engine) engine.front engine.numbers submitter packet

@@ -1,43 +1,22 @@
-use Rattle.std.proofs.Common.{rules, ◌≡◌, ◌∙◌, refl, sym, ap, subst, arith, ◌<◌, ◌+◌, ◌++◌, ◌∷◌, [], length, get_or, true, false}
+use Rattle.std.proofs.Common.{◌≡◌, ◌∙◌, refl, sym, ap, subst, arith, ◌<◌, ◌++◌, ◌∷◌, [], length, get_or, true, false}
 use Rattle.tb_embed.specs.contracts.engine.Engine.{the_view}
-use Rattle.tb_embed.specs.clauses.Engine.{IsEngine}
 use Rattle.tb_embed.specs.clauses.Restoring.{is_idle}
-use Rattle.tb_embed.proofs.Words.{EngineState, FrontState, HasTaken, Numbered, halts, places_max, slice_set, with_group}
+use Rattle.tb_embed.proofs.Words.{EngineState, FrontState, HasTaken, Numbered, halts, places_max, with_group}
 use Rattle.tb_embed.proofs.EngineRun.{group_serves}
 use Rattle.tb_embed.proofs.Restored.{alone_restores, first_is, released, same_engine}
 use Rattle.tb_embed.proofs.engine.Engine.commit_alone.Goals as goal
 
-pub invariant_of-self-in-Ok-commit_held : goal.invariant_of-self-in-Ok-commit_held
-invariant_of-self-in-Ok-commit_held c =
-    let known = c.self.invariant in
-    let idle = subst (λ e. is_idle e ≡ true) (sym c.self.view_is) c.requires.idle in
-    let old = the_view c.self.inside in
-    let number = get_or c.self.inside.numbers c.args.submitter 0 in
-    let sound = c.begins_group.ensures.front in
-    let front : c.commit_held.new.front ≡ c.self.inside.front = c.in-Ok-commit_held.ensures.sealed
-    ∙ ap (λ f. with_group f []) (c.begin.ensures ∙ ap (λ (j : Numbered). with_group c.self.inside.front (j ∷ [])) c.in-Ok.ensures.job)
-    ∙ released old c.args.submitter number c.args.packet sound idle in
-    subst (λ f. IsEngine c.self.inside.limit c.self.inside.submitters f (slice_set c.self.inside.numbers c.args.submitter (number + 1)))
-    (sym front) (record {
-      limited = known.limited;
-      counted = known.counted;
-      few = known.few;
-      among = known.among;
-      each = search rules;
-      goes = known.goes;
-    })
-
 pub returns-in-Ok-commit_held-clause-ok : goal.returns-in-Ok-commit_held-clause-ok
-returns-in-Ok-commit_held-clause-ok c = rw (← c.self.view_is) (
+returns-in-Ok-commit_held-clause-ok c = rw (← c.self.view_is, c.count.ensures.counted, c.count.ensures.number) (
     let known = c.self.invariant in
     let idle = subst (λ e. is_idle e ≡ true) (sym c.self.view_is) c.requires.idle in
     let old = the_view c.self.inside in
-    let number = get_or c.self.inside.numbers c.args.submitter 0 in
+    let number = get_or c.self.inside.desk.numbers c.args.submitter 0 in
     let sound = c.begins_group.ensures.front in
     let done = c.in-Ok-commit_held.ensures in
     let begun = c.begin.ensures ∙ ap (λ (j : Numbered). with_group c.self.inside.front (j ∷ [])) c.in-Ok.ensures.job in
     alone_restores old c.args.submitter number c.args.packet sound idle _
-    (subst (λ (e : EngineState). c.args.submitter < e.front.submitters) (sym c.self.view_is) c.requires.among)
+    (omega (arith, known.counted, c.in-Ok.ensures.among))
     (omega (arith, known.counted, known.among, known.each))
     (subst (λ (e : EngineState). e.ledger.places < places_max) (sym c.self.view_is) c.requires.place)
     (subst (λ (e : EngineState). e.ledger.stopped ≡ false) (sym c.self.view_is) c.requires.goes) refl
@@ -51,7 +30,7 @@ pub returns-in-Err-commit_held-clause-back : goal.returns-in-Err-commit_held-cla
 returns-in-Err-commit_held-clause-back c = rw (← c.self.view_is) (
     let idle = subst (λ e. is_idle e ≡ true) (sym c.self.view_is) c.requires.idle in
     let old = the_view c.self.inside in
-    let number = get_or c.self.inside.numbers c.args.submitter 0 in
+    let number = get_or c.self.inside.desk.numbers c.args.submitter 0 in
     let sound = c.begins_group.ensures.front in
     let same = c.in-Err-commit_held.ensures.same in
     let begun = same.0 ∙ c.begin.ensures ∙ ap (λ (j : Numbered). with_group c.self.inside.front (j ∷ [])) c.in-Ok.ensures.job in (
