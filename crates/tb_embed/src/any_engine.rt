@@ -10,7 +10,7 @@ ghost use Rattle.tb_core.specs.claim.Journal.{LedgerState};
 ghost use Rattle.tb_embed.specs.clauses.AnyEngine.{HasSentBy, HasTakenBy};
 ghost use Rattle.tb_embed.specs.clauses.Engine.{Steps};
 
-use crate::desk::Desk;
+use crate::senders::Senders;
 use crate::unread::Unread;
 use crate::waiting::offer_control;
 use std::alloc::Global;
@@ -24,7 +24,7 @@ use tb_work::{Item, Job, Moment, Packet, Refusal, Reply, Ticket};
 /// A ledger stops if its store or memory fails as it commits, or if its places are used up. Then the replies to the packets that it
 /// was to commit say Stopped, and later packets and pulses are refused.
 pub struct AnyEngine<L: AnyLedger> {
-    desk: Desk,
+    senders: Senders,
     front: Front,
     ledger: L,
     unread: Unread,
@@ -34,7 +34,7 @@ impl<L: AnyLedger> Drop for AnyEngine<L> {
     /// Frees everything held in one call, so that no owner's proof repeats it.
     fn drop(self) {
         let AnyEngine {
-            desk: _,
+            senders: _,
             front,
             ledger,
             unread,
@@ -55,11 +55,11 @@ impl<L: AnyLedger> Model for AnyEngine<L> {
       front = engine.front;
       ledger = engine.ledger;
       unread = engine.unread.replies;
-      numbers = engine.desk.numbers;
-      shut = engine.desk.shut;
+      numbers = engine.senders.numbers;
+      shut = engine.senders.shut;
     } };
 
-    ghost invariant = { λ engine. IsEngine engine.desk engine.front };
+    ghost invariant = { λ engine. IsEngine engine.senders engine.front };
 }
 
 /// Applies the parcel, if there is one. There is capacity for its outcome.
@@ -183,7 +183,7 @@ impl<L: AnyLedger> AnyEngine<L> {
             Err(refusal) => return Err((ledger, refusal)),
         };
         Ok(AnyEngine {
-            desk: Desk::new(limit, submitters),
+            senders: Senders::new(limit, submitters),
             front,
             ledger,
             unread: Unread::new(alloc),
@@ -202,7 +202,7 @@ impl<L: AnyLedger> AnyEngine<L> {
             return Err(self);
         }
         let AnyEngine {
-            desk: _,
+            senders: _,
             front,
             ledger,
             unread,
@@ -279,7 +279,7 @@ impl<L: AnyLedger> AnyEngine<L> {
         }
         commit_held(&mut self.front, &mut self.ledger, &mut self.unread);
         let ticket = Ticket {
-            sender: self.desk.submitters,
+            sender: self.senders.submitters,
             item,
         };
         let Ok(()) = pass(&mut self.front, &mut self.ledger, &mut self.unread, ticket) else {
@@ -310,11 +310,11 @@ impl<L: AnyLedger> AnyEngine<L> {
         ensures refusal { IfErr result (λ refused. (ledger : LedgerState) → L.is self.old.ledger ledger
             → IsRefusal (refusal_of_packet ledger.stopped self.old.front self.old.numbers submitter packet) refused.1) }
     {
-        let job = self.desk.job(alloc, self.stopped(), submitter, packet)?;
+        let job = self.senders.job(alloc, self.stopped(), submitter, packet)?;
         if let Err(job) = self.take(submitter, job) {
             return Err((job.into_packet(), Refusal::NoMemory));
         }
-        Ok(self.desk.count(submitter))
+        Ok(self.senders.count(submitter))
     }
 
     /// Queues a pulse, as `Engine::pulse` does. It returns Ok also if the ledger stops at it, and no reply shows that: ask `stopped`.
@@ -332,7 +332,7 @@ impl<L: AnyLedger> AnyEngine<L> {
         ensures refusal { IfErr result (λ refusal. (ledger : LedgerState) → L.is self.old.ledger ledger
             → IsRefusal (refusal_of_pulse ledger.stopped self.old.shut nanoseconds) refusal) }
     {
-        if let Some(refusal) = self.desk.refusal_of_pulse(self.stopped(), nanoseconds) {
+        if let Some(refusal) = self.senders.refusal_of_pulse(self.stopped(), nanoseconds) {
             return Err(refusal);
         }
         self.take_control(Item::Pulse(Moment::new(nanoseconds)))?;
@@ -352,11 +352,11 @@ impl<L: AnyLedger> AnyEngine<L> {
         ensures same { OnErr result (self.new ≡ self.old) }
         ensures refusal { IfErr result (λ refusal. IsRefusal (refusal_of_close self.old.shut) refusal) }
     {
-        if self.desk.shut {
+        if self.senders.shut {
             return Err(Refusal::Shutdown);
         }
         self.take_control(Item::Close)?;
-        self.desk.shut = true;
+        self.senders.shut = true;
         Ok(())
     }
 

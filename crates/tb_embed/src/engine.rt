@@ -25,7 +25,7 @@ ghost use Rattle.tb_embed.specs.clauses.Queued.{ticket_of, packet_ticket};
 ghost use Rattle.tb_embed.specs.clauses.Restoring.{RestoresTicket, is_idle};
 ghost use Rattle.tb_embed.specs.inside.Waiting.{jobs_in};
 
-use crate::desk::Desk;
+use crate::senders::Senders;
 use crate::unread::Unread;
 use crate::waiting::{Held, Waiting};
 use std::alloc::Global;
@@ -64,7 +64,7 @@ impl Due {
 
 /// A ledger without a journal, with its front and cutter, driven by its caller one call at a time.
 pub struct Engine {
-    desk: Desk,
+    senders: Senders,
     due: Due,
     front: Waiting,
     ledger: BareLedger,
@@ -75,7 +75,7 @@ impl Drop for Engine {
     /// Frees everything held in one call, so that no owner's proof repeats it.
     fn drop(self) {
         let Engine {
-            desk: _,
+            senders: _,
             due: _,
             front,
             ledger,
@@ -96,11 +96,11 @@ impl Model for Engine {
       front = engine.front;
       ledger = engine.ledger;
       unread = engine.unread.replies;
-      numbers = engine.desk.numbers;
-      shut = engine.desk.shut;
+      numbers = engine.senders.numbers;
+      shut = engine.senders.shut;
     } };
 
-    ghost invariant = { λ engine. IsEngine engine.desk engine.front };
+    ghost invariant = { λ engine. IsEngine engine.senders engine.front };
 }
 
 /// Applies the parcel, if there is one and capacity for its outcome. If its allocation fails, its batch is returned and nothing
@@ -307,7 +307,7 @@ impl Engine {
             Err(refusal) => return Err((ledger, refusal)),
         };
         Ok(Engine {
-            desk: Desk::new(limit, submitters),
+            senders: Senders::new(limit, submitters),
             due: Due {
                 accounts: 0,
                 transfers: 0,
@@ -330,7 +330,7 @@ impl Engine {
             return Err(self);
         }
         let Engine {
-            desk: _,
+            senders: _,
             due: _,
             front,
             ledger,
@@ -377,7 +377,7 @@ impl Engine {
             return Err(job);
         }
         let is_holding = self.front.is_holding();
-        let due = self.due.with(job.packet(), is_holding, self.desk.limit);
+        let due = self.due.with(job.packet(), is_holding, self.senders.limit);
         if self.ledger.reserve(due.accounts, due.transfers).is_err() {
             return Err(job);
         }
@@ -411,7 +411,7 @@ impl Engine {
         }
         commit_held(&mut self.front, &mut self.ledger, &mut self.unread)?;
         let ticket = Ticket {
-            sender: self.desk.submitters,
+            sender: self.senders.submitters,
             item,
         };
         pass(&mut self.front, &mut self.ledger, &mut self.unread, ticket);
@@ -422,7 +422,7 @@ impl Engine {
     pub fn next_number(&self, submitter: u32) -> u64
         ensures { result ≡ get_or self.now.numbers submitter 0 }
     {
-        self.desk
+        self.senders
             .numbers
             .get(submitter as usize)
             .map_or(0, |number| *number)
@@ -433,9 +433,9 @@ impl Engine {
     pub fn refusal_of(&self, submitter: u32, operation: u8, bytes: &[u8]) -> Option<Refusal>
         ensures { (user : ℕ) → result ≡ submit_refusal self.now submitter (packet_with operation bytes.now user) }
     {
-        match self.desk.refusal(self.stopped(), submitter) {
+        match self.senders.refusal(self.stopped(), submitter) {
             Some(refusal) => Some(refusal),
-            None => count_admitted(self.desk.limit, operation, bytes).err(),
+            None => count_admitted(self.senders.limit, operation, bytes).err(),
         }
     }
 
@@ -459,18 +459,18 @@ impl Engine {
         ensures back { IfErr result (λ refused. (refused.0 ≡ packet) × (self.new ≡ self.old)) }
         ensures refusal { IfErr result (λ refused. IsRefusal (submit_refusal self.old submitter packet) refused.1) }
     {
-        let job = self.desk.job(alloc, self.stopped(), submitter, packet)?;
+        let job = self.senders.job(alloc, self.stopped(), submitter, packet)?;
         if let Err(job) = self.take(submitter, job) {
             return Err((job.into_packet(), Refusal::NoMemory));
         }
-        Ok(self.desk.count(submitter))
+        Ok(self.senders.count(submitter))
     }
 
     /// Returns why `pulse` would refuse this moment if memory is there; None if it would queue the pulse.
     pub fn refusal_of_pulse(&self, nanoseconds: u64) -> Option<Refusal>
         ensures { result ≡ pulse_refusal self.now nanoseconds }
     {
-        self.desk.refusal_of_pulse(self.stopped(), nanoseconds)
+        self.senders.refusal_of_pulse(self.stopped(), nanoseconds)
     }
 
     /// Queues a pulse, which raises the clock to a moment in nanoseconds and lets pending transfers expire whose
@@ -506,11 +506,11 @@ impl Engine {
         ensures same { OnErr result (self.new ≡ self.old) }
         ensures refusal { IfErr result (λ refusal. IsRefusal (shut_refusal self.old) refusal) }
     {
-        if self.desk.shut {
+        if self.senders.shut {
             return Err(Refusal::Shutdown);
         }
         self.take_control(Item::Close)?;
-        self.desk.shut = true;
+        self.senders.shut = true;
         Ok(())
     }
 
@@ -564,14 +564,14 @@ impl Engine {
         if self.unread.reserve(1).is_err() {
             return Err(packet);
         }
-        let job = match self.desk.job(alloc, false, submitter, packet) {
+        let job = match self.senders.job(alloc, false, submitter, packet) {
             Ok(job) => job,
             Err((packet, _)) => return Err(packet),
         };
         self.front.begin(job);
         match commit_held(&mut self.front, &mut self.ledger, &mut self.unread) {
             Ok(()) => {
-                self.desk.count(submitter);
+                self.senders.count(submitter);
                 Ok(())
             }
             Err(_) => Err(self.front.release().into_packet()),

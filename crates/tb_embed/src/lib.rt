@@ -25,11 +25,11 @@
 #![tactic(auto)]
 
 mod any_engine;
-mod desk;
 mod engine;
 mod laws;
 mod recorded;
 mod restoring;
+mod senders;
 mod unread;
 mod waiting;
 

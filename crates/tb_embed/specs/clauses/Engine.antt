@@ -26,7 +26,7 @@ use Rattle.tb_core.specs.claim.BareLedger.{BareLedgerState, HasCommitted, HasSen
 use Rattle.tb_core.specs.declared.parcel.Parcel.{Parcel}
 use Rattle.tb_core.specs.declared.parcel.Parcel.TheVariants.{Batch, Pulse}
 use Rattle.tb_embed.specs.clauses.Queued.{AreQueued, ended_queue, packets_in}
-use Rattle.tb_embed.specs.declared.desk.Desk.{Desk}
+use Rattle.tb_embed.specs.declared.senders.Senders.{Senders}
 
 -- the front, the bare ledger, the replies that are not read, of each submitter the number of its next packet, and whether
 -- the Close was queued
@@ -39,12 +39,12 @@ pub record EngineState : Type 0 where
 
 -- The limit and the number of submitters are those of the front. The front doesn't stop: a packet for which it has no memory
 -- isn't queued.
-pub record IsEngine (desk : Desk) (front : FrontState) : Type 0 where
-  pub limited : front.limit ≡ desk.limit
-  pub counted : front.submitters ≡ desk.submitters
-  pub few : desk.limit ≤ batch_max
-  pub among : desk.submitters ≤ submitters_max
-  pub each : length desk.numbers ≡ submitters_max
+pub record IsEngine (senders : Senders) (front : FrontState) : Type 0 where
+  pub limited : front.limit ≡ senders.limit
+  pub counted : front.submitters ≡ senders.submitters
+  pub few : senders.limit ≤ batch_max
+  pub among : senders.submitters ≤ submitters_max
+  pub each : length senders.numbers ≡ submitters_max
   pub goes : front.stopped ≡ false
 
 -- the state of the machine

@@ -13,7 +13,7 @@ returns-clause-ok g c =
     let done = c.in_ok-take_control.ensures in
     let x = item.Pulse c.args.nanoseconds in
     let open_yet = ap (λ (s : AnyEngineState _). s.shut) (sym c.self.view_is)
-    ∙ open_if_not_refused _ c.self.inside.desk.shut c.args.nanoseconds (sym c.refusal_of_pulse.ensures ∙ c.in_default.is) in
+    ∙ open_if_not_refused _ c.self.inside.senders.shut c.args.nanoseconds (sym c.refusal_of_pulse.ensures ∙ c.in_default.is) in
     subst (λ b. QueuesBy may_be old (ticket_of old.front.submitters x) (record new { shut = b })) (sym (done.same.1 ∙ open_yet))
     (control_by may_be old new x
     (subst (λ moment. TookBy may_be old new (ticket_of old.front.submitters (item.Pulse moment))) c.new.ensures

@@ -10,11 +10,11 @@ returns-clause-ok g c =
     let old = c.args.self.now in
     let new = c.take.new.self in
     let submitter = c.args.submitter in
-    let number = get_or c.self.inside.desk.numbers submitter 0 in
+    let number = get_or c.self.inside.senders.numbers submitter 0 in
     let done = c.in_default.ensures in
     let known = c.self.invariant in
     let next = λ (s : AnyEngineState _). get_or s.numbers submitter 0 in
-    let same : get_or c.self-2.inside.desk.numbers submitter 0 ≡ number =
+    let same : get_or c.self-2.inside.senders.numbers submitter 0 ≡ number =
     ap next c.self-2.view_is ∙ ap (λ numbers. get_or numbers submitter 0) done.same.0 ∙ ap next (sym c.self.view_is) in
     rw (c.count.ensures.counted, c.count.ensures.number, same) (
     subst (λ (s : AnyEngineState _). QueuesBy may_be old (packet_ticket submitter number c.args.packet)

@@ -11,7 +11,7 @@ returns-in-Ok-commit_held-clause-ok c = rw (← c.self.view_is, c.count.ensures.
     let known = c.self.invariant in
     let idle = subst (λ e. is_idle e ≡ true) (sym c.self.view_is) c.requires.idle in
     let old = the_view c.self.inside in
-    let number = get_or c.self.inside.desk.numbers c.args.submitter 0 in
+    let number = get_or c.self.inside.senders.numbers c.args.submitter 0 in
     let sound = c.begins_group.ensures.front in
     let done = c.in-Ok-commit_held.ensures in
     let begun = c.begin.ensures ∙ ap (λ (j : Numbered). with_group c.self.inside.front (j ∷ [])) c.in-Ok.ensures.job in
@@ -30,7 +30,7 @@ pub returns-in-Err-commit_held-clause-back : goal.returns-in-Err-commit_held-cla
 returns-in-Err-commit_held-clause-back c = rw (← c.self.view_is) (
     let idle = subst (λ e. is_idle e ≡ true) (sym c.self.view_is) c.requires.idle in
     let old = the_view c.self.inside in
-    let number = get_or c.self.inside.desk.numbers c.args.submitter 0 in
+    let number = get_or c.self.inside.senders.numbers c.args.submitter 0 in
     let sound = c.begins_group.ensures.front in
     let same = c.in-Err-commit_held.ensures.same in
     let begun = same.0 ∙ c.begin.ensures ∙ ap (λ (j : Numbered). with_group c.self.inside.front (j ∷ [])) c.in-Ok.ensures.job in (

@@ -1,6 +1,6 @@
 -- Found by the prover itself; on file since the check of an edit then costs less.
 use Rattle.std.proofs.Common.{rules}
-use Rattle.tb_embed.proofs.desk.Desk.job.Goals as goal
+use Rattle.tb_embed.proofs.senders.Senders.job.Goals as goal
 
 pub returns-clause-refusal : goal.returns-clause-refusal
 returns-clause-refusal c = search rules

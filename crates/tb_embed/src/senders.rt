@@ -10,22 +10,22 @@ use std::alloc::Global;
 use tb_layout::{MOMENT_MAX, SUBMITTERS_LENGTH};
 use tb_work::{Job, Packet, Refusal};
 
-/// What an engine knows of its queue: how many events a packet may have, how many submitters there are, which number the next packet of each
+/// What an engine knows of its senders: how many events a packet may have, how many submitters there are, which number the next packet of each
 /// has, and whether the Close was queued.
 #[derive(Drop)]
-pub(crate) struct Desk {
+pub(crate) struct Senders {
     pub(crate) limit: u32,
     pub(crate) submitters: u32,
     pub(crate) shut: bool,
     pub(crate) numbers: [u64; SUBMITTERS_LENGTH],
 }
 
-impl Desk {
-    /// Returns the desk of an engine in which nothing was queued.
-    pub(crate) fn new(limit: u32, submitters: u32) -> Desk
+impl Senders {
+    /// Returns those of an engine in which nothing was queued.
+    pub(crate) fn new(limit: u32, submitters: u32) -> Senders
         ensures { result ≡ record { limit = limit; submitters = submitters; shut = false; numbers = replicate submitters_max 0 } }
     {
-        Desk {
+        Senders {
             limit,
             submitters,
             shut: false,

@@ -1,6 +1,6 @@
 -- Found by the prover itself; on file since the check of an edit then costs less.
 use Rattle.std.proofs.Common.{rules}
-use Rattle.tb_embed.proofs.desk.Desk.refusal.Goals as goal
+use Rattle.tb_embed.proofs.senders.Senders.refusal.Goals as goal
 
 pub returns-then-stopped : goal.returns-then-stopped
 returns-then-stopped c = search rules
