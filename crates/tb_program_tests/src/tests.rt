@@ -1,6 +1,8 @@
 //! What no clause says: worked examples by name, faults by their lines, readers and writers that fail, and what `run`
 //! prints.
 
+ghost use Rattle.std.specs.Prelude.{◌≡◌, true};
+
 use std::alloc::Global;
 use std::process::Abort;
 use std::sync::Wait;
@@ -8,7 +10,6 @@ use std::thread::Threads;
 use std::time::Clock;
 use tb_program::{run_script, run_threads};
 use tb_test_makers::check;
-pub(crate) use tb_test_makers::must;
 
 mod cases;
 mod codes;
@@ -16,6 +17,15 @@ mod examples;
 mod faults;
 mod printed;
 mod streams;
+
+/// Ends the test unless a fact holds, as `check!` does. As a call it is cheaper to prove than the branch that `check!` writes.
+fn must(rt: &impl Abort, fact: bool)
+    ensures { fact ≡ true }
+{
+    if !fact {
+        rt.abort()
+    }
+}
 
 /// Adds texts.
 fn add(rt: &impl Abort, text: &mut String, parts: &[&str]) {

@@ -3,10 +3,9 @@
 //! Each maker returns an error only if memory runs out, and `job` also if the packet isn't admitted.
 #![tactic(auto)]
 
-ghost use Rattle.std.specs.Prelude.{◌≡◌, true, IfOk};
+ghost use Rattle.std.specs.Prelude.{◌≡◌, IfOk};
 
 use std::alloc::Global;
-use std::process::Abort;
 use tb_layout::{Account, BATCH_MAX, NoMemory, Transfer};
 use tb_work::{Bytes, Job, Outcome, Packet, Refusal, Reply};
 
@@ -24,16 +23,6 @@ macro_rules! check {
             std::process::Abort::panic($rt, $row)
         }
     };
-}
-
-/// Ends the test unless a fact holds, as `check!` does, but names no line. As a call it is cheaper to prove than the branch that `check!`
-/// writes.
-pub fn must(rt: &impl Abort, fact: bool)
-    ensures { fact ≡ true }
-{
-    if !fact {
-        rt.abort()
-    }
 }
 
 /// Returns an account's event in ledger 1 with code 1.
