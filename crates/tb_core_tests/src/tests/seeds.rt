@@ -104,7 +104,7 @@ fn in_engine(rt: &(impl Abort + Alloc<A = Global>)) -> AnyOf {
 }
 
 /// Returns a ledger over an empty store with the seed.
-fn stored(rt: &(impl Abort + Alloc<A = Global>)) -> AnyOf {
+fn over_store(rt: &(impl Abort + Alloc<A = Global>)) -> AnyOf {
     let ledger = DurableLedger::over(rt.alloc(), empty_store(rt), SETTINGS, SEED);
     AnyOf::Stored(ledger.ok().expect(rt, "a sound table"))
 }
@@ -114,7 +114,7 @@ fn opened(rt: &(impl Abort + Alloc<A = Global>), owner: Owner) -> AnyOf {
     match owner {
         Owner::Ledger => AnyOf::Whole(Ledger::with_seed(rt.alloc(), 0, SEED)),
         Owner::Engine => in_engine(rt),
-        Owner::Stored => stored(rt),
+        Owner::Stored => over_store(rt),
     }
 }
 
