@@ -65,7 +65,7 @@ static void look_at_log(void) {
     must(name && *name, "the file needs a name");
     must(stat(name, &found) == 0 && found.st_nlink == 1, "the file has another name, by which its log may be named: remove that hard link");
     must(found.st_size > 0 || stat(sqlite3_filename_wal(name), &log) != 0 || log.st_size == 0,
-         "there is no file, but its log has pages: put the file back, or move the log away");
+         "there is no file, or an empty one, but its log has pages: put the file back, or move the log away");
 }
 
 /* Refuses a file that isn't SQLite's, unless it was being made, and pages with sums of tb_durable, which would be lost here. */

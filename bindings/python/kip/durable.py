@@ -72,7 +72,7 @@ def _refuse_other_files(path):
     if file and (file.st_dev, file.st_ino) in _open_files:
         raise BlockingIOError(f"{path}: another client of this process has it open, or failed with it: close that one, or start again")
     if not (file and file.st_size) and log and log.st_size:
-        raise BadFile(f"{path}: there is no file, but its log has pages: put the file back, or move the log away")
+        raise BadFile(f"{path}: there is no file, or an empty one, but its log has pages: put the file back, or move the log away")
     if file and not os.path.isfile(path) and not os.path.isdir(path):  # (a pipe's `open` would wait for ever, and a folder's says why it fails)
         raise BadFile(f"{path}: it is no plain file: give another")
     if file and file.st_nlink > 1 and os.path.isfile(path):
